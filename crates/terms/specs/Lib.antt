@@ -1,0 +1,4 @@
+-- The words of document 01 that every layer uses.
+pub mod Refusal
+pub mod Width
+pub mod Limits

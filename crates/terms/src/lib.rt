@@ -1,0 +1,79 @@
+// The words of document 01 that every layer uses: its refusals with their numbers,
+// the two widths of a stack word, and the limits, each under a name.
+ghost use mathlib.Core.Path.{_≡_};
+ghost use Prim.Native.Nat.{_≤_};
+ghost use Rattle.terms.specs.Refusal.{numberOf};
+ghost use Rattle.terms.specs.Width.{sizeOf};
+
+// The bytes of the stack.
+pub const STACK_BYTES: usize = 16;
+// The bytes of a stored state: stack, pending, status, service.
+pub const STATE_BYTES: usize = 19;
+// The bytes of a report: the refusal and two counts of four bytes.
+pub const REPORT_BYTES: usize = 9;
+// The most bytes that an input may have.
+pub const MOST_INPUT: usize = 12288;
+// The most bytes that one record pushes or pops.
+pub const MOST_PAYLOAD: usize = 16;
+// The least and the most that a record's length may say.
+pub const LEAST_LENGTH: usize = 2;
+
+pub const MOST_LENGTH: usize = 18;
+
+// Every case of 01's table of refusals, in its order.
+pub enum Refusal {
+    Done,
+    UnknownCode,
+    DerivedCode,
+    HalfWord,
+    Improper,
+    NoSuchKind,
+    CutShort,
+    BadLength,
+    NoRoom,
+    InputTooLong,
+    NotFinite,
+    TooLarge,
+    TooSmall,
+    BadState,
+    BadReport,
+}
+
+// A stack word has 16 bits or 32.
+pub enum Width {
+    Single,
+    Double,
+}
+
+// 01's number of a refusal.
+pub fn number(refusal: Refusal) -> u8
+    ensures { λ r. ⌜ (r ≡ numberOf refusal) × (r ≤ 14) ⌝ }
+{
+    match refusal {
+        Refusal::Done => 0,
+        Refusal::UnknownCode => 1,
+        Refusal::DerivedCode => 2,
+        Refusal::HalfWord => 3,
+        Refusal::Improper => 4,
+        Refusal::NoSuchKind => 5,
+        Refusal::CutShort => 6,
+        Refusal::BadLength => 7,
+        Refusal::NoRoom => 8,
+        Refusal::InputTooLong => 9,
+        Refusal::NotFinite => 10,
+        Refusal::TooLarge => 11,
+        Refusal::TooSmall => 12,
+        Refusal::BadState => 13,
+        Refusal::BadReport => 14,
+    }
+}
+
+// The bytes of a word.
+pub fn size(width: Width) -> usize
+    ensures { λ r. ⌜ (r ≡ sizeOf width) × (r ≤ 4) ⌝ }
+{
+    match width {
+        Width::Single => 2,
+        Width::Double => 4,
+    }
+}

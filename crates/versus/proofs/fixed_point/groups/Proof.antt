@@ -1,0 +1,18 @@
+-- The operations are counted. Assumes nothing.
+use Prim.Native.Nat.{_-_, _≤_}
+use borrow.Author.Needs.{needs}
+use Rattle.versus.proofs.fixed_point.groups.Statement.{statement}
+use Rattle.versus.proofs.fixed_point.groups.Tie as tie
+
+abbrev Inv-loop : tie.InvT-loop
+Inv-loop op₀ t2 t3 op = op ≤ 12
+
+abbrev μ-loop : tie.MeasureT-loop
+μ-loop op₀ t2 t3 op = 12 - op
+
+pub groups-spec : {M : Type 1} → statement M
+groups-spec =
+    tie.close
+    (tie.spec Inv-loop μ-loop (λ c. search needs) (λ c. search needs) (λ c κs. search needs) (λ c κs. search needs)
+    (λ c. search needs) (λ c κs. search needs) (λ c κs. search needs) (λ c. search needs) (λ c. search needs)
+    (λ c. search needs) (λ c. search needs))
