@@ -1,5 +1,5 @@
 -- `fixed::difference_overflows` meets its contract. Assumes nothing.
-use Rattle.fixed.specs.Sums.{diff-least, diff-pp, diff-pn, diff-np, diff-nn}
+use Rattle.fixed.proofs.Sums.{diff-least, diff-pp, diff-pn, diff-np, diff-nn}
 use Rattle.fixed.proofs.difference_overflows.Statement.{statement}
 use Rattle.fixed.proofs.difference_overflows.Tie as tie
 

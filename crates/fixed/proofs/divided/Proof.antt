@@ -1,5 +1,5 @@
 -- `fixed::divided` meets its contract. Assumes nothing.
-use Rattle.fixed.specs.Products.{div-none, div-least, div-all, abs-some}
+use Rattle.fixed.proofs.Products.{div-none, div-least, div-all, abs-some}
 use mathlib.Core.Path.{_∙_}
 use borrow.Author.Needs.{needs}
 use Rattle.fixed.proofs.divided.Statement.{statement}

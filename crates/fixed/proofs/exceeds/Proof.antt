@@ -1,5 +1,5 @@
 -- `fixed::exceeds` meets its contract. Assumes nothing.
-use Rattle.fixed.specs.LowBits.{exceeds-neg, exceeds-pos}
+use Rattle.fixed.proofs.LowBits.{exceeds-neg, exceeds-pos}
 use Rattle.fixed.proofs.exceeds.Statement.{statement}
 use Rattle.fixed.proofs.exceeds.Tie as tie
 

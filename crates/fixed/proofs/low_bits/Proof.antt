@@ -1,7 +1,7 @@
 -- `fixed::low_bits` meets its contract. Assumes nothing.
 use native.Mathlib.Omega.{arith}
 use native.Mathlib.Nat.{lt-of-lt-of-le}
-use Rattle.fixed.specs.LowBits.{rest, low-none, low-pos, low-neg}
+use Rattle.fixed.proofs.LowBits.{rest, low-none, low-pos, low-neg}
 use borrow.Author.Needs.{needs}
 use Rattle.fixed.proofs.low_bits.Statement.{statement}
 use Rattle.fixed.proofs.low_bits.Tie as tie

@@ -1,6 +1,6 @@
 -- `fixed::magnitude` meets its contract. Assumes nothing.
 use mathlib.Core.Path.{sym, _∙_}
-use Rattle.fixed.specs.Products.{abs-neg, abs-pos}
+use Rattle.fixed.proofs.Products.{abs-neg, abs-pos}
 use borrow.Author.Needs.{needs}
 use Rattle.fixed.proofs.magnitude.Statement.{statement}
 use Rattle.fixed.proofs.magnitude.Tie as tie

@@ -1,5 +1,5 @@
 -- `fixed::multiplied` meets its contract. Assumes nothing.
-use Rattle.fixed.specs.Products.{mul-least, mul-all, product-fits}
+use Rattle.fixed.proofs.Products.{mul-least, mul-all, product-fits}
 use mathlib.Core.Path.{_∙_}
 use borrow.Author.Needs.{needs}
 use Rattle.fixed.proofs.multiplied.Statement.{statement}

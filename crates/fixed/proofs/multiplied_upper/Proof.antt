@@ -1,5 +1,5 @@
 -- `fixed::multiplied_upper` meets its contract. Assumes nothing.
-use Rattle.fixed.specs.Products.{muu-least, muu-all, product-fits, product-few}
+use Rattle.fixed.proofs.Products.{muu-least, muu-all, product-fits, product-few}
 use mathlib.Core.Path.{_∙_}
 use borrow.Author.Needs.{needs}
 use Rattle.fixed.proofs.multiplied_upper.Statement.{statement}

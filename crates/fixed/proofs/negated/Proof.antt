@@ -1,5 +1,5 @@
 -- `fixed::negated` meets its contract. Assumes nothing.
-use Rattle.fixed.specs.Products.{chs-all}
+use Rattle.fixed.proofs.Products.{chs-all}
 use borrow.Author.Needs.{needs}
 use Rattle.fixed.proofs.negated.Statement.{statement}
 use Rattle.fixed.proofs.negated.Tie as tie

@@ -1,6 +1,6 @@
 -- `fixed::subtracted` meets its contract. Assumes nothing.
 use borrow.Author.Needs.{needs}
-use Rattle.fixed.specs.Sums.{diff-all}
+use Rattle.fixed.proofs.Sums.{diff-all}
 use Rattle.fixed.proofs.subtracted.Statement.{statement}
 use Rattle.fixed.proofs.subtracted.Tie as tie
 

@@ -1,5 +1,5 @@
 -- `fixed::sum_overflows` meets its contract. Assumes nothing.
-use Rattle.fixed.specs.Sums.{sum-pp, sum-pn, sum-np, sum-nn}
+use Rattle.fixed.proofs.Sums.{sum-pp, sum-pn, sum-np, sum-nn}
 use Rattle.fixed.proofs.sum_overflows.Statement.{statement}
 use Rattle.fixed.proofs.sum_overflows.Tie as tie
 

@@ -1,6 +1,6 @@
 -- `fixed::summed` meets its contract. Assumes nothing.
 use borrow.Author.Needs.{needs}
-use Rattle.fixed.specs.Sums.{sum-all}
+use Rattle.fixed.proofs.Sums.{sum-all}
 use Rattle.fixed.proofs.summed.Statement.{statement}
 use Rattle.fixed.proofs.summed.Tie as tie
 

@@ -2,7 +2,7 @@
 use native.Mathlib.Omega.{arith}
 use native.Mathlib.Nat.{lt-of-lt-of-le, lt-of-le-of-lt, sub-le}
 use Prim.Native.Nat.{_-_}
-use Rattle.fixed.specs.Products.{upper-lt, upper-none, upper-pos, upper-neg}
+use Rattle.fixed.proofs.Products.{upper-lt, upper-none, upper-pos, upper-neg}
 use borrow.Author.Needs.{needs}
 use Rattle.fixed.proofs.upper_bits.Statement.{statement}
 use Rattle.fixed.proofs.upper_bits.Tie as tie

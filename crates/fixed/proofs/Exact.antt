@@ -13,9 +13,9 @@ use borrow.Author.Tests.{lt-ltb, le-ltb, le-leb, lt-leb, eq-eqb, eqb-false, not-
 use Rattle.fixed.specs.declared.Fixed.{Fixed}
 use Rattle.fixed.specs.Parts.{Words, withSign, negativeAt, magnitudeAt}
 use Rattle.fixed.specs.Fixed.{signed, fits, low, overflow, outcome, eitherLeast, addOverflow, subOverflow, mulOverflow, add, sub, mul, muu, div, chs, least, unlessLeast}
-use Rattle.fixed.specs.Differences.{side, plus, neg-pos, turned}
-use Rattle.fixed.specs.LowBits.{low-is, sign, low-lt, kept, parted}
-use Rattle.fixed.specs.Products.{upper-lt, signed-withSign, minus, product, quotient, product-few, abs-some}
+use Rattle.fixed.proofs.Differences.{side, plus, neg-pos, turned}
+use Rattle.fixed.proofs.LowBits.{low-is, sign, low-lt, kept, parted}
+use Rattle.fixed.proofs.Products.{upper-lt, signed-withSign, minus, product, quotient, product-few, abs-some}
 
 no-overflow : (t : Bool) → overflow t ≡ 0 → t ≡ false
 no-overflow false e = refl

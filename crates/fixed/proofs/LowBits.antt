@@ -11,7 +11,7 @@ use lib.Dec.{leb, ltb}
 use borrow.Author.Tests.{lt-ltb, le-ltb, le-leb, lt-leb, ltb-true}
 use Rattle.fixed.specs.Parts.{withSign}
 use Rattle.fixed.specs.Fixed.{signed, fits, low}
-use Rattle.fixed.specs.Differences.{side, sub-lt, sub-ge, plus, neg-pos}
+use Rattle.fixed.proofs.Differences.{side, sub-lt, sub-ge, plus, neg-pos}
 
 -- ---- a difference in the range, and its low bits
 

@@ -12,8 +12,8 @@ use lib.Ieee.{unlike}
 use borrow.Author.Tests.{lt-ltb, le-ltb, le-leb, lt-leb, eq-eqb, ne-eqb, leb-true, leb-false}
 use Rattle.fixed.specs.Parts.{Words, withSign, negativeAt, magnitudeAt}
 use Rattle.fixed.specs.Fixed.{signed, fits, low, overflow, outcome, eitherLeast, mul, muu, div, chs}
-use Rattle.fixed.specs.Differences.{side, same, neg-pos}
-use Rattle.fixed.specs.LowBits.{sign}
+use Rattle.fixed.proofs.Differences.{side, same, neg-pos}
+use Rattle.fixed.proofs.LowBits.{sign}
 
 pub upper-lt : (h m : ℕ) → 0 < h → m < 2 * h * h → m / (2 * h) < h
 upper-lt h m p l = div-lt-iff-lt-mul {k = 2 * h} {x = m} {y = h} (omega arith) .1 (omega arith)

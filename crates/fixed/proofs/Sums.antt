@@ -10,8 +10,8 @@ use lib.Dec.{leb, ltb}
 use borrow.Author.Tests.{lt-ltb, le-ltb, le-leb, lt-leb, eq-eqb, ne-eqb}
 use Rattle.fixed.specs.Parts.{Words}
 use Rattle.fixed.specs.Fixed.{signed, fits, low, addOverflow, subOverflow, overflow, outcome, add, sub}
-use Rattle.fixed.specs.Differences.{side, plus, turned}
-use Rattle.fixed.specs.LowBits.{low-is, sign, signed-is, sign-pos, sign-neg, inside, over-up, over-down}
+use Rattle.fixed.proofs.Differences.{side, plus, turned}
+use Rattle.fixed.proofs.LowBits.{low-is, sign, signed-is, sign-pos, sign-neg, inside, over-up, over-down}
 
 -- ---- the sum
 
