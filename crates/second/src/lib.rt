@@ -4,3 +4,7 @@
 
 // Fixed point: sums by halves, products by shift and add, quotients a bit at a time.
 pub mod fixed;
+// Float words: exact values as binary digits, cut once.
+pub mod float;
+// Whole numbers of 320 binary digits.
+mod digits;

@@ -1,5 +1,7 @@
-// Counts of compared cases and of those that differ, and the lines that are printed.
+// Counts of compared cases and of those that differ, and what is printed.
+use crate::words::Pair;
 use libc::STDOUT_FILENO;
+use second::fixed::Made;
 
 pub struct Tally {
     pub compared: u64,
@@ -13,30 +15,36 @@ pub fn none() -> Tally {
     }
 }
 
-// One case more.
-pub fn seen(t: Tally, same: bool) -> Tally {
-    let one: u64 = if same { 0 } else { 1 };
+// One case more; the first of a group that differs is shown.
+pub fn seen(t: Tally, p: Pair, x: Made, y: Made) -> Tally {
+    let same = x.word == y.word && x.error == y.error && x.carry == y.carry;
+    if !same && t.differ == 0 {
+        text(b"differs:");
+        hex(p.b as u64);
+        hex(p.a as u64);
+        answer(x);
+        answer(y);
+        text(b"\n");
+    }
     Tally {
         compared: std::num::wrapping_add_u64(t.compared, 1),
-        differ: std::num::wrapping_add_u64(t.differ, one),
+        differ: std::num::wrapping_add_u64(t.differ, !same as u64),
     }
 }
 
-pub fn text(s: &[u8]) {
+fn answer(x: Made) {
+    text(b",");
+    hex(x.word as u64);
+    hex(x.error as u64);
+    hex(x.carry as u64);
+}
+
+fn text(s: &[u8]) {
     io::write_all(STDOUT_FILENO, s);
 }
 
-// The word of four letters at a place of a row of such words.
-pub fn word_of(words: &[u8], place: usize) {
-    if place < words.len() / 4 {
-        let at = place * 4;
-        let end = at + 4;
-        text(&words[at..end]);
-    }
-}
-
 // A blank and a number in eight hex digits.
-pub fn hex(n: u64) {
+fn hex(n: u64) {
     text(b" ");
     io::print_hex(STDOUT_FILENO, n, 8);
 }
@@ -46,8 +54,19 @@ fn decimal(n: u64) {
     io::print_decimal(STDOUT_FILENO, n);
 }
 
-// The line of a group, after its name.
-pub fn line(t: Tally) {
+// The word of four letters at a place of a row of such words.
+fn word_of(row: &[u8], place: usize) {
+    if place < row.len() / 4 {
+        let at = place * 4;
+        let end = at + 4;
+        text(&row[at..end]);
+    }
+}
+
+// The line of a group: its operation's name in a row of names, its part, and the counts.
+pub fn line(names: &[u8], op: u32, part: &[u8], t: Tally) {
+    word_of(names, op as usize);
+    text(part);
     decimal(t.compared);
     decimal(t.differ);
     text(b"\n");

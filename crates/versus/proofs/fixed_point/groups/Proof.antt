@@ -5,10 +5,10 @@ use Rattle.versus.proofs.fixed_point.groups.Statement.{statement}
 use Rattle.versus.proofs.fixed_point.groups.Tie as tie
 
 abbrev Inv-loop : tie.InvT-loop
-Inv-loop op₀ t2 t3 op = op ≤ 12
+Inv-loop names op₀ t4 t5 op = op ≤ 12
 
 abbrev μ-loop : tie.MeasureT-loop
-μ-loop op₀ t2 t3 op = 12 - op
+μ-loop names op₀ t4 t5 op = 12 - op
 
 pub groups-spec : {M : Type 1} → statement M
 groups-spec =

@@ -1,0 +1,27 @@
+-- Of the 128 codes without bit 7, 32 are carried, 11 derived and 85 unknown, by one count; and bit 7 changes the service line alone. Assumes nothing.
+use mathlib.Core.Path.{_≡_, refl, ap}
+use mathlib.Core.Bool.{true, false, cond}
+use Prim.Native.Nat.{ℕ, zero, suc, _+_, _%_, _<_}
+use native.Mathlib.Omega.{arith}
+use lib.Dec.{eqb}
+use borrow.Author.Tests.{le-leb, lt-leb}
+use Rattle.terms.specs.Refusal.{numberOf}
+use Rattle.codes.specs.Codes.{sr, kindOf, refusalOf}
+
+-- how many of the codes below n are answered with a refusal's number
+abbrev pub howMany : ℕ → ℕ → ℕ
+howMany number zero = 0
+howMany number (suc n) = cond (eqb (numberOf (refusalOf (kindOf n))) number) 1 0 + howMany number n
+
+-- known (0), derived (2), unknown (1): 32, 11 and 85
+pub counted : (howMany 0 128 ≡ 32) × (howMany 2 128 ≡ 11) × (howMany 1 128 ≡ 85)
+unfolding kindOf
+counted = (refl, refl, refl)
+
+-- a code with bit 7 and without is of one kind
+pub either-way : (code : ℕ) → kindOf ((code + 128) % 128) ≡ kindOf (code % 128)
+either-way code = ap kindOf (omega arith)
+
+-- and its service line is high with bit 7, low without
+pub service-line : (code : ℕ) → code < 128 → (sr (code + 128) ≡ true) × (sr code ≡ false)
+service-line code h = (le-leb 128 (code + 128) (omega arith), lt-leb 128 code h)

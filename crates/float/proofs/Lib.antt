@@ -1,0 +1,21 @@
+-- What is true of float words, and what the proofs of the functions rest on.
+pub mod Powers
+pub mod Pair
+pub mod Jams
+pub mod Differences
+pub mod Signs
+pub mod Proper
+pub mod Sum
+pub mod Sides
+pub mod Quotient
+pub mod Fix
+pub mod Values
+pub mod Order
+pub mod Results
+pub mod SignChange
+pub mod OnePair
+pub mod Steps
+pub mod Kept
+pub mod Conversions
+pub mod Moved
+pub mod Bench

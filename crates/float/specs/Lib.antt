@@ -1,0 +1,9 @@
+-- Float words: what a word says, the cut, the four operations, the conversions.
+pub mod Word
+pub mod Cut
+pub mod Float
+pub mod Convert
+pub mod Order
+pub mod Exact
+pub mod Jam
+pub mod Addend

@@ -1,0 +1,3 @@
+-- Chip words as host floats and back.
+pub mod Host
+pub mod Values

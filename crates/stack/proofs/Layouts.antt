@@ -1,0 +1,110 @@
+-- Every layout of a stack is a stack again, what 01 keeps is kept below R, POP turns the stack by a word and XCH swaps its first two. Assumes nothing.
+use mathlib.Core.Path.{_≡_, refl, sym, ap, ap₂, _∙_}
+use mathlib.Core.List.{List, [], _∷_, _++_, append-assoc}
+use Prim.Native.Nat.{ℕ, zero, suc, _+_, _-_, _≤_, _<_, _^_}
+use native.Mathlib.Omega.{arith}
+use lib.Dec.{lit<}
+use lib.ListN.{length, take, drop, length-append, length-take, length-drop}
+use lib.Seq.{take-at, drop-at}
+use Rattle.stack.specs.Stack.{Bytes, IsStack, bytesOf, zeros, tos, pushed, rotated, popped, overA, overZero, replaced, copied, exchanged, pushedWord, converted, widened, narrowed}
+use Rattle.stack.proofs.Words.{length-bytes, bytes-append, bytes-take, bytes-drop, bytes-of, tos-over}
+
+-- ---- zeros
+length-zeros : (n : ℕ) → length (zeros n) ≡ n
+length-zeros zero = refl
+length-zeros (suc n) = ap suc (length-zeros n)
+
+bytes-zeros : (n : ℕ) → Bytes (zeros n)
+bytes-zeros zero = tt
+bytes-zeros (suc n) = (lit< tt, bytes-zeros n)
+
+pub zeros-stack : IsStack (zeros 16)
+zeros-stack = record { sixteen = refl; bytes = bytes-zeros 16 }
+
+-- ---- every layout is a stack
+module _ (s : List ℕ) (S : IsStack s) where
+  pub pushed-stack : (b : ℕ) → b < 256 → IsStack (pushed s b)
+  pushed-stack b h = let e = S .sixteen in record { sixteen = ap suc (simp length-take (omega arith)); bytes = (h, bytes-take 15 s (S .bytes)) }
+
+  pub rotated-stack : (n : ℕ) → n ≤ 16 → IsStack (rotated n s)
+  rotated-stack n h = let e = S .sixteen in record {
+    sixteen = simp (length-append, length-take, length-drop) (omega arith);
+    bytes = bytes-append (drop n s) (take n s) (bytes-drop n s (S .bytes)) (bytes-take n s (S .bytes));
+  }
+
+  pub exchanged-stack : (n : ℕ) → n + n ≤ 16 → IsStack (exchanged n s)
+  exchanged-stack n h = let e = S .sixteen in record {
+    sixteen = simp (length-append, length-take, length-drop) (omega arith);
+    bytes =
+        bytes-append (take n (drop n s)) (take n s ++ drop (n + n) s) (bytes-take n (drop n s) (bytes-drop n s (S .bytes)))
+        (bytes-append (take n s) (drop (n + n) s) (bytes-take n s (S .bytes)) (bytes-drop (n + n) s (S .bytes)));
+  }
+
+  pub copied-stack : (n : ℕ) → n ≤ 16 → IsStack (copied n s)
+  copied-stack n h = let e = S .sixteen in record {
+    sixteen = simp (length-append, length-take) (omega arith);
+    bytes = bytes-append (take n s) (take (16 - n) s) (bytes-take n s (S .bytes)) (bytes-take (16 - n) s (S .bytes));
+  }
+
+  pub replaced-stack : (n : ℕ) → n ≤ 16 → (r : ℕ) → IsStack (replaced n s r)
+  replaced-stack n h r = let e = S .sixteen in record {
+    sixteen = simp (length-append, length-bytes, length-drop) (omega arith);
+    bytes = bytes-append (bytesOf n r) (drop n s) (bytes-of n r) (bytes-drop n s (S .bytes));
+  }
+
+  pub overA-stack : (n : ℕ) → n + n ≤ 16 → (r : ℕ) → IsStack (overA n s r)
+  overA-stack n h r = let e = S .sixteen in record {
+    sixteen = simp (length-append, length-bytes, length-drop, length-take) (omega arith);
+    bytes =
+        bytes-append (bytesOf n r) (drop (n + n) s ++ take n s) (bytes-of n r)
+        (bytes-append (drop (n + n) s) (take n s) (bytes-drop (n + n) s (S .bytes)) (bytes-take n s (S .bytes)));
+  }
+
+  pub overZero-stack : (n : ℕ) → n + n ≤ 16 → (r : ℕ) → IsStack (overZero n s r)
+  overZero-stack n h r = let e = S .sixteen in record {
+    sixteen = simp (length-append, length-bytes, length-drop, length-zeros) (omega arith);
+    bytes =
+        bytes-append (bytesOf n r) (drop (n + n) s ++ zeros n) (bytes-of n r)
+        (bytes-append (drop (n + n) s) (zeros n) (bytes-drop (n + n) s (S .bytes)) (bytes-zeros n));
+  }
+
+  pub pushedWord-stack : (r : ℕ) → IsStack (pushedWord s r)
+  pushedWord-stack r = let e = S .sixteen in record {
+    sixteen = simp (length-append, length-bytes, length-take) (omega arith);
+    bytes = bytes-append (bytesOf 4 r) (take 12 s) (bytes-of 4 r) (bytes-take 12 s (S .bytes));
+  }
+
+  -- R of m bytes, eight bytes of the stack, and zeros
+  eight : (m k n r : ℕ) → m + 8 + n ≡ 16 → k ≤ 8 → IsStack (bytesOf m r ++ (take 8 (drop k s) ++ zeros n))
+  eight m k n r h l = let e = S .sixteen in record {
+    sixteen = simp (length-append, length-bytes, length-take, length-drop, length-zeros) (omega arith);
+    bytes =
+        bytes-append (bytesOf m r) (take 8 (drop k s) ++ zeros n) (bytes-of m r)
+        (bytes-append (take 8 (drop k s)) (zeros n) (bytes-take 8 (drop k s) (bytes-drop k s (S .bytes))) (bytes-zeros n));
+  }
+
+  pub converted-stack : (r : ℕ) → IsStack (converted s r)
+  converted-stack r = eight 4 4 4 r refl (omega arith)
+
+  pub widened-stack : (r : ℕ) → IsStack (widened s r)
+  widened-stack r = eight 4 2 4 r refl (omega arith)
+
+  pub narrowed-stack : (r : ℕ) → IsStack (narrowed s r)
+  narrowed-stack r = eight 2 4 6 r refl (omega arith)
+
+-- ---- R on top, and what is below it
+pub top-bytes : (n r : ℕ) (t : List ℕ) → take n (bytesOf n r ++ t) ≡ bytesOf n r
+top-bytes n r t = take-at (bytesOf n r) t n (length-bytes n r)
+
+pub below-top : (n r : ℕ) (t : List ℕ) → drop n (bytesOf n r ++ t) ≡ t
+below-top n r t = drop-at (bytesOf n r) t n (length-bytes n r)
+
+-- ---- POP is a rotation by the width, XCH a swap of two blocks
+pub pop-turns : (n : ℕ) (a t : List ℕ) → length a ≡ n → rotated n (a ++ t) ≡ t ++ a
+pop-turns n a t h = ap₂ (λ (x y : List ℕ). x ++ y) (drop-at a t n h) (take-at a t n h)
+
+pub xch-swaps : (n : ℕ) (a b t : List ℕ) → length a ≡ n → length b ≡ n → exchanged n (a ++ (b ++ t)) ≡ b ++ (a ++ t)
+xch-swaps n a b t h g =
+    let both : length (a ++ b) ≡ n + n = simp length-append (omega arith) in
+    let rest : drop (n + n) (a ++ (b ++ t)) ≡ t = rw (← append-assoc a b t) (drop-at (a ++ b) t (n + n) both) in
+    rw (drop-at a (b ++ t) n h, take-at a (b ++ t) n h, take-at b t n g, rest)

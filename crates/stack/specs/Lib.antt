@@ -1,0 +1,2 @@
+-- The stack: its words, and the layouts that events and commands leave.
+pub mod Stack
