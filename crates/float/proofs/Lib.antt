@@ -1,4 +1,4 @@
--- What is true of float words, and what the proofs of the functions rest on.
+-- What is true of float words, and what the proofs of the functions rest on. Assumes nothing.
 pub mod Powers
 pub mod Pair
 pub mod Jams

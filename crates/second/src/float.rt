@@ -4,7 +4,7 @@ ghost use Prim.Native.Nat.{_<_};
 use crate::digits;
 use crate::fixed::Made;
 
-fn made(word: u32, error: u8) -> Made {
+pub fn made(word: u32, error: u8) -> Made {
     Made {
         word,
         error,
@@ -39,7 +39,7 @@ fn exact(w: u32) -> [u8; 320] {
 
 // The word with the first 24 digits of a number of this unit, and the error of its exponent.
 // `high` is the exponent plus 192.
-fn cut(negative: bool, x: [u8; 320], unit: usize) -> Made {
+pub fn cut(negative: bool, x: [u8; 320], unit: usize) -> Made {
     let length = digits::length(x);
     if length == 0 {
         return made(0, 0);
@@ -57,7 +57,7 @@ fn cut(negative: bool, x: [u8; 320], unit: usize) -> Made {
     made(signed(negative, exponent as u32 * 16777216 + m), error)
 }
 
-fn signed(negative: bool, w: u32) -> u32 {
+pub fn signed(negative: bool, w: u32) -> u32 {
     if negative {
         std::num::wrapping_add_u32(w, 2147483648)
     } else {

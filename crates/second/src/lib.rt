@@ -2,9 +2,19 @@
 // by other means than the crates that it is compared with. Every function is proved safe and ending;
 // none promises a result.
 
+// Lent slices, and the state as bytes.
+mod bytes;
+// The single event and the conversions, on slices.
+pub mod calls;
+// The chip: stack, status, service line and commands.
+pub mod chip;
+// Whole numbers of 320 binary digits.
+mod digits;
 // Fixed point: sums by halves, products by shift and add, quotients a bit at a time.
 pub mod fixed;
 // Float words: exact values as binary digits, cut once.
 pub mod float;
-// Whole numbers of 320 binary digits.
-mod digits;
+// Chip words and host floats.
+pub mod host;
+// Files of records.
+pub mod records;

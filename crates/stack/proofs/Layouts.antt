@@ -7,13 +7,9 @@ use lib.Dec.{lit<}
 use lib.ListN.{length, take, drop, length-append, length-take, length-drop}
 use lib.Seq.{take-at, drop-at}
 use Rattle.stack.specs.Stack.{Bytes, IsStack, bytesOf, zeros, tos, pushed, rotated, popped, overA, overZero, replaced, copied, exchanged, pushedWord, converted, widened, narrowed}
-use Rattle.stack.proofs.Words.{length-bytes, bytes-append, bytes-take, bytes-drop, bytes-of, tos-over}
+use Rattle.stack.proofs.Words.{length-bytes, length-zeros, bytes-append, bytes-take, bytes-drop, bytes-of, tos-over}
 
 -- ---- zeros
-length-zeros : (n : ℕ) → length (zeros n) ≡ n
-length-zeros zero = refl
-length-zeros (suc n) = ap suc (length-zeros n)
-
 bytes-zeros : (n : ℕ) → Bytes (zeros n)
 bytes-zeros zero = tt
 bytes-zeros (suc n) = (lit< tt, bytes-zeros n)

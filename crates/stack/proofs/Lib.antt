@@ -1,6 +1,7 @@
 -- The laws of the stack.
 pub mod Elems
-pub mod Spelled
 pub mod Words
+pub mod Blocks
 pub mod Layouts
 pub mod Moves
+pub mod Diagrams

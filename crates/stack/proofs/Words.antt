@@ -8,12 +8,16 @@ use native.Mathlib.Omega.{arith}
 use lib.Dec.{lit<}
 use lib.ListN.{length, take, drop, length-append, length-drop}
 use lib.Seq.{take-at, length-take-le}
-use Rattle.stack.specs.Stack.{numberFrom, bytesOf, Bytes, tos, nos}
+use Rattle.stack.specs.Stack.{numberFrom, bytesOf, zeros, Bytes, tos, nos}
 
 -- ---- bytes
 pub length-bytes : (n r : ℕ) → length (bytesOf n r) ≡ n
 length-bytes zero r = refl
 length-bytes (suc n) r = length-append (bytesOf n (r / 256)) (r % 256 ∷ []) ∙ ap (λ (k : ℕ). k + 1) (length-bytes n (r / 256)) ∙ add-one n
+
+pub length-zeros : (n : ℕ) → length (zeros n) ≡ n
+length-zeros zero = refl
+length-zeros (suc n) = ap suc (length-zeros n)
 
 pub bytes-append : (k l : List ℕ) → Bytes k → Bytes l → Bytes (k ++ l)
 bytes-append [] l p q = q

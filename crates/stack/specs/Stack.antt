@@ -4,7 +4,7 @@ use mathlib.Core.Path.{_≡_}
 use mathlib.Core.List.{List, [], _∷_, _++_}
 use lib.ListN.{length, getD, take, drop, replicate}
 
--- the number that bytes stand for, most significant first, below the number a
+-- the number that bytes stand for, most significant first; a is the number of the bytes before them
 abbrev pub numberFrom : ℕ → List ℕ → ℕ
 numberFrom a [] = a
 numberFrom a (b ∷ l) = numberFrom (a * 256 + b) l

@@ -2,59 +2,12 @@
 // the words A and B in their width, and the layouts that the commands leave.
 use terms::Width;
 ghost use mathlib.Core.Path.{_≡_};
+ghost use mathlib.Core.List.{_++_};
 ghost use Prim.Native.Nat.{_+_, _*_, _^_, _≤_, _<_};
 ghost use lib.ListN.{drop};
 ghost use lib.Seq.{paste};
 ghost use Rattle.terms.specs.Width.{sizeOf};
-ghost use Rattle.stack.specs.Stack.{tos, nos, pushed, popped, rotated, overA, overZero, replaced, copied, exchanged, pushedWord, converted, widened, narrowed};
-
-// Push: the byte becomes the top, the bottom byte is lost.
-pub fn push(s: [u8; 16], b: u8) -> [u8; 16]
-    ensures { λ t. ⌜ t ≡ pushed s b ⌝ }
-{
-    [
-        b,
-        s[0],
-        s[1],
-        s[2],
-        s[3],
-        s[4],
-        s[5],
-        s[6],
-        s[7],
-        s[8],
-        s[9],
-        s[10],
-        s[11],
-        s[12],
-        s[13],
-        s[14],
-    ]
-}
-
-// Pop: the top byte goes to the bottom.
-pub fn pop(s: [u8; 16]) -> [u8; 16]
-    ensures { λ t. ⌜ t ≡ popped s ⌝ }
-{
-    [
-        s[1],
-        s[2],
-        s[3],
-        s[4],
-        s[5],
-        s[6],
-        s[7],
-        s[8],
-        s[9],
-        s[10],
-        s[11],
-        s[12],
-        s[13],
-        s[14],
-        s[15],
-        s[0],
-    ]
-}
+ghost use Rattle.stack.specs.Stack.{zeros, tos, nos, pushed, popped, rotated, overA, overZero, replaced, copied, exchanged, pushedWord, converted, widened, narrowed};
 
 // The number of two bytes, the most significant first.
 fn word_of_2(a: u8, b: u8) -> u32
@@ -125,50 +78,126 @@ pub fn after_chs(s: [u8; 16], width: Width, r: u32) -> [u8; 16]
     }
 }
 
+// Push: the byte becomes the top, the bottom byte is lost.
+pub fn push(s: [u8; 16], b: u8) -> [u8; 16]
+    ensures { λ t. ⌜ t ≡ pushed s b ⌝ }
+{
+    let mut t = block(s, 1, s, 0, 15);
+    t[0] = b;
+    t
+}
+
+// Pop: the top byte goes to the bottom.
+pub fn pop(s: [u8; 16]) -> [u8; 16]
+    ensures { λ t. ⌜ t ≡ popped s ⌝ }
+{
+    [
+        s[1],
+        s[2],
+        s[3],
+        s[4],
+        s[5],
+        s[6],
+        s[7],
+        s[8],
+        s[9],
+        s[10],
+        s[11],
+        s[12],
+        s[13],
+        s[14],
+        s[15],
+        s[0],
+    ]
+}
+
+// The top n bytes moved to the bottom.
+fn turn(s: [u8; 16], n: usize) -> [u8; 16]
+    requires { ⌜ n ≤ 16 ⌝ }
+    ensures { λ t. ⌜ t ≡ rotated n s ⌝ }
+{
+    block(block(s, 0, s, n, 16 - n), 16 - n, s, 0, n)
+}
+
+// The first two words of n bytes the other way round.
+fn swap(s: [u8; 16], n: usize) -> [u8; 16]
+    requires { ⌜ n + n ≤ 16 ⌝ }
+    ensures { λ t. ⌜ t ≡ exchanged n s ⌝ }
+{
+    block(block(s, 0, s, n, n), n, s, 0, n)
+}
+
+// The top n bytes once more on top, the bottom n lost.
+fn copy(s: [u8; 16], n: usize) -> [u8; 16]
+    requires { ⌜ n ≤ 16 ⌝ }
+    ensures { λ t. ⌜ t ≡ copied n s ⌝ }
+{
+    block(s, n, s, 0, 16 - n)
+}
+
+// What stood below two words of n bytes, one word up between zeros.
+fn raise(s: [u8; 16], n: usize) -> [u8; 16]
+    requires { ⌜ n + n ≤ 16 ⌝ }
+    ensures { λ t. ⌜ t ≡ zeros n ++ (drop (n + n) s ++ zeros n) ⌝ }
+{
+    block([0u8; 16], n, s, n + n, 16 - n - n)
+}
+
 // A goes to the bottom: POP.
 pub fn after_pop(s: [u8; 16], width: Width) -> [u8; 16]
     ensures { λ t. ⌜ t ≡ rotated (sizeOf width) s ⌝ }
 {
-    let n = terms::size(width);
-    block(block(s, 0, s, n, 16 - n), 16 - n, s, 0, n)
+    match width {
+        Width::Single => turn(s, 2),
+        Width::Double => turn(s, 4),
+    }
 }
 
 // A and B change places: XCH.
 pub fn after_xch(s: [u8; 16], width: Width) -> [u8; 16]
     ensures { λ t. ⌜ t ≡ exchanged (sizeOf width) s ⌝ }
 {
-    let n = terms::size(width);
-    block(block(s, 0, s, n, n), n, s, 0, n)
+    match width {
+        Width::Single => swap(s, 2),
+        Width::Double => swap(s, 4),
+    }
 }
 
 // A copied on top, the bottom word lost: PTO.
 pub fn after_pto(s: [u8; 16], width: Width) -> [u8; 16]
     ensures { λ t. ⌜ t ≡ copied (sizeOf width) s ⌝ }
 {
-    let n = terms::size(width);
-    block(s, n, s, 0, 16 - n)
+    match width {
+        Width::Single => copy(s, 2),
+        Width::Double => copy(s, 4),
+    }
 }
 
 // R, C.., the bottom holds A: ADD and SUB.
 pub fn after_add(s: [u8; 16], width: Width, r: u32) -> [u8; 16]
     ensures { λ t. ⌜ t ≡ overA (sizeOf width) s r ⌝ }
 {
-    after_chs(after_pop(s, width), width, r)
+    match width {
+        Width::Single => after_chs(turn(s, 2), Width::Single, r),
+        Width::Double => after_chs(turn(s, 4), Width::Double, r),
+    }
 }
 
 // R, C.., the bottom 0: MUL, MUU, DIV and the float operations.
 pub fn after_mul(s: [u8; 16], width: Width, r: u32) -> [u8; 16]
     ensures { λ t. ⌜ t ≡ overZero (sizeOf width) s r ⌝ }
 {
-    let n = terms::size(width);
-    after_chs(block([0u8; 16], n, s, n + n, 16 - n - n), width, r)
+    match width {
+        Width::Single => after_chs(raise(s, 2), Width::Single, r),
+        Width::Double => after_chs(raise(s, 4), Width::Double, r),
+    }
 }
 
 // A 32-bit word pushed, the bottom one lost: PUPI.
 pub fn after_pupi(s: [u8; 16], r: u32) -> [u8; 16]
     ensures { λ t. ⌜ t ≡ pushedWord s r ⌝ }
 {
-    after_chs(block(s, 4, s, 0, 12), Width::Double, r)
+    after_chs(copy(s, 4), Width::Double, r)
 }
 
 // R, B, C, 0: FLTD, FIXD, and FIXS where the result does not fit.

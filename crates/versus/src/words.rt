@@ -76,3 +76,13 @@ pub fn sized(turn: u32, word: u32, size: u32) -> u32 {
         word / (1 + size % 65536)
     }
 }
+
+// A drawn word, a proper one in three of four cases.
+pub fn any(i: u32) -> u32 {
+    let w = drawn(i);
+    if i % 4 == 0 {
+        w
+    } else {
+        float(2147483648 <= w, w)
+    }
+}

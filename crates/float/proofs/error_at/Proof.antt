@@ -1,5 +1,4 @@
--- `float::error_at` meets its contract.
--- Assumes nothing.
+-- `float::error_at` meets its contract: the two tests are those of the definition. Assumes nothing.
 use borrow.Author.Tests.{le-leb, lt-leb, lt-ltb, le-ltb}
 use Rattle.float.specs.Cut.{errorAt}
 use Rattle.float.proofs.error_at.Statement.{statement}

@@ -1,4 +1,4 @@
--- `float::fdiv` meets its contract. Assumes nothing.
+-- `float::fdiv` meets its contract: the quotient to 64 bits stands for the fraction. Assumes nothing.
 use mathlib.Core.Path.{_∙_, ap₂}
 use lib.Ieee.{unlike}
 use Rattle.float.specs.Cut.{Down}

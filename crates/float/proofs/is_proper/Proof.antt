@@ -1,5 +1,4 @@
--- `float::is_proper` meets its contract.
--- Assumes nothing.
+-- `float::is_proper` meets its contract: the two tests are those of the definition. Assumes nothing.
 use Prim.Native.Nat.{_%_}
 use borrow.Author.Tests.{le-leb, lt-leb}
 use Rattle.float.proofs.is_proper.Statement.{statement}

@@ -1,5 +1,4 @@
--- `float::jam` meets its contract.
--- Assumes nothing.
+-- `float::jam` meets its contract: an even quotient with a remainder is made odd by one. Assumes nothing.
 use borrow.Author.Needs.{needs}
 use mathlib.Core.Logic.{inl, inr}
 use Rattle.float.proofs.jam.Statement.{statement}

@@ -1,5 +1,4 @@
--- `float::norm_shift` meets its contract: the leading zeros and the place of the highest set bit make 63.
--- Assumes nothing.
+-- `float::norm_shift` meets its contract: the leading zeros and the place of the highest set bit make 63. Assumes nothing.
 use mathlib.Core.Path.{_≡_, sym, _∙_, subst}
 use Prim.Native.Nat.{ℕ, suc, _+_, _*_, _^_, _≤_, _<_}
 use native.Mathlib.Nat.{le-trans, le-of-eq, suc-inj, add-suc, add-comm, mul-le-mul-right}

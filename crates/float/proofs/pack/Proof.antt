@@ -1,5 +1,4 @@
--- `float::pack` meets its contract: the three fields do not overlap.
--- Assumes nothing.
+-- `float::pack` meets its contract: the three fields do not overlap. Assumes nothing.
 use borrow.Author.Needs.{needs}
 use Rattle.float.specs.Cut.{packed}
 use Rattle.float.proofs.pack.Statement.{statement}

@@ -1,5 +1,4 @@
--- `float::shifted` meets its contract.
--- Assumes nothing.
+-- `float::shifted` meets its contract: from 64 places on nothing is left but the trace. Assumes nothing.
 use borrow.Author.Needs.{needs}
 use mathlib.Core.Path.{sym, subst}
 use Prim.Native.Nat.{ℕ, _<_}

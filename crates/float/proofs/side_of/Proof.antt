@@ -1,5 +1,4 @@
--- `float::side_of` meets its contract.
--- Assumes nothing.
+-- `float::side_of` meets its contract: a zero has the least exponent. Assumes nothing.
 use borrow.Author.Needs.{needs}
 use Rattle.float.proofs.Sides.{sided-zero, sided-of}
 use Rattle.float.proofs.side_of.Statement.{statement}

@@ -1,5 +1,4 @@
--- `float::whole_part` meets its contract.
--- Assumes nothing.
+-- `float::whole_part` meets its contract: a shift up, a shift down, or nothing left. Assumes nothing.
 use borrow.Author.Needs.{needs}
 use Rattle.float.proofs.Fix.{part-up, part-down, part-none}
 use Rattle.float.proofs.whole_part.Statement.{statement}

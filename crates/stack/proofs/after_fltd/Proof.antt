@@ -1,20 +1,17 @@
 -- `stack::after_fltd` meets its contract: R over B and C above zeros. Assumes nothing.
-use mathlib.Core.Path.{_≡_, ap, _∙_}
+use mathlib.Core.Path.{refl, ap, _∙_}
 use Prim.Native.Nat.{ℕ}
 use mathlib.Core.List.{List}
-use lib.ListN.{length}
-use borrow.Author.Needs.{needs}
 use Rattle.stack.specs.Stack.{replaced}
-use Rattle.stack.proofs.Spelled.{fltd-law}
+use Rattle.stack.proofs.Blocks.{eight-law}
+use borrow.Author.Needs.{needs}
 use Rattle.stack.proofs.after_fltd.Statement.{statement}
 use Rattle.stack.proofs.after_fltd.Tie as tie
 
 returns : tie.Need-returns
 returns c =
-    let s = c .before .before .args .s in
-    let r = c .before .before .args .r in
-    let h : length s ≡ 16 = search needs in
-    c .after-chs .ensures ∙ ap (λ (l : List ℕ). replaced 4 l r) (c .before .block .ensures) ∙ fltd-law r s h
+    let a = c .before .before .args in
+    c .after-chs .ensures ∙ ap (λ (l : List ℕ). replaced 4 l (a .r)) (c .before .block .ensures) ∙ eight-law 4 4 4 (a .r) (a .s) refl
 
 pub after-fltd-spec : {M : Type 1} → statement M
 after-fltd-spec = tie.close (tie.spec (λ c κs. search needs) (λ c κs. search needs) returns)

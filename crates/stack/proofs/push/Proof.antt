@@ -1,19 +1,18 @@
--- `stack::push` meets its contract: the 16 elements written out are the byte and the first 15 of the stack. Assumes nothing.
-use mathlib.Core.Path.{_≡_}
-use lib.ListN.{length}
-use native.Mathlib.Omega.{arith}
+-- `stack::push` meets its contract: the first 15 bytes moved down by one, and the byte stored at the top. Assumes nothing.
+use mathlib.Core.Path.{_≡_, ap, _∙_}
+use Prim.Native.Nat.{ℕ}
+use mathlib.Core.List.{List}
+use lib.ListN.{length, set}
 use borrow.Author.Needs.{needs}
-use Rattle.stack.proofs.Elems.{part}
+use Rattle.stack.proofs.Blocks.{push-law}
 use Rattle.stack.proofs.push.Statement.{statement}
 use Rattle.stack.proofs.push.Tie as tie
 
 returns : tie.Need-returns
 returns c =
-    let s = c .args .t1 in
-    let h : length s ≡ 16 = search needs in
-    rw (part s 15 0 (omega arith))
+    let a = c .before .args in
+    let h : length (a .s) ≡ 16 = search needs in
+    ap (λ (l : List ℕ). set l 0 (a .b)) (c .block .ensures) ∙ push-law (a .s) h (a .b)
 
 pub push-spec : {M : Type 1} → statement M
-push-spec =
-    tie.close
-    (tie.spec (λ c. search needs) (λ c. search needs) (λ c. search needs) (λ c. search needs) (λ c. search needs) (λ c. search needs) (λ c. search needs) (λ c. search needs) (λ c. search needs) (λ c. search needs) (λ c. search needs) (λ c. search needs) (λ c. search needs) (λ c. search needs) (λ c. search needs) returns)
+push-spec = tie.close (tie.spec (λ c κs. search needs) (λ c. search needs) returns)

@@ -1,0 +1,61 @@
+-- A refused event hands back the very state, with no byte: every event is answered 0, or by a refusal of the state as it came. Assumes nothing.
+use mathlib.Core.Path.{_≡_, refl}
+use mathlib.Core.Logic.{_⊎_, inl, inr}
+use mathlib.Core.Bool.{Bool, true, false, cond}
+use Prim.Native.Nat.{ℕ, _%_}
+use Rattle.terms.specs.declared.Refusal.{Refusal}
+use Rattle.terms.specs.declared.Refusal.the-variants.{Done, UnknownCode, DerivedCode, HalfWord, Improper, BadState}
+use Rattle.float.specs.Cut.{Rule}
+use Rattle.codes.specs.declared.Command.{Command}
+use Rattle.codes.specs.declared.Kind.{Kind}
+use Rattle.codes.specs.declared.Kind.the-variants.{Known, Derived, Unknown}
+use Rattle.codes.specs.Codes.{sr, kindOf}
+use Rattle.chip.specs.declared.State.{State}
+use Rattle.chip.specs.declared.Answer.{Answer}
+use Rattle.chip.specs.State.{busy}
+use Rattle.chip.specs.Commands.{properOperands}
+use Rattle.chip.specs.Step.{done, refused, unlessBusy, pushOf, popOf, resetOf, acknowledgeOf, readOf, carried, answerOf, commandUnder}
+
+-- an answer to a state: done, or refused with that state
+abbrev pub Keeps : State → Answer → Type 0
+Keeps s a = (a .refusal ≡ Done) ⊎ (a ≡ refused (a .refusal) s)
+
+keeps-cond : (s : State) (t : Bool) (x y : Answer) → Keeps s x → Keeps s y → Keeps s (cond t x y)
+keeps-cond s true x y p q = p
+keeps-cond s false x y p q = q
+
+unless-busy : (s : State) (x : Answer) → Keeps s x → Keeps s (unlessBusy s x)
+unless-busy s x p = keeps-cond s (busy s) (refused BadState s) x (inr refl) p
+
+pub push-keeps : (s : State) (b : ℕ) → Keeps s (pushOf s b)
+unfolding pushOf
+push-keeps s b = unless-busy s _ (inl refl)
+
+pub pop-keeps : (s : State) → Keeps s (popOf s)
+unfolding popOf
+pop-keeps s = unless-busy s _ (inl refl)
+
+pub reset-keeps : (s : State) → Keeps s (resetOf s)
+unfolding resetOf
+reset-keeps s = unless-busy s _ (inl refl)
+
+pub acknowledge-keeps : (s : State) → Keeps s (acknowledgeOf s)
+unfolding acknowledgeOf
+acknowledge-keeps s = unless-busy s _ (inl refl)
+
+pub read-keeps : (s : State) → Keeps s (readOf s)
+unfolding readOf
+read-keeps s = unless-busy s _ (inl refl)
+
+carried-keeps : (rule : Rule) (s : State) (service : Bool) (k : Command) → Keeps s (carried rule s service k)
+unfolding carried
+carried-keeps rule s service k = keeps-cond s (s .pending) _ _ (inr refl) (keeps-cond s (properOperands k (s .stack)) _ _ (inl refl) (inr refl))
+
+answer-keeps : (rule : Rule) (s : State) (service : Bool) (k : Kind) → Keeps s (answerOf rule s service k)
+answer-keeps rule s service (Known command) = carried-keeps rule s service command
+answer-keeps rule s service Derived = inr refl
+answer-keeps rule s service Unknown = inr refl
+
+pub command-keeps : (rule : Rule) (s : State) (code : ℕ) → Keeps s (commandUnder rule s code)
+unfolding commandUnder
+command-keeps rule s code = unless-busy s _ (answer-keeps rule s (sr code) (kindOf (code % 128)))

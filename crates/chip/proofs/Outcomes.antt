@@ -1,0 +1,210 @@
+-- What every command leaves: a stack of 16 bytes, a status below 128 whose error field is the command's error, and the bytes of R on top. Assumes nothing.
+use mathlib.Core.Path.{_≡_, refl, sym, ap, subst, _∙_}
+use mathlib.Core.Bool.{Bool, true, false, cond}
+use mathlib.Core.List.{List, _++_, append-assoc}
+use Prim.Native.Nat.{ℕ, _+_, _-_, _*_, _/_, _%_, _^_, _≤_, _<_}
+use native.Mathlib.Omega.{arith}
+use lib.Dec.{lit<, lit≤, eqb}
+use lib.ListN.{length, take, drop, length-drop, length-take, length-append}
+use lib.Seq.{take-at, take-append-le, length-take-le}
+use Rattle.terms.specs.declared.Width.{Width}
+use Rattle.terms.specs.declared.Width.the-variants.{Single, Double}
+use Rattle.terms.specs.Width.{sizeOf}
+use Rattle.fixed.specs.declared.Fixed.{Fixed}
+use Rattle.fixed.specs.Fixed.{add, sub, mul, muu, div, chs}
+use Rattle.float.specs.declared.Rounded.{Rounded}
+use Rattle.float.specs.Word.{proper, FloatWord}
+use Rattle.float.specs.Cut.{Rule}
+use Rattle.float.specs.Convert.{flts, fltd, fix, fixs, fixd, chsf}
+use Rattle.float.proofs.Results.{fltd-result, flts-result}
+use Rattle.stack.specs.Stack.{IsStack, bytesOf, zeros, nos, rotated, overA, overZero, replaced, copied, exchanged, pushedWord, converted, widened, narrowed, handedOut}
+use Rattle.stack.proofs.Words.{tos-lt, nos-lt, length-bytes}
+use Rattle.stack.proofs.Layouts.{overA-stack, overZero-stack, replaced-stack, rotated-stack, exchanged-stack, copied-stack, pushedWord-stack, converted-stack, widened-stack, narrowed-stack}
+use Rattle.stack.proofs.Moves.{pops-hand, pops-read}
+use Rattle.codes.specs.declared.FloatOp.{FloatOp}
+use Rattle.codes.specs.declared.Command.{Command}
+use Rattle.codes.specs.declared.Command.the-variants.{Nop, Add, Sub, Mul, Muu, Div, Chs, Float, Chsf, Flt, Fix, Pto, Pop, Xch, Pupi}
+use Rattle.chip.specs.declared.Outcome.{Outcome}
+use Rattle.chip.specs.declared.words.FixedOp.{FixedOp}
+use Rattle.chip.specs.declared.words.FixedOp.the-variants.{Add as XAdd, Sub as XSub, Mul as XMul, Muu as XMuu, Div as XDiv}
+use Rattle.chip.specs.Status.{sign, zeroBits, statusOf, errorOf}
+use Rattle.chip.specs.Commands.{wordA, wordB, halfOf, ends, keepsA, losesA, changesA, floats, converts, widens, narrows, fixedOf, floatOf, outcomeOf, properOperands}
+use Rattle.chip.specs.Turns.{resultBytes}
+use Rattle.chip.proofs.Errors.{fixed-error, change-error, float-result, fix-error}
+use Rattle.chip.proofs.Rows.{both-of}
+
+-- ---- the status
+module _ (w : Width) (t : List ℕ) (e : ℕ) (c : Bool) (h : e < 16) where
+  pub status-lt : statusOf w t e c < 128
+  unfolding statusOf
+  status-lt = go (sign w t) (zeroBits w t) c
+    where
+      go : (x y z : Bool) → cond x 64 0 + cond y 32 0 + e * 2 + cond z 1 0 < 128
+      go true true true = omega arith
+      go true true false = omega arith
+      go true false true = omega arith
+      go true false false = omega arith
+      go false true true = omega arith
+      go false true false = omega arith
+      go false false true = omega arith
+      go false false false = omega arith
+
+  pub status-error : errorOf (statusOf w t e c) ≡ e
+  unfolding statusOf
+  status-error = go (sign w t) (zeroBits w t) c
+    where
+      go : (x y z : Bool) → (cond x 64 0 + cond y 32 0 + e * 2 + cond z 1 0) / 2 % 16 ≡ e
+      go true true true = omega arith
+      go true true false = omega arith
+      go true false true = omega arith
+      go true false false = omega arith
+      go false true true = omega arith
+      go false true false = omega arith
+      go false false true = omega arith
+      go false false false = omega arith
+
+-- ---- a stack again, and a status that is not busy
+pub record Fair (o : Outcome) : Type 0 where
+  pub stack : IsStack (o .stack)
+  pub not-busy : o .status < 128
+
+fair : (w : Width) (t : List ℕ) (e : ℕ) (c : Bool) → IsStack t → e < 16 → Fair (ends w t e c)
+fair w t e c S h = record { stack = S; not-busy = status-lt w t e c h }
+
+-- two words of either width are part of a stack
+two : (w : Width) → sizeOf w + sizeOf w ≤ 16
+two Single = lit≤ tt
+two Double = lit≤ tt
+
+one : (w : Width) → sizeOf w ≤ 16
+one Single = lit≤ tt
+one Double = lit≤ tt
+
+module _ (s : List ℕ) (S : IsStack s) where
+  keeps-fair : (w : Width) (r : Fixed) → r .error < 16 → Fair (keepsA w s r)
+  unfolding keepsA
+  keeps-fair w r h = fair w (overA (sizeOf w) s (r .word)) (r .error) (r .carry) (overA-stack s S (sizeOf w) (two w) (r .word)) h
+
+  loses-fair : (w : Width) (r : Fixed) → r .error < 16 → Fair (losesA w s r)
+  unfolding losesA
+  loses-fair w r h = fair w (overZero (sizeOf w) s (r .word)) (r .error) false (overZero-stack s S (sizeOf w) (two w) (r .word)) h
+
+  changes-fair : (w : Width) (r : Fixed) → r .error < 16 → Fair (changesA w s r)
+  unfolding changesA
+  changes-fair w r h = fair w (replaced (sizeOf w) s (r .word)) (r .error) false (replaced-stack s S (sizeOf w) (one w) (r .word)) h
+
+  floats-fair : (r : Rounded) → r .error < 16 → Fair (floats s r)
+  unfolding floats
+  floats-fair r h = fair Double (overZero 4 s (r .word)) (r .error) false (overZero-stack s S 4 (two Double) (r .word)) h
+
+  converts-fair : (r : Rounded) → r .error < 16 → Fair (converts s r)
+  unfolding converts
+  converts-fair r h = fair Double (converted s (r .word)) (r .error) false (converted-stack s S (r .word)) h
+
+  widens-fair : (r : Rounded) → r .error < 16 → Fair (widens s r)
+  unfolding widens
+  widens-fair r h = fair Double (widened s (r .word)) (r .error) false (widened-stack s S (r .word)) h
+
+  narrows-fair : (r : Rounded) → r .error < 16 → Fair (narrows s r)
+  unfolding narrows
+  narrows-fair r h = go (eqb (r .error) 0)
+    where
+      go : (x : Bool) → Fair (cond x (ends Single (narrowed s (r .word)) 0 false) (ends Double (converted s (r .word)) (r .error) false))
+      go true = fair Single (narrowed s (r .word)) 0 false (narrowed-stack s S (r .word)) (lit< tt)
+      go false = fair Double (converted s (r .word)) (r .error) false (converted-stack s S (r .word)) h
+
+  -- the words A and B fit their width
+  b-fits : nos 4 s < 4294967296
+  b-fits = let e = S .sixteen in nos-lt 4 s (S .bytes) (omega arith)
+
+  pub outcome-fair : (rule : Rule) (k : Command) → properOperands k s ≡ true → Fair (outcomeOf rule k s)
+  outcome-fair rule Nop p = record { stack = S; not-busy = lit< tt }
+  outcome-fair rule (Add w) p = keeps-fair w (fixedOf XAdd (halfOf w) (wordB w s) (wordA w s)) (fixed-error XAdd (halfOf w) (wordB w s) (wordA w s))
+  outcome-fair rule (Sub w) p = keeps-fair w (fixedOf XSub (halfOf w) (wordB w s) (wordA w s)) (fixed-error XSub (halfOf w) (wordB w s) (wordA w s))
+  outcome-fair rule (Mul w) p = loses-fair w (fixedOf XMul (halfOf w) (wordB w s) (wordA w s)) (fixed-error XMul (halfOf w) (wordB w s) (wordA w s))
+  outcome-fair rule (Muu w) p = loses-fair w (fixedOf XMuu (halfOf w) (wordB w s) (wordA w s)) (fixed-error XMuu (halfOf w) (wordB w s) (wordA w s))
+  outcome-fair rule (Div w) p = loses-fair w (fixedOf XDiv (halfOf w) (wordB w s) (wordA w s)) (fixed-error XDiv (halfOf w) (wordB w s) (wordA w s))
+  outcome-fair rule (Chs w) p = changes-fair w (chs (halfOf w) (wordA w s)) (change-error (halfOf w) (wordA w s))
+  outcome-fair rule (Float op) p =
+      floats-fair (floatOf rule op (wordB Double s) (wordA Double s))
+      (float-result rule op (wordB Double s) (wordA Double s) (record { fits = b-fits; is-proper = both-of (proper (wordB Double s)) (proper (wordA Double s)) p .0 }) .small)
+  outcome-fair rule Chsf p = fair Double (replaced 4 s (chsf (wordA Double s))) 0 false (replaced-stack s S 4 (one Double) (chsf (wordA Double s))) (lit< tt)
+  outcome-fair rule (Flt Double) p = converts-fair (fltd rule (wordA Double s)) (fltd-result rule (wordA Double s) .small)
+  outcome-fair rule (Flt Single) p = widens-fair (flts rule (wordA Single s)) (flts-result rule (wordA Single s) .small)
+  outcome-fair rule (Fix Double) p = converts-fair (fixd (wordA Double s)) (fix-error (2 ^ 31) (wordA Double s))
+  outcome-fair rule (Fix Single) p = narrows-fair (fixs (wordA Double s)) (fix-error (2 ^ 15) (wordA Double s))
+  outcome-fair rule (Pto w) p = fair w (copied (sizeOf w) s) 0 false (copied-stack s S (sizeOf w) (one w)) (lit< tt)
+  outcome-fair rule (Pop w) p = fair w (rotated (sizeOf w) s) 0 false (rotated-stack s S (sizeOf w) (one w)) (lit< tt)
+  outcome-fair rule (Xch w) p = fair w (exchanged (sizeOf w) s) 0 false (exchanged-stack s S (sizeOf w) (two w)) (lit< tt)
+  outcome-fair rule Pupi p = fair Double (pushedWord s 0x02c90fda) 0 false (pushedWord-stack s S 0x02c90fda) (lit< tt)
+
+-- ---- R on top
+-- what is on top of a list is what as many pops hand out
+on-top : (n : ℕ) (x t : List ℕ) → length x ≡ n → handedOut n (x ++ t) ≡ x
+on-top n x t h =
+    let m : n ≤ length (x ++ t) = simp length-append (omega arith) in
+    pops-hand n (x ++ t) m ∙ take-at x t n h
+
+module _ (s : List ℕ) (S : IsStack s) where
+  keeps-hand : (w : Width) (r : Fixed) → handedOut (sizeOf w) ((keepsA w s r) .stack) ≡ bytesOf (sizeOf w) (r .word)
+  unfolding keepsA
+  keeps-hand w r = pops-read (sizeOf w) (r .word) (drop (sizeOf w + sizeOf w) s ++ take (sizeOf w) s)
+
+  loses-hand : (w : Width) (r : Fixed) → handedOut (sizeOf w) ((losesA w s r) .stack) ≡ bytesOf (sizeOf w) (r .word)
+  unfolding losesA
+  loses-hand w r = pops-read (sizeOf w) (r .word) (drop (sizeOf w + sizeOf w) s ++ zeros (sizeOf w))
+
+  changes-hand : (w : Width) (r : Fixed) → handedOut (sizeOf w) ((changesA w s r) .stack) ≡ bytesOf (sizeOf w) (r .word)
+  unfolding changesA
+  changes-hand w r = pops-read (sizeOf w) (r .word) (drop (sizeOf w) s)
+
+  floats-hand : (r : Rounded) → handedOut 4 ((floats s r) .stack) ≡ bytesOf 4 (r .word)
+  unfolding floats
+  floats-hand r = pops-read 4 (r .word) (drop 8 s ++ zeros 4)
+
+  converts-hand : (r : Rounded) → handedOut 4 ((converts s r) .stack) ≡ bytesOf 4 (r .word)
+  unfolding converts
+  converts-hand r = pops-read 4 (r .word) (take 8 (drop 4 s) ++ zeros 4)
+
+  widens-hand : (r : Rounded) → handedOut 4 ((widens s r) .stack) ≡ bytesOf 4 (r .word)
+  unfolding widens
+  widens-hand r = pops-read 4 (r .word) (take 8 (drop 2 s) ++ zeros 4)
+
+  narrows-hand : (r : Rounded) → handedOut (cond (eqb (r .error) 0) 2 4) ((narrows s r) .stack) ≡ bytesOf (cond (eqb (r .error) 0) 2 4) (r .word)
+  unfolding narrows
+  narrows-hand r = go (eqb (r .error) 0)
+    where
+      go : (x : Bool) → handedOut (cond x 2 4) ((cond {A = Outcome} x (ends Single (narrowed s (r .word)) 0 false) (ends Double (converted s (r .word)) (r .error) false)) .stack) ≡ bytesOf (cond x 2 4) (r .word)
+      go true = pops-read 2 (r .word) (take 8 (drop 4 s) ++ zeros 6)
+      go false = pops-read 4 (r .word) (take 8 (drop 4 s) ++ zeros 4)
+
+  -- B has its bytes, and A its own
+  b-bytes : (w : Width) → length (take (sizeOf w) (drop (sizeOf w) s)) ≡ sizeOf w
+  b-bytes w = let e = S .sixteen in let h = two w in length-take-le (sizeOf w) (drop (sizeOf w) s) (simp length-drop (omega arith))
+
+  a-bytes : (w : Width) → length (take (sizeOf w) s) ≡ sizeOf w
+  a-bytes w = let e = S .sixteen in let h = one w in length-take-le (sizeOf w) s (omega arith)
+
+  pub outcome-hands : (rule : Rule) (k : Command) → handedOut (length (resultBytes rule k s)) ((outcomeOf rule k s) .stack) ≡ resultBytes rule k s
+  outcome-hands rule Nop = refl
+  outcome-hands rule (Add w) = rw (length-bytes (sizeOf w)) (keeps-hand w (fixedOf XAdd (halfOf w) (wordB w s) (wordA w s)))
+  outcome-hands rule (Sub w) = rw (length-bytes (sizeOf w)) (keeps-hand w (fixedOf XSub (halfOf w) (wordB w s) (wordA w s)))
+  outcome-hands rule (Mul w) = rw (length-bytes (sizeOf w)) (loses-hand w (fixedOf XMul (halfOf w) (wordB w s) (wordA w s)))
+  outcome-hands rule (Muu w) = rw (length-bytes (sizeOf w)) (loses-hand w (fixedOf XMuu (halfOf w) (wordB w s) (wordA w s)))
+  outcome-hands rule (Div w) = rw (length-bytes (sizeOf w)) (loses-hand w (fixedOf XDiv (halfOf w) (wordB w s) (wordA w s)))
+  outcome-hands rule (Chs w) = rw (length-bytes (sizeOf w)) (changes-hand w (chs (halfOf w) (wordA w s)))
+  outcome-hands rule (Float op) = floats-hand (floatOf rule op (wordB Double s) (wordA Double s))
+  outcome-hands rule Chsf = pops-read 4 (chsf (wordA Double s)) (drop 4 s)
+  outcome-hands rule (Flt Double) = converts-hand (fltd rule (wordA Double s))
+  outcome-hands rule (Flt Single) = widens-hand (flts rule (wordA Single s))
+  outcome-hands rule (Fix Double) = converts-hand (fixd (wordA Double s))
+  outcome-hands rule (Fix Single) = rw (length-bytes (cond (eqb ((fixs (wordA Double s)) .error) 0) 2 4)) (narrows-hand (fixs (wordA Double s)))
+  outcome-hands rule (Pto w) = rw (a-bytes w) (on-top (sizeOf w) (take (sizeOf w) s) (take (16 - sizeOf w) s) (a-bytes w))
+  outcome-hands rule (Pop w) =
+      let e = S .sixteen in
+      let h = two w in
+      let l : sizeOf w ≤ length (drop (sizeOf w) s) = simp length-drop (omega arith) in
+      let m : sizeOf w ≤ length (rotated (sizeOf w) s) = simp (length-append, length-drop, length-take) (omega arith) in
+      rw (b-bytes w) (pops-hand (sizeOf w) (rotated (sizeOf w) s) m ∙ take-append-le (sizeOf w) (drop (sizeOf w) s) (take (sizeOf w) s) l)
+  outcome-hands rule (Xch w) = rw (b-bytes w) (on-top (sizeOf w) (take (sizeOf w) (drop (sizeOf w) s)) (take (sizeOf w) s ++ drop (sizeOf w + sizeOf w) s) (b-bytes w))
+  outcome-hands rule Pupi = pops-read 4 0x02c90fda (take 12 s)

@@ -1,0 +1,21 @@
+-- `chip::commands::float_single` meets its contract: the row of FLTS. Assumes nothing.
+use mathlib.Core.Path.{sym, subst}
+use Prim.Native.Nat.{_<_}
+use Rattle.float.specs.declared.Rounded.{Rounded}
+use Rattle.chip.specs.Commands.{baseRule}
+use Rattle.float.proofs.Results.{flts-result}
+use Rattle.chip.proofs.Rows.{flts-row}
+use borrow.Author.Needs.{needs}
+use Rattle.chip.proofs.commands.float_single.Statement.{statement}
+use Rattle.chip.proofs.commands.float_single.Tie as tie
+
+ended-requires : tie.Need-ended-requires
+ended-requires c κs = subst (λ (r : Rounded). r .error < 16) (sym (c .before .flts .ensures)) (flts-result baseRule _ .small)
+
+returns : tie.Need-returns
+returns c = flts-row (c .before .before .before .before .args .s) (c .before .before .before .top-word .ensures .0) (c .before .before .flts .ensures) (c .before .after-flts .ensures) (c .ended .ensures)
+
+pub float-single-spec : {M : Type 1} → statement M
+float-single-spec =
+    tie.close
+    (tie.spec (λ c κs. search needs) (λ c. search needs) (λ c κs. search needs) (λ c κs. search needs) ended-requires returns)

@@ -1,0 +1,21 @@
+-- `chip::commands::lose_a` meets its contract: the row of MUL, MUU and DIV. Assumes nothing.
+use Rattle.chip.proofs.Rows.{lose-row}
+use borrow.Author.Needs.{needs}
+use Rattle.chip.proofs.commands.lose_a.Statement.{statement}
+use Rattle.chip.proofs.commands.lose_a.Tie as tie
+
+returns : tie.Need-returns
+returns c =
+    let a = c .before .before .before .before .before .args in
+    lose-row (a .op) (a .width) (a .s) (c .before .before .before .before .next-word .ensures .0) (c .before .before .before .top-word .ensures .0) (c .before .before .fixed-result .ensures .0) (c .before .after-mul .ensures) (c .ended .ensures)
+
+pub lose-a-spec : {M : Type 1} → statement M
+lose-a-spec =
+    tie.close
+    (tie.spec
+    (λ c κs. search needs)
+    (λ c κs. search needs)
+    (λ c κs. search needs)
+    (λ c κs. search needs)
+    (λ c κs. search needs)
+    returns)

@@ -1,0 +1,6 @@
+-- The chip by value: its state, its status, what each command leaves, and what each event answers.
+pub mod State
+pub mod Status
+pub mod Commands
+pub mod Step
+pub mod Turns

@@ -1,0 +1,55 @@
+-- Text added at a place and then more text at the new place is both texts added at the first. Assumes nothing.
+use mathlib.Core.Path.{_≡_, refl, sym, ap, subst, _∙_}
+use mathlib.Core.List.{List, [], _∷_, _++_, append-assoc, append-nil}
+use mathlib.Core.Bool.{Bool, true, false}
+use Prim.Native.Nat.{ℕ, _+_, _/_, _%_, _≤_, min}
+use native.Mathlib.Omega.{arith}
+use native.Mathlib.Nat.{add-zero, zero-add}
+use lib.ListN.{length, take, length-append, length-take}
+use lib.Seq.{paste, take-paste, take-length, take-all}
+use lib.Dec.{leb}
+use borrow.Author.Tests.{leb-true, leb-false}
+use Rattle.io.specs.Counts.{Counts}
+use Rattle.listing.specs.Text.{digit, hex, Adds}
+
+-- no text leaves the place
+pub nothing : (l : List ℕ) (place : ℕ) → Adds [] l l place place
+nothing l place = record { moved = sym (add-zero place); reads = sym (append-nil (take place l)) }
+
+-- one text after the other
+pub both : {x y a b c : List ℕ} {p q r : ℕ} → Adds x a b p q → Adds y b c q r → Adds (x ++ y) a c p r
+both {x} {y} {a} {b} {c} {p} {q} {r} h k = record {
+  moved = omega (arith, h .moved, k .moved, length-append x y);
+  reads = k .reads ∙ ap (λ (l : List ℕ). l ++ y) (h .reads) ∙ append-assoc (take p a) x y;
+}
+
+-- a copy adds what is copied
+pub copied : (t l : List ℕ) (place : ℕ) → place + length t ≤ length l → Adds t l (paste l place t (length t)) place (place + length t)
+copied t l place h = record {
+  moved = refl;
+  reads = take-paste l place t (length t) (omega arith) (omega arith) ∙ ap (λ (s : List ℕ). take place l ++ s) (take-length t);
+}
+
+-- a blank and two digits are a blank and a byte in hex
+pub hexed : (b x y : ℕ) {before after : List ℕ} {place new : ℕ} → x ≡ digit (b / 16) → y ≡ digit (b % 16)
+    → Adds (32 ∷ x ∷ y ∷ []) before after place new → Adds (32 ∷ hex b) before after place new
+hexed b x y {before} {after} {place} {new} e f h =
+    subst (λ (u : ℕ). Adds (32 ∷ u ∷ digit (b % 16) ∷ []) before after place new) e
+    (subst (λ (v : ℕ). Adds (32 ∷ x ∷ v ∷ []) before after place new) f h)
+
+-- text added at the front counts bytes there
+pub counted : {text before after : List ℕ} {new : ℕ} → Adds text before after 0 new → Counts new after
+counted {text} {before} {after} {new} h =
+    let e : length (take new after) ≡ new = ap length (h .reads) ∙ sym (h .moved ∙ zero-add (length text)) in
+    (omega (arith, e, length-take new after), sym e)
+
+-- as many as there are, where more are asked for
+pub take-least : (l : List ℕ) (n most : ℕ) → length l ≡ most → take (min n most) l ≡ take n l
+take-least l n most h = pick (leb n most) refl
+  where
+    pick : (t : Bool) → leb n most ≡ t → take (min n most) l ≡ take n l
+    pick true e = let k = leb-true n most e in let m : min n most ≡ n = omega arith in rw m
+    pick false e =
+        let k = leb-false n most e in
+        let m : min n most ≡ most = omega arith in
+        rw m (take-all most l (omega arith) ∙ sym (take-all n l (omega arith)))

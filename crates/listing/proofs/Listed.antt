@@ -1,0 +1,176 @@
+-- The lines of the replies come one reply at a time, and each line has room: four characters for each byte of its reply. Assumes nothing.
+use mathlib.Core.Path.{_≡_, refl, sym, ap, _∙_}
+use mathlib.Core.List.{List, [], _∷_, _++_, append-assoc, append-nil}
+use mathlib.Core.Bool.{Bool, true, false, cond}
+use Prim.Native.Nat.{ℕ, zero, suc, _+_, _*_, _-_, _/_, _%_, _≤_, _<_, min}
+use native.Mathlib.Omega.{arith}
+use native.Mathlib.Nat.{not-suc-le-zero, div-add-mod'}
+use lib.ListN.{length, take, drop, getD, length-append, length-take, length-drop, drop-of-length-le}
+use lib.Seq.{length-take-le, drop-drop, take-all, getD-drop, take-append-seam, drop-append-seam}
+use Rattle.listing.specs.Text.{Adds}
+use Rattle.listing.specs.Listing.{lineOf, replyBytes, replyKind, replyRefusal, replyData, replySize, replyLine, wordAt, whole, wholeSize, Front, linesUpTo, linesOf, listingOf, countAt, printedOf}
+use Rattle.listing.proofs.Adding.{take-least}
+use Rattle.listing.proofs.Decimal.{short}
+use Rattle.listing.proofs.Lines.{line-length, data-length}
+use Rattle.listing.proofs.Replies.{front, found, is-whole}
+
+-- what follows matters only where a whole reply stands at the front
+same-rest : (l line a b : List ℕ) → (whole l ≡ true → a ≡ b) → cond (whole l) (line ++ a) [] ≡ cond (whole l) (line ++ b) []
+same-rest l line a b h = pick (whole l) refl
+  where
+    pick : (t : Bool) → whole l ≡ t → cond t (line ++ a) [] ≡ cond t (line ++ b) []
+    pick true e = ap (λ (x : List ℕ). line ++ x) (h e)
+    pick false e = refl
+
+-- more turns than bytes make no difference
+enough : (f g number : ℕ) (l : List ℕ) → length l ≤ f → length l ≤ g → linesUpTo f number l ≡ linesUpTo g number l
+unfolding linesUpTo
+enough zero zero number l a b = refl
+enough zero (suc g) number [] a b = unfold whole in refl
+enough zero (suc g) number (x ∷ l) a b = absurd (not-suc-le-zero a)
+enough (suc f) zero number [] a b = unfold whole in refl
+enough (suc f) zero number (x ∷ l) a b = absurd (not-suc-le-zero b)
+enough (suc f) (suc g) number l a b =
+    same-rest l (replyLine number l) (linesUpTo f (number + 1) (drop (replySize l) l)) (linesUpTo g (number + 1) (drop (replySize l) l)) (λ e.
+    let w = front l e in
+    let d = length-drop (replySize l) l in
+    enough f g (number + 1) (drop (replySize l) l) (omega arith) (omega arith))
+
+-- no whole reply, no line
+pub no-more : (number : ℕ) (l : List ℕ) → whole l ≡ false → linesOf number l ≡ []
+unfolding linesUpTo
+no-more number [] e = refl
+no-more number (x ∷ l) e = rw e
+
+-- the first line, and the lines of what follows it
+pub one-more : (number : ℕ) (l : List ℕ) → whole l ≡ true → linesOf number l ≡ replyLine number l ++ linesOf (number + 1) (drop (replySize l) l)
+unfolding linesUpTo
+one-more number [] e = unfold whole in (let z : _≡_ {A = ℕ} 0 1 = cc in absurd (omega arith))
+one-more number (x ∷ l) e =
+    let r = drop (replySize (x ∷ l)) (x ∷ l) in
+    let w = front (x ∷ l) e in
+    let d = length-drop (replySize (x ∷ l)) (x ∷ l) in
+    rw (e, enough (length l) (length r) (number + 1) r (omega arith) (omega arith))
+
+-- a line has at most four characters for each byte of its reply
+pub line-short : (number : ℕ) (l : List ℕ) (size : ℕ) → Front l size → number < 100000 → getD l 2 0 < 256 → getD l 3 0 < 256 → getD l 4 0 < 256
+    → length (replyLine number l) ≤ 4 * size
+line-short number l size f n a b c =
+    omega (
+      arith,
+      f .is-size,
+      f .least,
+      line-length number (replyKind l) (replyRefusal l) (replyData l),
+      short 20 5 number (omega arith) (omega arith),
+      short 20 5 (replyKind l) (omega arith) (omega arith),
+      short 20 3 (replyRefusal l) (omega arith) (omega arith),
+      data-length (replyData l),
+      length-take (replySize l - 5) (drop 5 l),
+    )
+
+-- the same of the reply that stands after the bytes passed
+pub next-short : (replies : List ℕ) (number at size : ℕ) → ((i : ℕ) → getD replies i 0 < 256) → length replies ≤ 65536 → at ≤ length replies
+    → 5 * number ≤ at + 5 → Front (drop at replies) size → length (replyLine number (drop at replies)) ≤ 4 * size
+next-short replies number at size bytes few in-it h f =
+    line-short number (drop at replies) size f (omega arith) (byte 2) (byte 3) (byte 4)
+  where
+    byte : (i : ℕ) → getD (drop at replies) i 0 < 256
+    byte i = rw (getD-drop at replies i 0) (bytes (at + i))
+
+-- a size that is not 0 is that of the whole reply at the front
+pub sized : (l : List ℕ) (size : ℕ) → size ≡ wholeSize l → (size ≡ 0 → ⊥) → (whole l ≡ true) × Front l size
+sized l size e h =
+    let w = found l (λ z. h (e ∙ z)) in
+    let k : size ≡ replySize l = e ∙ ap (λ (b : Bool). cond b (replySize l) 0) w in
+    (w, rw k (front l w))
+
+-- the line made of what the code reads
+pub as-line : (number : ℕ) (l : List ℕ) (size word : ℕ) → size ≡ replySize l → word ≡ wordAt l 2
+    → lineOf number (word - 128) (getD l 4 0) (take (size - 5) (drop 5 l)) ≡ replyLine number l
+as-line number l size word e f = rw (e, f)
+
+-- a part up to the end is all that is left
+pub all-rest : (l : List ℕ) (at : ℕ) → take (length l - at) (drop at l) ≡ drop at l
+all-rest l at = take-all (length l - at) (drop at l) (simp length-drop (omega arith))
+
+-- where the lines stand: the place in the text, the next record's number, and the bytes of replies passed
+pub record Going (replies before after : List ℕ) (place number at : ℕ) : Type 0 where
+  pub at-most : at ≤ length replies
+  pub same : length after ≡ length before
+  pub few : 5 * number ≤ at + 5
+  pub room : place ≤ 4 * at
+  pub so-far : linesOf 1 replies ≡ take place after ++ linesOf number (drop at replies)
+
+pub starts : (replies out : List ℕ) → Going replies out out 0 1 0
+starts replies out = record { at-most = omega arith; same = refl; few = omega arith; room = omega arith; so-far = refl }
+
+module _ (replies before after : List ℕ) (place number at : ℕ) (g : Going replies before after place number at) (fits : 4 * length replies ≤ length before) where
+  -- no line is left
+  pub ends : linesOf number (drop at replies) ≡ [] → Adds (linesOf 1 replies) before after 0 place
+  ends e =
+      let k : length (take place after) ≡ place = length-take-le place after (omega (arith, g .room, g .at-most, g .same)) in
+      let all : linesOf 1 replies ≡ take place after = g .so-far ∙ ap (λ (x : List ℕ). take place after ++ x) e ∙ append-nil (take place after) in
+      record { moved = rw all (omega arith); reads = sym all }
+
+  pub stops : whole (drop at replies) ≡ false → Adds (linesOf 1 replies) before after 0 place
+  stops e = ends (no-more number (drop at replies) e)
+
+  pub finishes : length replies ≤ at → Adds (linesOf 1 replies) before after 0 place
+  finishes h = ends (rw (drop-of-length-le replies h) (no-more number [] (unfold whole in refl)))
+
+  -- one line more
+  pub goes-on : (out : List ℕ) (new size : ℕ) → whole (drop at replies) ≡ true → Front (drop at replies) size → length out ≡ length after
+      → length (replyLine number (drop at replies)) ≤ 4 * size → Adds (replyLine number (drop at replies)) after out place new
+      → Going replies before out new (number + 1) (at + size)
+  goes-on out new size e f s h a =
+      let rest = drop at replies in
+      let d = length-drop at replies in
+      let line = replyLine number rest in
+      let tail = linesOf (number + 1) (drop (at + size) replies) in
+      let next : linesOf number rest ≡ line ++ tail =
+      one-more number rest e
+      ∙ ap (λ (n : ℕ). line ++ linesOf (number + 1) (drop n rest)) (sym (f .is-size))
+      ∙ ap (λ (x : List ℕ). line ++ linesOf (number + 1) x) (drop-drop size at replies) in
+      record {
+        at-most = omega (arith, f .within, g .at-most);
+        same = s ∙ g .same;
+        few = omega (arith, g .few, f .least);
+        room = omega (arith, a .moved, g .room);
+        so-far =
+            g .so-far
+            ∙ ap (λ (x : List ℕ). take place after ++ x) next
+            ∙ sym (append-assoc (take place after) line tail)
+            ∙ ap (λ (x : List ℕ). x ++ tail) (sym (a .reads));
+      }
+
+-- what the code reads of the report
+pub as-printed : (replies report : List ℕ) (n written refusal taken : ℕ) → length replies ≡ 65536 → n ≡ min written 65536
+    → written ≡ countAt report 5 → refusal ≡ getD report 0 0 → taken ≡ countAt report 1 → listingOf (take n replies) refusal taken ≡ printedOf replies report
+as-printed replies report n written refusal taken h a w r t =
+    ap (λ (x : List ℕ). listingOf x refusal taken)
+    (ap (λ (k : ℕ). take k replies) a ∙ take-least replies written 65536 h ∙ ap (λ (k : ℕ). take k replies) w)
+    ∙ ap (λ (k : ℕ). listingOf (take (countAt report 5) replies) k taken) r
+    ∙ ap (λ (k : ℕ). listingOf (take (countAt report 5) replies) (getD report 0 0) k) t
+
+-- the two bytes of a number, read back
+two-bytes : (n : ℕ) → n % 256 + n / 256 * 256 ≡ n
+two-bytes n = omega (arith, div-add-mod' n 256)
+
+-- a reply as 01 lays it out has its own line, with the record's kind, and the lines go on after it
+pub reply-listed : (number kind refusal : ℕ) (bytes rest : List ℕ)
+    → linesOf number (replyBytes kind refusal bytes ++ rest) ≡ lineOf number kind refusal bytes ++ linesOf (number + 1) rest
+reply-listed number kind refusal bytes rest =
+    let l = replyBytes kind refusal bytes ++ rest in
+    let size : replySize l ≡ 5 + length bytes = omega (arith, two-bytes (3 + length bytes)) in
+    let word : wordAt l 2 ≡ kind + 128 = two-bytes (kind + 128) in
+    let n = length-append bytes rest in
+    let w : whole l ≡ true = is-whole l (omega arith) (omega arith) (omega arith) (omega arith) in
+    let long : replySize l - 5 ≡ length bytes = omega arith in
+    let data-is : replyData l ≡ bytes = ap (λ (k : ℕ). take k (bytes ++ rest)) long ∙ take-append-seam bytes rest in
+    let whole-is : replySize l ≡ length (replyBytes kind refusal bytes) = omega arith in
+    let rest-is : drop (replySize l) l ≡ rest = ap (λ (k : ℕ). drop k l) whole-is ∙ drop-append-seam (replyBytes kind refusal bytes) rest in
+    let kind-is : replyKind l ≡ kind = omega arith in
+    one-more number l w
+    ∙ ap (λ (k : ℕ). lineOf number k refusal (replyData l) ++ linesOf (number + 1) (drop (replySize l) l)) kind-is
+    ∙ ap (λ (b : List ℕ). lineOf number kind refusal b ++ linesOf (number + 1) (drop (replySize l) l)) data-is
+    ∙ ap (λ (r : List ℕ). lineOf number kind refusal bytes ++ linesOf (number + 1) r) rest-is

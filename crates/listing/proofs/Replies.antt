@@ -1,0 +1,60 @@
+-- Whether a whole reply stands at the front, by the tests that the code makes, and what is known of one. Assumes nothing.
+use mathlib.Core.Path.{_≡_, refl}
+use mathlib.Core.List.{List}
+use mathlib.Core.Bool.{Bool, true, false, cond}
+use Prim.Native.Nat.{ℕ, _+_, _≤_, _<_}
+use native.Mathlib.Omega.{arith}
+use lib.Dec.{leb}
+use lib.ListN.{length}
+use borrow.Author.Tests.{le-leb, lt-leb, leb-true}
+use Rattle.listing.specs.Listing.{replySize, wordAt, whole, wholeSize, Front}
+
+-- each test that fails leaves none
+pub too-short : (l : List ℕ) → length l < 5 → 0 ≡ wholeSize l
+unfolding whole
+too-short l h = rw (lt-leb 5 (length l) h)
+
+pub low-length : (l : List ℕ) → 5 ≤ length l → replySize l < 5 → 0 ≡ wholeSize l
+unfolding whole
+low-length l h k = rw (le-leb 5 (length l) h, lt-leb 5 (replySize l) k)
+
+pub cut-off : (l : List ℕ) → 5 ≤ length l → 5 ≤ replySize l → length l < replySize l → 0 ≡ wholeSize l
+unfolding whole
+cut-off l h k m = rw (le-leb 5 (length l) h, le-leb 5 (replySize l) k, lt-leb (replySize l) (length l) m)
+
+pub low-kind : (l : List ℕ) → 5 ≤ length l → 5 ≤ replySize l → replySize l ≤ length l → wordAt l 2 < 128 → 0 ≡ wholeSize l
+unfolding whole
+low-kind l h k m n = rw (le-leb 5 (length l) h, le-leb 5 (replySize l) k, le-leb (replySize l) (length l) m, lt-leb 128 (wordAt l 2) n)
+
+pub is-whole : (l : List ℕ) → 5 ≤ length l → 5 ≤ replySize l → replySize l ≤ length l → 128 ≤ wordAt l 2 → whole l ≡ true
+unfolding whole
+is-whole l h k m n = rw (le-leb 5 (length l) h, le-leb 5 (replySize l) k, le-leb (replySize l) (length l) m, le-leb 128 (wordAt l 2) n)
+
+-- four tests in turn that all held
+all-four : (a b c d : Bool) → cond a (cond b (cond c d false) false) false ≡ true → (a ≡ true) × (b ≡ true) × (c ≡ true) × (d ≡ true)
+all-four true true true d e = (refl, refl, refl, e)
+all-four true true false d e = let z : _≡_ {A = ℕ} 0 1 = cc in absurd (omega arith)
+all-four true false c d e = let z : _≡_ {A = ℕ} 0 1 = cc in absurd (omega arith)
+all-four false b c d e = let z : _≡_ {A = ℕ} 0 1 = cc in absurd (omega arith)
+
+-- what the test of a whole reply tells
+pub front : (l : List ℕ) → whole l ≡ true → Front l (replySize l)
+unfolding whole
+front l e =
+    let t = all-four (leb 5 (length l)) (leb 5 (replySize l)) (leb (replySize l) (length l)) (leb 128 (wordAt l 2)) e in
+    record { is-size = refl; least = leb-true _ _ (t .1); within = leb-true _ _ (t .2); kind = leb-true _ _ (t .3) }
+
+-- a size that is not 0 is that of a whole reply
+pub found : (l : List ℕ) → (wholeSize l ≡ 0 → ⊥) → whole l ≡ true
+found l h = pick (whole l) h
+  where
+    pick : (b : Bool) → (cond b (replySize l) 0 ≡ 0 → ⊥) → b ≡ true
+    pick true k = refl
+    pick false k = absurd (k refl)
+
+pub none : (l : List ℕ) → wholeSize l ≡ 0 → whole l ≡ false
+none l h = pick (whole l) h
+  where
+    pick : (b : Bool) → cond b (replySize l) 0 ≡ 0 → b ≡ false
+    pick true k = let z : 2 + wordAt l 0 ≡ 0 = k in absurd (omega arith)
+    pick false k = refl

@@ -1,0 +1,3 @@
+-- What the listing program prints.
+pub mod Text
+pub mod Listing

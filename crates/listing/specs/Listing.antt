@@ -1,0 +1,107 @@
+-- Document 01, 'The listing program': the text printed for the replies of a run. Definitions only. Assumes nothing.
+use Prim.Native.Nat.{ℕ, zero, suc, _+_, _*_, _-_, _/_, _%_, _≤_}
+use mathlib.Core.Path.{_≡_}
+use mathlib.Core.Bool.{Bool, false, cond}
+use mathlib.Core.List.{List, [], _∷_, _++_}
+use lib.Dec.{leb}
+use lib.ListN.{length, take, drop, getD}
+use Rattle.listing.specs.Text.{decimal, hex}
+
+-- the bytes of replies that the program lends
+abbrev pub replyRoom : ℕ
+replyRoom = 65536
+
+-- the characters that part and end what is printed, and the word of the last line
+abbrev pub blank : ℕ
+blank = 32
+
+abbrev pub newline : ℕ
+newline = 10
+
+abbrev pub endWord : List ℕ
+endWord = 101 ∷ 110 ∷ 100 ∷ []
+
+-- a number, parted by a blank from what stands before it
+abbrev pub field : ℕ → List ℕ
+field n = blank ∷ decimal n
+
+-- data as two upper-case hex digits each, parted by single blanks
+abbrev pub dataText : List ℕ → List ℕ
+dataText [] = []
+dataText (b ∷ bs) = blank ∷ (hex b ++ dataText bs)
+
+-- a line: record number, the record's own kind, refusal, data
+abbrev pub lineOf : ℕ → ℕ → ℕ → List ℕ → List ℕ
+lineOf number kind refusal bytes = decimal number ++ (field kind ++ (field refusal ++ (dataText bytes ++ (newline ∷ []))))
+
+-- the last line: `end`, the run's refusal, bytes of whole records taken
+abbrev pub endOf : ℕ → ℕ → List ℕ
+endOf refusal taken = endWord ++ (field refusal ++ (field taken ++ (newline ∷ [])))
+
+-- the two-byte number at a place, little-endian
+abbrev pub wordAt : List ℕ → ℕ → ℕ
+wordAt l i = getD l i 0 + getD l (i + 1) 0 * 256
+
+-- a reply: two bytes of length, which counts what follows, two of kind + 128, the refusal, the data
+abbrev pub replyBytes : ℕ → ℕ → List ℕ → List ℕ
+replyBytes kind refusal bytes =
+    (3 + length bytes) % 256 ∷ (3 + length bytes) / 256 ∷ (kind + 128) % 256 ∷ (kind + 128) / 256 ∷ refusal ∷ bytes
+
+-- and what is read of one at the front
+abbrev pub replyKind : List ℕ → ℕ
+replyKind l = wordAt l 2 - 128
+
+abbrev pub replyRefusal : List ℕ → ℕ
+replyRefusal l = getD l 4 0
+
+abbrev pub replySize : List ℕ → ℕ
+replySize l = 2 + wordAt l 0
+
+abbrev pub replyData : List ℕ → List ℕ
+replyData l = take (replySize l - 5) (drop 5 l)
+
+-- a whole reply stands at the front; what is none ends the lines
+unfoldable pub whole : List ℕ → Bool
+whole l =
+    cond (leb 5 (length l))
+    (cond (leb 5 (replySize l)) (cond (leb (replySize l) (length l)) (leb 128 (wordAt l 2)) false) false)
+    false
+
+-- the bytes of the whole reply at the front, 0 where there is none
+abbrev pub wholeSize : List ℕ → ℕ
+wholeSize l = cond (whole l) (replySize l) 0
+
+-- what a caller knows of a whole reply of this size at the front
+pub record Front (l : List ℕ) (size : ℕ) : Type 0 where
+  pub is-size : size ≡ replySize l
+  pub least : 5 ≤ size
+  pub within : size ≤ length l
+  pub kind : 128 ≤ wordAt l 2
+
+-- the line of the reply at the front
+abbrev pub replyLine : ℕ → List ℕ → List ℕ
+replyLine number l = lineOf number (replyKind l) (replyRefusal l) (replyData l)
+
+-- a line for each whole reply in turn, the first of this number, at most so many
+unfoldable pub linesUpTo : ℕ → ℕ → List ℕ → List ℕ
+linesUpTo zero number l = []
+linesUpTo (suc most) number l =
+    cond (whole l)
+    (replyLine number l ++ linesUpTo most (number + 1) (drop (replySize l) l))
+    []
+
+-- the lines of all replies: there are no more of them than bytes
+abbrev pub linesOf : ℕ → List ℕ → List ℕ
+linesOf number l = linesUpTo (length l) number l
+
+-- what is printed: a line for each reply, record numbers from 1, and the last line
+abbrev pub listingOf : List ℕ → ℕ → ℕ → List ℕ
+listingOf replies refusal taken = linesOf 1 replies ++ endOf refusal taken
+
+-- the four-byte number at a place, little-endian
+abbrev pub countAt : List ℕ → ℕ → ℕ
+countAt l i = getD l i 0 + getD l (i + 1) 0 * 256 + getD l (i + 2) 0 * 65536 + getD l (i + 3) 0 * 16777216
+
+-- what is printed for a run that left these replies and this report: refusal, bytes taken, bytes of replies written
+abbrev pub printedOf : List ℕ → List ℕ → List ℕ
+printedOf replies report = listingOf (take (countAt report 5) replies) (getD report 0 0) (countAt report 1)

@@ -1,0 +1,73 @@
+-- `listings::longest` stays within its array, whose length no store changes. Assumes nothing.
+use mathlib.Core.Path.{_≡_, refl, sym}
+use Prim.Native.Nat.{_-_}
+use native.Mathlib.Omega.{arith}
+use borrow.Author.Needs.{needs}
+use lib.ListN.{length, set, length-set}
+use lib.Seq.{length-take-le}
+use Rattle.listings.proofs.longest.Statement.{statement}
+use Rattle.listings.proofs.longest.Tie as tie
+
+abbrev Inv-loop : tie.InvT-loop
+Inv-loop file₀ at₀ file at = length file ≡ 12289
+
+abbrev μ-loop : tie.MeasureT-loop
+μ-loop file₀ at₀ file at = 12280 - at
+
+loop-holds : tie.Need-loop-holds Inv-loop μ-loop
+loop-holds c = refl
+
+array-write-file : tie.Need-array-write-file Inv-loop μ-loop
+array-write-file c = search needs
+
+add-file : tie.Need-add-file Inv-loop μ-loop
+add-file c = search needs
+
+array-write-file-2 : tie.Need-array-write-file-2 Inv-loop μ-loop
+array-write-file-2 c = search needs
+
+add-at : tie.Need-add-at Inv-loop μ-loop
+add-at c = search needs
+
+loop-less : tie.Need-loop-less Inv-loop μ-loop
+loop-less c = search needs
+
+loop-again : tie.Need-loop-again Inv-loop μ-loop
+loop-again c = simp length-set (c .before .loop .inv)
+
+array-write-file-3 : tie.Need-array-write-file-3 Inv-loop μ-loop
+array-write-file-3 c = search needs
+
+array-write-file-4 : tie.Need-array-write-file-4 Inv-loop μ-loop
+array-write-file-4 c = search needs
+
+array-write-file-5 : tie.Need-array-write-file-5 Inv-loop μ-loop
+array-write-file-5 c = search needs
+
+array-write-file-6 : tie.Need-array-write-file-6 Inv-loop μ-loop
+array-write-file-6 c = search needs
+
+returns : tie.Need-returns Inv-loop μ-loop
+returns c =
+    let l = set (set (set (set (c .before .loop .file) 12280 2) 12282 4) 12284 2) 12286 4 in
+    let e : length l ≡ 12289 = simp length-set (c .before .loop .inv) in
+    ((omega arith, sym (length-take-le 12288 l (omega arith))), sym e)
+
+pub longest-spec : {M : Type 1} → statement M
+longest-spec =
+    tie.close
+    (tie.spec
+    Inv-loop
+    μ-loop
+    loop-holds
+    array-write-file
+    add-file
+    array-write-file-2
+    add-at
+    loop-less
+    loop-again
+    array-write-file-3
+    array-write-file-4
+    array-write-file-5
+    array-write-file-6
+    returns)

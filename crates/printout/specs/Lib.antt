@@ -1,0 +1,2 @@
+-- What the listing program prints for an input.
+pub mod Printout

@@ -1,0 +1,295 @@
+-- What a call that is turned away leaves, by the way through its definition; what a bad or cut file leaves, by the runs of its whole records. Assumes nothing.
+use mathlib.Core.Path.{_≡_, refl, sym, ap, _∙_}
+use mathlib.Core.Bool.{Bool, true, false, cond}
+use mathlib.Core.List.{List, [], _∷_, _++_, append-nil}
+use Prim.Native.Nat.{ℕ, suc, _+_, _*_, _-_, _/_, _%_, _≤_, _<_}
+use native.Mathlib.Omega.{arith}
+use lib.Dec.{eqb, lit≤}
+use lib.ListN.{length, take, drop, getD, length-append, length-drop, take-append-drop, drop-of-length-le}
+use lib.Seq.{length-take-le, drop-cons, getD-drop, getD-append-add}
+use borrow.Author.Tests.{eq-eqb, ne-eqb}
+use Rattle.terms.specs.Refusal.{numberOf}
+use Rattle.chip.specs.declared.State.{State}
+use Rattle.chip.specs.declared.Answer.{Answer}
+use Rattle.terms.specs.declared.Refusal.the-variants.{BadState}
+use Rattle.stack.specs.Stack.{Bytes, topByte}
+use Rattle.stack.proofs.Words.{bytes-take}
+use Rattle.codes.specs.declared.Kind.{Kind}
+use Rattle.codes.specs.declared.Kind.the-variants.{Known, Derived, Unknown}
+use Rattle.codes.specs.Codes.{sr, kindOf}
+use Rattle.chip.specs.State.{busy}
+use Rattle.chip.specs.Commands.{baseRule, properOperands}
+use Rattle.chip.specs.Step.{refused, unlessBusy, pushOf, popOf, readOf, resetOf, acknowledgeOf, carried, answerOf, commandUnder, commandOf}
+use Rattle.host.specs.declared.Reply.{Reply}
+use Rattle.records.specs.Run.{Outcome, ended, runOf}
+use Rattle.records.proofs.Tests.{either-lt, either-eq}
+use Rattle.records.proofs.Append.{nothing}
+use Rattle.records.proofs.Through.{tally, ended-well, up-to-stop, stops-there, cut-anywhere}
+use Rattle.pundaliket.specs.Bytes.{isState, stateOf, flagOf, bytesOf, reportOf}
+use Rattle.pundaliket.specs.Calls.{Called, ranOf, callOf, signalOf, signalBy, eventOf, joinedOf, Sent, sentOf}
+use Rattle.pundaliket.proofs.Calling.{false-true, bad-state, too-long, good, is-good}
+use Rattle.promises.specs.Records.{countAt}
+use Rattle.promises.specs.Kept.{NoReport, NoState, LongInput, Stands, GoodStates, StateReturns, EmptyInput, EventKept, OutKept, StateStays, StateStaysEvent, RepliesStay, StopsThere, BadFile, CutCall, CutFile}
+use Rattle.promises.proofs.Recorded.{le4-exact}
+use Rattle.promises.proofs.Ready.{byte-at, Ready, push-fair, pop-fair, read-fair, reset-fair, acknowledge-fair, command-fair, run-ready}
+
+-- ---- a call that is turned away
+
+pub no-report : NoReport
+unfolding callOf
+no-report state input replies report a = rw (ne-eqb (length report) 9 a)
+
+pub no-state : NoState
+no-state state input replies report a b = bad-state state input replies report a b
+
+pub long-input : LongInput
+long-input state input replies report a b d = too-long state input replies report a b d
+
+-- the tests of a state, passed
+stands : (l : List ℕ) → isState l ≡ true → Stands l
+unfolding isState
+stands l =
+    either-eq (λ (b : Bool). b ≡ true → Stands l) (length l) 19 _ _
+    (λ n.
+    either-lt (λ (b : Bool). b ≡ true → Stands l) 1 (getD l 16 0) _ _ (λ p z. absurd (false-true z)) (λ p.
+    either-lt (λ (b : Bool). b ≡ true → Stands l) 127 (getD l 17 0) _ _ (λ q z. absurd (false-true z)) (λ q.
+    either-lt (λ (b : Bool). b ≡ true → Stands l) 1 (getD l 18 0) _ _ (λ v z. absurd (false-true z))
+    (λ v z. record { size = n; pending = p; ready = omega arith; service = v }))))
+    (λ n z. absurd (false-true z))
+
+pub good-states : GoodStates
+good-states l = (stands l, λ h. sym (is-good l (h .size) (h .pending) (omega (arith, h .ready)) (h .service)))
+
+-- a flag's byte is the flag
+flag-back : (x : ℕ) → x ≤ 1 → flagOf (eqb x 1) ≡ x
+flag-back x h =
+    either-eq (λ (n : ℕ). n ≡ x) x 1 1 0 (λ e. sym e) (λ n. omega arith)
+
+-- the last three bytes of 19
+last-three : (l : List ℕ) → length l ≡ 19 → drop 16 l ≡ getD l 16 0 ∷ getD l 17 0 ∷ getD l 18 0 ∷ []
+last-three l h =
+    drop-cons l 16 0 (omega arith)
+    ∙ ap (λ (t : List ℕ). getD l 16 0 ∷ t) (drop-cons l 17 0 (omega arith)
+    ∙ ap (λ (t : List ℕ). getD l 17 0 ∷ t) (drop-cons l 18 0 (omega arith)
+    ∙ ap (λ (t : List ℕ). getD l 18 0 ∷ t) (drop-of-length-le l {i = 19} (omega arith))))
+
+pub state-returns : StateReturns
+state-returns l h =
+    let g = stands l h in
+    rw (flag-back (getD l 16 0) (g .pending), flag-back (getD l 18 0) (g .service), ← last-three l (g .size)) (take-append-drop 16 l)
+
+pub empty-input : EmptyInput
+empty-input state replies report a b =
+    good state [] replies report a b (omega arith) ∙ rw (nothing (stateOf state) (length replies), state-returns state b)
+
+pub out-kept : OutKept
+unfolding sentOf
+out-kept reply out =
+    either-eq (λ (t : Sent). (t .result ≡ 0 → ⊥) → t .out ≡ out) (length out) 4 _ _
+    (λ n z. rw (ne-eqb (numberOf (reply .refusal)) 0 z)) (λ n z. refl)
+
+-- ---- what is known of a call
+
+-- either it is turned away with a refusal and leaves state and replies, or it is a run
+module _ (state input replies report : List ℕ) where
+  abbrev Away : Called → Type 0
+  Away c = (0 < c .result) × (c .state ≡ state) × (c .replies ≡ replies)
+
+  calls : (P : Called → Type 0) → ((c : Called) → Away c → P c)
+      → (length report ≡ 9 → isState state ≡ true → length input ≤ 12288 → P (ranOf (runOf (stateOf state) input (length replies)) replies))
+      → P (callOf state input replies report)
+  unfolding callOf
+  calls P away ran =
+      either-eq P (length report) 9 _ _
+      (λ n. either P (isState state) (λ b. either-lt P 12288 (length input) _ _ (λ d. away _ (omega arith, refl, refl)) (λ d. ran n b d)) (λ b. away _ (omega arith, refl, refl)))
+      (λ n. away _ (omega arith, refl, refl))
+    where
+      either : {x y : Called} (P : Called → Type 0) (b : Bool) → (b ≡ true → P x) → (b ≡ false → P y) → P (cond b x y)
+      either P true p q = p refl
+      either P false p q = q refl
+
+-- ---- replies
+
+pub replies-stay : RepliesStay
+replies-stay state input replies report =
+    calls state input replies report
+    (λ c. (length (c .replies) ≡ length replies) × ((i : ℕ) → countAt (c .report) 5 ≤ i → getD (c .replies) i 0 ≡ getD replies i 0))
+    (λ c a. (ap length (a .2), λ i h. ap (λ (l : List ℕ). getD l i 0) (a .2)))
+    (λ n b d.
+    let o = runOf (stateOf state) input (length replies) in
+    let t = tally (stateOf state) input (length replies) in
+    let w = o .written in
+    let f = t .in-file in
+    let few = t .few in
+    let fits = t .in-room in
+    let len = length-append w (drop (length w) replies) in
+    let left = length-drop (length w) replies in
+    let exact = le4-exact (length w) (omega arith) in (
+      omega arith,
+      λ i h.
+          let j : i ≡ length w + (i - length w) = omega arith in
+          ap (λ (k : ℕ). getD (w ++ drop (length w) replies) k 0) j
+          ∙ getD-append-add w (drop (length w) replies) (i - length w) 0
+          ∙ getD-drop (length w) replies (i - length w) 0
+          ∙ ap (λ (k : ℕ). getD replies k 0) (sym j),
+    ))
+
+-- ---- a bad file
+
+pub stops-at : StopsThere
+stops-at s l room z =
+    let r = tally s l room .range z in
+    (r .0, r .1, stops-there s l room z)
+
+pub bad-file : BadFile
+bad-file state input replies report a b d =
+    let s = stateOf state in
+    let room = length replies in
+    let o = runOf s input room in
+    let t = tally s input room in
+    let f = t .in-file in
+    let n = length-take-le (o .taken) input f in
+    let exact = le4-exact (o .taken) (omega arith) in
+    rw (good state input replies report a b d, exact)
+    (good state (take (o .taken) input) replies report a b (omega arith) ∙ ap (λ (p : Outcome). ranOf p replies) (up-to-stop s input room))
+
+-- ---- a file cut after any byte
+
+pub cut-file : CutFile
+cut-file state input replies report =
+    calls state input replies report
+    (λ c. c .result ≡ 0 → (k : ℕ) → k ≤ length input → (n : ℕ) × CutCall (callOf state (take k input) replies report) (callOf state (take n input) replies report) k n)
+    (λ c a z. let y : ⊥ = omega (arith, a .0) in absurd y)
+    (λ a b d z k most.
+    let s = stateOf state in
+    let room = length replies in
+    let r = cut-anywhere s input room z k most in
+    let n = r .0 in
+    let c = r .1 in
+    let up = c .upto in
+    let lk = length-take-le k input most in
+    let ln = length-take-le n input (omega arith) in
+    let exact = le4-exact (runOf s (take n input) room .taken) (omega (arith, c .whole-taken)) in (
+      n,
+      rw (good state (take k input) replies report a b (omega arith), good state (take n input) replies report a b (omega arith)) record {
+        upto = up;
+        whole-done = c .whole-done;
+        whole-taken = exact ∙ c .whole-taken;
+        state-is = ap bytesOf (c .state-is);
+        replies-is = rw (c .written-is);
+        counts-are = rw (c .taken-is ∙ sym (c .whole-taken), c .written-is);
+        at-end = c .at-end;
+        in-one = c .in-one;
+      },
+    ))
+
+-- ---- a single event
+
+-- a command hands out no byte
+command-byte : (s : State) (code : ℕ) → commandOf s code .byte ≡ 0
+unfolding commandUnder carried
+command-byte s code =
+    picked (λ (a : Answer). a .byte ≡ 0) (busy s) _ _ refl (by-kind (kindOf (code % 128)))
+  where
+    picked : (P : Answer → Type 0) (b : Bool) (x y : Answer) → P x → P y → P (cond b x y)
+    picked P true x y p q = p
+    picked P false x y p q = q
+
+    by-kind : (k : Kind) → answerOf baseRule s (sr code) k .byte ≡ 0
+    by-kind (Known c) = picked (λ (a : Answer). a .byte ≡ 0) (s .pending) _ _ refl (picked (λ (a : Answer). a .byte ≡ 0) (properOperands c (s .stack)) _ _ refl refl)
+    by-kind Derived = refl
+    by-kind Unknown = refl
+
+-- what an event hands out is a byte where the top and the status are bytes
+event-byte : (s : State) (kind byte : ℕ) → topByte (s .stack) < 256 → s .status < 256 → eventOf s kind byte .byte < 256
+unfolding pushOf popOf readOf resetOf acknowledgeOf
+event-byte s kind byte top status =
+    either-eq Small kind 1 _ _ (λ e. ready _ (omega arith)) (λ a.
+    either-eq Small kind 2 _ _ (λ e. ready _ top) (λ b.
+    either-eq Small kind 3 _ _ (λ e. let z = command-byte s byte in omega arith) (λ c.
+    either-eq Small kind 4 _ _ (λ e. ready _ status) (λ d.
+    either-eq Small kind 5 _ _ (λ e. ready _ (omega arith)) (λ f.
+    either-eq Small kind 6 _ _ (λ e. ready _ (omega arith)) (λ g. omega arith))))))
+  where
+    Small : Answer → Type 0
+    Small a = a .byte < 256
+
+    ready : (a : Answer) → a .byte < 256 → unlessBusy s a .byte < 256
+    ready a h = pick (busy s)
+      where
+        pick : (b : Bool) → (cond b (refused BadState s) a) .byte < 256
+        pick true = omega arith
+        pick false = h
+
+pub event-kept : EventKept
+unfolding signalOf
+event-kept state kind byte bytes = by (isState state)
+  where
+    a : Answer
+    a = eventOf (stateOf state) kind byte
+
+    small : a .byte < 256
+    small = event-byte (stateOf state) kind byte (byte-at (take 16 state) (bytes-take 16 state bytes) 0) (byte-at state bytes 17)
+
+    by : (b : Bool) → 256 ≤ (cond b (signalBy state a) (record { result = joinedOf 13 0; state = state })) .result
+        → (cond b (signalBy state a) (record { result = joinedOf 13 0; state = state })) .state ≡ state
+    by true h =
+        either-eq (λ (l : List ℕ). l ≡ state) (numberOf (a .refusal)) 0 (bytesOf (a .state)) state
+        (λ z. let y : ⊥ = omega (arith, small) in absurd y) (λ z. refl)
+    by false h = refl
+
+-- ---- a state stays a state
+
+-- the bytes of a state that is not busy stand for a state
+pub bytes-stand : (s : State) → Ready s → isState (bytesOf s) ≡ true
+bytes-stand s r =
+    let n = r .stack .sixteen in
+    let vs = flagOf (s .pending) ∷ s .status ∷ flagOf (s .service) ∷ [] in
+    let len = length-append (s .stack) vs in
+    good-states (bytesOf s) .1 (record {
+      size = omega arith;
+      pending = rw (at 0 (flagOf (s .pending)) n) (flag-small (s .pending));
+      ready = rw (at 1 (s .status) n) (r .ready);
+      service = rw (at 2 (flagOf (s .service)) n) (flag-small (s .service));
+    })
+  where
+    flag-small : (b : Bool) → flagOf b ≤ 1
+    flag-small true = lit≤ tt
+    flag-small false = lit≤ tt
+
+    at : (i x : ℕ) → length (s .stack) ≡ 16 → getD (bytesOf s) (16 + i) 0 ≡ getD (flagOf (s .pending) ∷ s .status ∷ flagOf (s .service) ∷ []) i 0
+    at i x n =
+        ap (λ (k : ℕ). getD (bytesOf s) (k + i) 0) (sym n)
+        ∙ getD-append-add (s .stack) (flagOf (s .pending) ∷ s .status ∷ flagOf (s .service) ∷ []) i 0
+
+-- and the other way round
+pub state-ready : (l : List ℕ) → Bytes l → isState l ≡ true → Ready (stateOf l)
+state-ready l h b =
+    let g = stands l b in
+    let n = g .size in
+    record { stack = record { sixteen = length-take-le 16 l (omega arith); bytes = bytes-take 16 l h }; ready = g .ready }
+
+pub state-stays : StateStays
+state-stays state input replies report h g b =
+    calls state input replies report (λ c. isState (c .state) ≡ true) (λ c a. ap isState (a .1) ∙ b)
+    (λ n d m. bytes-stand _ (run-ready (stateOf state) input (length replies) (state-ready state h b) g))
+
+-- a single event
+event-ready : (s : State) (kind byte : ℕ) → byte < 256 → Ready s → Ready (eventOf s kind byte .state)
+event-ready s kind byte h r =
+    either-eq Left kind 1 _ _ (λ e. push-fair s r byte h .left) (λ a.
+    either-eq Left kind 2 _ _ (λ e. pop-fair s r .left) (λ b.
+    either-eq Left kind 3 _ _ (λ e. command-fair s byte r .left) (λ c.
+    either-eq Left kind 4 _ _ (λ e. read-fair s r .left) (λ d.
+    either-eq Left kind 5 _ _ (λ e. reset-fair s r .left) (λ f.
+    either-eq Left kind 6 _ _ (λ e. acknowledge-fair s r .left) (λ g. r))))))
+  where
+    Left : Answer → Type 0
+    Left a = Ready (a .state)
+
+pub state-stays-event : StateStaysEvent
+unfolding signalOf
+state-stays-event state kind byte h g b =
+    let a = eventOf (stateOf state) kind byte in
+    rw b (either-eq (λ (l : List ℕ). isState l ≡ true) (numberOf (a .refusal)) 0 (bytesOf (a .state)) state
+    (λ z. bytes-stand (a .state) (event-ready (stateOf state) kind byte g (state-ready state h b))) (λ z. b))

@@ -1,0 +1,16 @@
+-- The statements' proofs.
+pub mod Coinciding
+pub mod Refusing
+pub mod Ready
+pub mod Recorded
+pub mod Keeping
+pub mod Commanded
+pub mod Events
+pub mod Whole
+pub mod Exactness
+pub mod Hosted
+pub mod Benched
+pub mod Chained
+pub mod ChainExamples
+pub mod Driven
+pub mod ShutOut

@@ -1,0 +1,85 @@
+-- Which number each event gets: every test on the way to an answer is rewritten with what it is known to give. Assumes nothing.
+use mathlib.Core.Path.{_≡_, refl}
+use mathlib.Core.Bool.{true, false}
+use Prim.Native.Nat.{ℕ, _%_}
+use Rattle.terms.specs.Refusal.{numberOf}
+use Rattle.float.specs.Cut.{Rule}
+use Rattle.codes.specs.declared.Command.{Command}
+use Rattle.codes.specs.declared.Kind.the-variants.{Known, Derived, Unknown}
+use Rattle.codes.specs.Codes.{kindOf}
+use Rattle.chip.specs.declared.State.{State}
+use Rattle.chip.specs.State.{busy}
+use Rattle.chip.specs.Commands.{baseRule, properOperands}
+use Rattle.chip.specs.Step.{pushOf, popOf, readOf, resetOf, acknowledgeOf, carried, commandUnder}
+use Rattle.promises.specs.Events.{Event, push, pop, command, read, reset, acknowledge, answerTo}
+use Rattle.promises.specs.Refusals.{TurnedAway, Numbers, Refusals}
+
+module _ (rule : Rule) (s : State) where
+  when-busy : (e : Event) → busy s ≡ true → TurnedAway s (answerTo rule s e) 13
+  unfolding pushOf popOf readOf resetOf acknowledgeOf commandUnder
+  when-busy (push b) h = rw h (record { number = refl; byte = refl; state = refl })
+  when-busy pop h = rw h (record { number = refl; byte = refl; state = refl })
+  when-busy (command k) h = rw h (record { number = refl; byte = refl; state = refl })
+  when-busy read h = rw h (record { number = refl; byte = refl; state = refl })
+  when-busy reset h = rw h (record { number = refl; byte = refl; state = refl })
+  when-busy acknowledge h = rw h (record { number = refl; byte = refl; state = refl })
+
+  module _ (ready : busy s ≡ false) where
+    when-unknown : (code : ℕ) → kindOf (code % 128) ≡ Unknown → TurnedAway s (commandUnder rule s code) 1
+    unfolding commandUnder
+    when-unknown code e = rw (ready, e) (record { number = refl; byte = refl; state = refl })
+
+    when-derived : (code : ℕ) → kindOf (code % 128) ≡ Derived → TurnedAway s (commandUnder rule s code) 2
+    unfolding commandUnder
+    when-derived code e = rw (ready, e) (record { number = refl; byte = refl; state = refl })
+
+    when-half : (code : ℕ) (k : Command) → kindOf (code % 128) ≡ Known k → s .pending ≡ true → TurnedAway s (commandUnder rule s code) 3
+    unfolding commandUnder carried
+    when-half code k e p = rw (ready, e, p) (record { number = refl; byte = refl; state = refl })
+
+    when-improper : (code : ℕ) (k : Command) → kindOf (code % 128) ≡ Known k → s .pending ≡ false → properOperands k (s .stack) ≡ false → TurnedAway s (commandUnder rule s code) 4
+    unfolding commandUnder carried
+    when-improper code k e p o = rw (ready, e, p, o) (record { number = refl; byte = refl; state = refl })
+
+    when-fair : (code : ℕ) (k : Command) → kindOf (code % 128) ≡ Known k → s .pending ≡ false → properOperands k (s .stack) ≡ true → numberOf ((commandUnder rule s code) .refusal) ≡ 0
+    unfolding commandUnder carried
+    when-fair code k e p o = rw (ready, e, p, o)
+
+    pushing : (byte : ℕ) → numberOf ((pushOf s byte) .refusal) ≡ 0
+    unfolding pushOf
+    pushing byte = rw ready
+
+    popping : numberOf ((popOf s) .refusal) ≡ 0
+    unfolding popOf
+    popping = rw ready
+
+    reading : (numberOf ((readOf s) .refusal) ≡ 0) × ((readOf s) .byte ≡ s .status) × ((readOf s) .state ≡ s)
+    unfolding readOf
+    reading = rw ready (refl, refl, refl)
+
+    resetting : numberOf ((resetOf s) .refusal) ≡ 0
+    unfolding resetOf
+    resetting = rw ready
+
+    acknowledging : numberOf ((acknowledgeOf s) .refusal) ≡ 0
+    unfolding acknowledgeOf
+    acknowledging = rw ready
+
+-- ---- the statement
+pub numbers : (rule : Rule) → Numbers rule
+numbers rule = record {
+  busy-state = λ s e h. when-busy rule s e h;
+  unknown = λ s code r e. when-unknown rule s r code e;
+  derived = λ s code r e. when-derived rule s r code e;
+  half-word = λ s code k r e p. when-half rule s r code k e p;
+  improper = λ s code k r e p o. when-improper rule s r code k e p o;
+  command-done = λ s code k r e p o. when-fair rule s r code k e p o;
+  push-done = λ s byte r. pushing rule s r byte;
+  pop-done = λ s r. popping rule s r;
+  read-done = λ s r. reading rule s r;
+  reset-done = λ s r. resetting rule s r;
+  acknowledge-done = λ s r. acknowledging rule s r;
+}
+
+pub refusals : Refusals
+refusals = numbers baseRule

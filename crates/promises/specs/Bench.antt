@@ -1,0 +1,122 @@
+-- 01's bench values and the rows that decide where the documents disagree, in one table, through the whole step. Definitions and the statement only:
+-- proofs/Benched.antt computes it. Assumes nothing.
+use Prim.Native.Nat.{ℕ, _+_, _-_}
+use mathlib.Core.Path.{_≡_}
+use mathlib.Core.List.{List, [], _∷_, _++_, map}
+use Rattle.terms.specs.declared.Width.{Width}
+use Rattle.terms.specs.declared.Width.the-variants.{Single, Double}
+use Rattle.terms.specs.Width.{sizeOf}
+use Rattle.terms.specs.Refusal.{numberOf}
+use Rattle.stack.specs.Stack.{bytesOf, zeros}
+use Rattle.chip.specs.State.{resetState}
+use Rattle.chip.specs.declared.Answer.{Answer}
+use Rattle.chip.specs.Commands.{baseRule}
+use Rattle.chip.specs.Step.{commandOf}
+use Rattle.promises.specs.Events.{Event, push, command, after, pushesOf}
+
+-- the events from reset, the code that follows them, and what it must give: the refusal, the whole stack, the status
+pub record Row : Type 0 where
+  pub events : List Event
+  pub code : ℕ
+  pub refusal : ℕ
+  pub stack : List ℕ
+  pub status : ℕ
+
+-- B and A pushed, low byte first; R on top, and at the bottom the word that the command leaves there
+abbrev pub two : ℕ → Width → ℕ → ℕ → ℕ → ℕ → ℕ → Row
+two code w b a r bottom status = record {
+  events = pushesOf (sizeOf w) b ++ pushesOf (sizeOf w) a;
+  code = code;
+  refusal = 0;
+  stack = bytesOf (sizeOf w) r ++ (zeros (16 - (sizeOf w + sizeOf w)) ++ bytesOf (sizeOf w) bottom);
+  status = status;
+}
+
+-- A pushed; R, of the second width, on top of zeros
+abbrev pub one : ℕ → Width → ℕ → Width → ℕ → ℕ → Row
+one code w a v r status = record { events = pushesOf (sizeOf w) a; code = code; refusal = 0; stack = bytesOf (sizeOf v) r ++ zeros (16 - sizeOf v); status = status }
+
+-- no event since reset but bytes pushed, and a refusal: the bytes stay on top of zeros and the status 0
+abbrev pub turnedAway : ℕ → List ℕ → ℕ → Row
+turnedAway code bytes refusal = record { events = map push bytes; code = code; refusal = refusal; stack = bytes ++ zeros 15; status = 0 }
+
+-- 01, 'Bench values', row by row
+abbrev pub benchValues : List Row
+benchValues =
+    two 0x6c Single 0x7fff 0x0001 0x8000 0x0001 0x42
+    ∷ two 0x6c Single 0x8000 0x8000 0x0000 0x8000 0x23
+    ∷ two 0x6d Single 0x0000 0x0001 0xffff 0x0001 0x41
+    ∷ two 0x6e Single 0x0100 0x0100 0x0000 0 0x22
+    ∷ two 0x6e Single 0x8000 0x0000 0x8000 0 0x42
+    ∷ two 0x6f Single 0xfff9 0x0002 0xfffd 0 0x40
+    ∷ two 0x6f Single 0x0007 0x0000 0x0007 0 0x10
+    ∷ two 0x13 Double 0x01800000 0x02c00000 0x7faaaaaa 0 0x00
+    ∷ two 0x10 Double 0x01800000 0xc0800000 0x00ffffff 0 0x00
+    ∷ two 0x12 Double 0x3fffffff 0x3fffffff 0x7efffffe 0 0x02
+    ∷ two 0x12 Double 0x40800000 0x40800000 0x7f800000 0 0x04
+    ∷ one 0x1f Double 0x8ffffe00 Single 0x8001 0x40
+    ∷ one 0x1f Double 0x90800000 Double 0x90800000 0x42
+    ∷ one 0x1c Double 0x7fffffff Double 0x1fffffff 0x00
+    ∷ []
+
+-- SSUB with A least overflows for every B; SMUL overflows where the exact product does not fit; SDIV with A or B least, and by zero
+abbrev pub fixedConflicts : List Row
+fixedConflicts =
+    two 0x6d Single 0x8000 0x8000 0x0000 0x8000 0x22
+    ∷ two 0x6d Single 0xffff 0x8000 0x7fff 0x8000 0x02
+    ∷ two 0x6e Single 0xffff 0x0001 0xffff 0 0x40
+    ∷ two 0x6e Single 0x0100 0x0080 0x8000 0 0x42
+    ∷ two 0x6e Single 0x00ff 0x00ff 0xfe01 0 0x42
+    ∷ two 0x6f Single 0x8000 0x0002 0x8000 0 0x42
+    ∷ two 0x6f Single 0x8000 0x0000 0x8000 0 0x50
+    ∷ []
+
+-- x - x, 0 x -y, 0 / -y and 0 / 0; magnitude under 1, 32767.5 and -0.5 made whole; the least numbers made floats
+abbrev pub floatDecisions : List Row
+floatDecisions =
+    two 0x11 Double 0x01c00000 0x01c00000 0x00000000 0 0x20
+    ∷ two 0x12 Double 0x00000000 0x81800000 0x00000000 0 0x20
+    ∷ two 0x13 Double 0x00000000 0x81800000 0x00000000 0 0x20
+    ∷ two 0x13 Double 0x00000000 0x00000000 0x00000000 0 0x30
+    ∷ one 0x1f Double 0x00ffffff Single 0x0000 0x20
+    ∷ one 0x1e Double 0x00ffffff Double 0x00000000 0x20
+    ∷ one 0x1e Double 0x80800000 Double 0x00000000 0x20
+    ∷ one 0x1f Double 0x0fffff00 Single 0x7fff 0x00
+    ∷ one 0x1d Single 0x8000 Double 0x90800000 0x40
+    ∷ one 0x1c Double 0x80000000 Double 0xa0800000 0x40
+    ∷ []
+
+-- PUPI is 1A and 9A; 0C and 8C are unknown; POPS after an SADD with carry clears bit 0; NOP with a half word pending is 3
+abbrev pub otherDecisions : List Row
+otherDecisions =
+    record { events = []; code = 0x1a; refusal = 0; stack = bytesOf 4 0x02c90fda ++ zeros 12; status = 0x00 }
+    ∷ record { events = []; code = 0x9a; refusal = 0; stack = bytesOf 4 0x02c90fda ++ zeros 12; status = 0x00 }
+    ∷ turnedAway 0x0c (0x55 ∷ []) 1
+    ∷ turnedAway 0x8c (0x55 ∷ []) 1
+    ∷ turnedAway 0x01 (0x55 ∷ []) 2
+    ∷ turnedAway 0x00 (0x55 ∷ []) 3
+    ∷ record {
+      events = pushesOf 2 0x8000 ++ (pushesOf 2 0x8001 ++ (command 0x6c ∷ []));
+      code = 0x78;
+      refusal = 0;
+      stack = zeros 12 ++ (bytesOf 2 0x8001 ++ bytesOf 2 0x0001);
+      status = 0x20;
+    }
+    ∷ []
+
+abbrev pub rows : List Row
+rows = benchValues ++ (fixedConflicts ++ (floatDecisions ++ otherDecisions))
+
+abbrev pub answerOf : Row → Answer
+answerOf x = commandOf (after baseRule resetState (x .events)) (x .code)
+
+-- what the chip gives, and what the row says
+abbrev pub shown : Row → List ℕ
+shown x = numberOf ((answerOf x) .refusal) ∷ (answerOf x) .state .status ∷ (answerOf x) .state .stack
+
+abbrev pub expected : Row → List ℕ
+expected x = x .refusal ∷ x .status ∷ x .stack
+
+-- ---- the statement
+abbrev pub BenchRows : Type 0
+BenchRows = map shown rows ≡ map expected rows

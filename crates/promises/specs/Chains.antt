@@ -1,0 +1,211 @@
+-- Demand 3: chains of steps on one float word. Definitions and the statement only: proofs/Chained.antt proves it. Assumes nothing.
+use Prim.Native.Nat.{ℕ, _+_, _%_}
+use mathlib.Core.Path.{_≡_}
+use mathlib.Core.Bool.{Bool, true, false, _&&_, cond}
+use mathlib.Core.List.{List, [], _∷_, _++_}
+use lib.Dec.{eqb}
+use lib.ListN.{replicate}
+use Rattle.float.specs.declared.Rounded.{Rounded}
+use Rattle.float.specs.Word.{negative, FloatWord}
+use Rattle.float.specs.Order.{Le}
+use Rattle.float.specs.Cut.{Rule}
+use Rattle.float.specs.Float.{add, sub, mul, div}
+use Rattle.float.specs.Convert.{chsf}
+use Rattle.stack.specs.Stack.{tos}
+use Rattle.chip.specs.declared.State.{State}
+use Rattle.chip.specs.State.{busy, resetState}
+use Rattle.chip.specs.Status.{errorOf}
+use Rattle.chip.specs.Commands.{baseRule}
+use Rattle.chip.specs.Step.{commandUnder}
+use Rattle.promises.specs.Events.{Event, push, pop, command, read, reset, acknowledge, answerTo, after, answered, pushesOf}
+
+-- ---- error bits
+-- whether a command leaves a status with bits 4 to 1 clear; no other event of a run sets the status
+abbrev pub leavesClear : Rule → State → Event → Bool
+leavesClear rule s (command code) = eqb (errorOf ((commandUnder rule s code) .state .status)) 0
+leavesClear rule s (push byte) = true
+leavesClear rule s pop = true
+leavesClear rule s read = true
+leavesClear rule s reset = true
+leavesClear rule s acknowledge = true
+
+-- whether each command of the events does so
+abbrev pub quiet : Rule → State → List Event → Bool
+quiet rule s [] = true
+quiet rule s (e ∷ es) = leavesClear rule s e && quiet rule ((answerTo rule s e) .state) es
+
+-- ---- chains
+-- add, subtract, multiply or divide by a constant, take from a constant, change the sign
+pub data Step : Type 0 where
+  Add : ℕ → Step
+  Subtract : ℕ → Step
+  Multiply : ℕ → Step
+  Divide : ℕ → Step
+  TakeFrom : ℕ → Step
+  Change : Step
+
+-- a command with its bit 7, sr, set or clear
+abbrev pub given : Bool → ℕ → Event
+given sr code = command (cond sr (code + 128) code)
+
+-- FADD 10, FSUB 11, FMUL 12, FDIV 13, CHSF 15, XCHF 19; the commands of a step have the bits sr 0 and sr 1
+abbrev pub eventsOf : (ℕ → Bool) → Step → List Event
+eventsOf sr (Add c) = pushesOf 4 c ++ (given (sr 0) 0x10 ∷ [])
+eventsOf sr (Subtract c) = pushesOf 4 c ++ (given (sr 0) 0x11 ∷ [])
+eventsOf sr (Multiply c) = pushesOf 4 c ++ (given (sr 0) 0x12 ∷ [])
+eventsOf sr (Divide c) = pushesOf 4 c ++ (given (sr 0) 0x13 ∷ [])
+eventsOf sr (TakeFrom c) = pushesOf 4 c ++ (given (sr 0) 0x19 ∷ given (sr 1) 0x11 ∷ [])
+eventsOf sr Change = given (sr 0) 0x15 ∷ []
+
+-- how many commands a step gives
+abbrev pub commandsIn : Step → ℕ
+commandsIn (Add c) = 1
+commandsIn (Subtract c) = 1
+commandsIn (Multiply c) = 1
+commandsIn (Divide c) = 1
+commandsIn (TakeFrom c) = 2
+commandsIn Change = 1
+
+-- the steps in turn; sr gives each command of the chain its bit 7, counted from 0
+abbrev pub chainOf : (ℕ → Bool) → List Step → List Event
+chainOf sr [] = []
+chainOf sr (k ∷ ks) = eventsOf sr k ++ chainOf (λ (n : ℕ). sr (commandsIn k + n)) ks
+
+-- constants are proper words
+abbrev pub Constant : Step → Type 0
+Constant (Add c) = FloatWord c
+Constant (Subtract c) = FloatWord c
+Constant (Multiply c) = FloatWord c
+Constant (Divide c) = FloatWord c
+Constant (TakeFrom c) = FloatWord c
+Constant Change = Unit
+
+-- and so are all of a chain
+abbrev pub Constants : List Step → Type 0
+Constants [] = Unit
+Constants (k ∷ ks) = Constant k × Constants ks
+
+-- reversing are: sign change, taking from a constant, multiplying or dividing by a negative constant
+abbrev pub isReversing : Step → Bool
+isReversing (Add c) = false
+isReversing (Subtract c) = false
+isReversing (Multiply c) = negative c
+isReversing (Divide c) = negative c
+isReversing (TakeFrom c) = true
+isReversing Change = true
+
+-- how many steps of a chain are reversing
+abbrev pub reversing : List Step → ℕ
+reversing [] = 0
+reversing (k ∷ ks) = cond (isReversing k) 1 0 + reversing ks
+
+-- ---- the word that a chain makes of a word, by demand 2's definitions alone
+-- B is the word and A the constant; taking from a constant has them change places
+abbrev pub workOf : Rule → Step → ℕ → Rounded
+workOf rule (Add c) w = add rule w c
+workOf rule (Subtract c) w = sub rule w c
+workOf rule (Multiply c) w = mul rule w c
+workOf rule (Divide c) w = div rule w c
+workOf rule (TakeFrom c) w = sub rule c w
+workOf rule Change w = record { word = chsf w; error = 0 }
+
+-- the steps in turn, each on the word that the one before made
+abbrev pub wordOf : Rule → ℕ → List Step → ℕ
+wordOf rule w [] = w
+wordOf rule w (k ∷ ks) = wordOf rule ((workOf rule k w) .word) ks
+
+-- ---- runs
+-- from which state, on which word, and bit 7 of each command
+pub record Run : Type 0 where
+  pub state : State
+  pub word : ℕ
+  pub sr : ℕ → Bool
+
+-- a state that 13 does not turn away, with nothing pending
+pub record Ready (s : State) : Type 0 where
+  pub taken : busy s ≡ false
+  pub whole : s .pending ≡ false
+
+-- a run may start from any such state, whatever its stack, status and service line, on a proper word
+pub record Starts (x : Run) : Type 0 where
+  pub ready : Ready (x .state)
+  pub proper : FloatWord (x .word)
+
+-- the word is pushed, then the chain is worked
+abbrev pub eventsIn : Run → List Step → List Event
+eventsIn x ks = pushesOf 4 (x .word) ++ chainOf (x .sr) ks
+
+-- the state at the end
+abbrev pub endOf : Rule → Run → List Step → State
+endOf rule x ks = after rule (x .state) (eventsIn x ks)
+
+-- the result: the TOS at the end
+abbrev pub resultOf : Rule → Run → List Step → ℕ
+resultOf rule x ks = tos 4 ((endOf rule x ks) .stack)
+
+-- no command of the run sets an error bit; bits that stood in the start status do not count
+abbrev pub Quiet : Rule → Run → List Step → Type 0
+Quiet rule x ks = quiet rule (x .state) (eventsIn x ks) ≡ true
+
+-- ---- the statement, over the rule for float results. Chains are of any length, and a multiplier or a divisor may even be zero
+pub record Chains (rule : Rule) : Type 0 where
+  -- every event is answered 0, error bits or not
+  pub every-answered : (x : Run) (ks : List Step) → Starts x → Constants ks → answered rule (x .state) (eventsIn x ks) ≡ true
+  -- the result is demand 2's word of the word and the chain alone: no stack, status, service line or sr bit enters
+  pub by-word-alone : (x : Run) (ks : List Step) → Starts x → Constants ks → resultOf rule x ks ≡ wordOf rule (x .word) ks
+  -- equal words give equal words
+  pub equal-words : (x y : Run) (ks : List Step) → Starts x → Starts y → Constants ks → x .word ≡ y .word → resultOf rule x ks ≡ resultOf rule y ks
+  -- a chain of no steps gives the word itself
+  pub no-steps : (x : Run) → Starts x → resultOf rule x [] ≡ x .word
+  -- the result is a proper word, and the state is one from which a run may start
+  pub proper-result : (x : Run) (ks : List Step) → Starts x → Constants ks → FloatWord (resultOf rule x ks)
+  pub ready-again : (x : Run) (ks : List Step) → Starts x → Constants ks → Ready (endOf rule x ks)
+  -- an even number of reversing steps keeps the order of the two values
+  pub even-keeps : (x y : Run) (ks : List Step) → Starts x → Starts y → Constants ks → Quiet rule x ks → Quiet rule y ks → Le (x .word) (y .word)
+      → reversing ks % 2 ≡ 0 → Le (resultOf rule x ks) (resultOf rule y ks)
+  -- an odd number turns it round
+  pub odd-turns : (x y : Run) (ks : List Step) → Starts x → Starts y → Constants ks → Quiet rule x ks → Quiet rule y ks → Le (x .word) (y .word)
+      → reversing ks % 2 ≡ 1 → Le (resultOf rule y ks) (resultOf rule x ks)
+
+-- demand 3: of the chip as it stands
+abbrev pub Demand3 : Type 0
+Demand3 = Chains baseRule
+
+-- ---- examples: the premise of the order can be met, and without it order can break
+-- from reset, sr clear; and from a full stack with every error bit and the carry standing in the status, the service line high, sr set
+abbrev pub fromReset : ℕ → Run
+fromReset w = record { state = resetState; word = w; sr = λ (n : ℕ). false }
+
+abbrev pub fromFull : ℕ → Run
+fromFull w = record { state = record { stack = replicate 16 255; pending = false; status = 0x7f; service = true }; word = w; sr = λ (n : ℕ). true }
+
+-- times 2, take from 1
+abbrev pub turned : List Step
+turned = Multiply 0x02800000 ∷ TakeFrom 0x01800000 ∷ []
+
+-- plus 1, times -2, take from 3, change sign, divided by 2, minus 1
+abbrev pub everyKind : List Step
+everyKind = Add 0x01800000 ∷ Multiply 0x82800000 ∷ TakeFrom 0x02c00000 ∷ Change ∷ Divide 0x02800000 ∷ Subtract 0x01800000 ∷ []
+
+-- times the greatest word; and then plus zero, which leaves a status with no error bit
+abbrev pub tooFar : List Step
+tooFar = Multiply 0x3fffffff ∷ []
+
+abbrev pub tooFarAndOn : List Step
+tooFarAndOn = Multiply 0x3fffffff ∷ Add 0x00000000 ∷ []
+
+pub record Examples : Type 0 where
+  -- two runs that meet every premise, on 1 and 2, give -1 and -3: turned round once
+  pub starts : Starts (fromReset 0x01800000) × Starts (fromFull 0x02800000) × Constants turned × Le 0x01800000 0x02800000
+  pub quiet-runs : Quiet baseRule (fromReset 0x01800000) turned × Quiet baseRule (fromFull 0x02800000) turned
+  pub results : (resultOf baseRule (fromReset 0x01800000) turned ≡ 0x81800000) × (resultOf baseRule (fromFull 0x02800000) turned ≡ 0x82c00000)
+  pub turned-round : (reversing turned ≡ 1) × (Le 0x81800000 0x82c00000 → ⊥)
+  -- a chain of every kind of step, on 1 and 2, gives -4.5 and -5.5
+  pub every-kind : Constants everyKind × Quiet baseRule (fromReset 0x01800000) everyKind × Quiet baseRule (fromFull 0x02800000) everyKind × (reversing everyKind ≡ 3)
+  pub every-kind-results : (resultOf baseRule (fromReset 0x01800000) everyKind ≡ 0x83900000) × (resultOf baseRule (fromFull 0x02800000) everyKind ≡ 0x83b00000)
+  -- without the premise: no step reverses, the second run overflows, and the order of the values is broken
+  pub overflows : (reversing tooFar ≡ 0) × Quiet baseRule (fromReset 0x01800000) tooFar × (quiet baseRule resetState (eventsIn (fromReset 0x3fffffff) tooFar) ≡ false)
+  pub broken : (resultOf baseRule (fromReset 0x01800000) tooFar ≡ 0x3fffffff) × (resultOf baseRule (fromReset 0x3fffffff) tooFar ≡ 0x7efffffe)
+  pub crossed : Le 0x01800000 0x3fffffff × (Le 0x3fffffff 0x7efffffe → ⊥)
+  -- a look at the last status alone would miss it
+  pub last-is-clear : (errorOf ((endOf baseRule (fromReset 0x3fffffff) tooFarAndOn) .status) ≡ 0) × (resultOf baseRule (fromReset 0x3fffffff) tooFarAndOn ≡ 0x7efffffe)

@@ -1,0 +1,32 @@
+-- Demand 1: every call gets a fixed reply. Two results and exits that a call's contract allows coincide. Statements only: proofs/Coinciding.antt proves
+-- them. Assumes nothing.
+use Prim.Native.Nat.{ℕ}
+use mathlib.Core.Path.{_≡_}
+use mathlib.Core.List.{List}
+use Rattle.host.specs.Host.{hostOf, takenOf, hostReply, takenReply}
+use Rattle.pundaliket.specs.Calls.{callOf, Calls, signalOf, Signals, sentOf, Sends}
+
+-- pundaliket_run: the refusal, and every byte of state, replies and report
+abbrev pub RunDetermined : Type 0
+RunDetermined =
+    (state input replies report : List ℕ) (r q : ℕ) (s t w v p o : List ℕ)
+    → Calls (callOf state input replies report) r s w p → Calls (callOf state input replies report) q t v o
+    → (r ≡ q) × (s ≡ t) × (w ≡ v) × (p ≡ o)
+
+-- pundaliket_event: the number, and every byte of the state
+abbrev pub EventDetermined : Type 0
+EventDetermined =
+    (state : List ℕ) (kind byte r q : ℕ) (s t : List ℕ) → Signals (signalOf state kind byte) r s → Signals (signalOf state kind byte) q t
+    → (r ≡ q) × (s ≡ t)
+
+-- pundaliket_word_to_f32: the refusal, and every byte of the slice
+abbrev pub WordToF32Determined : Type 0
+WordToF32Determined =
+    (word : ℕ) (out : List ℕ) (r q : ℕ) (s t : List ℕ) → Sends (sentOf (hostReply (hostOf word)) out) r s → Sends (sentOf (hostReply (hostOf word)) out) q t
+    → (r ≡ q) × (s ≡ t)
+
+-- pundaliket_f32_to_word: the refusal, and every byte of the slice
+abbrev pub F32ToWordDetermined : Type 0
+F32ToWordDetermined =
+    (bits : ℕ) (out : List ℕ) (r q : ℕ) (s t : List ℕ) → Sends (sentOf (takenReply (takenOf bits)) out) r s → Sends (sentOf (takenReply (takenOf bits)) out) q t
+    → (r ≡ q) × (s ≡ t)

@@ -1,0 +1,128 @@
+-- Demand 1: what is turned away leaves all as it stood, and a bad or cut file keeps the records done before. Definitions and statements only:
+-- proofs/Keeping.antt proves them. Assumes nothing.
+use Prim.Native.Nat.{ℕ, _+_, _-_, _≤_, _<_}
+use mathlib.Core.Path.{_≡_}
+use mathlib.Core.Bool.{true, false}
+use mathlib.Core.List.{List, [], _∷_}
+use lib.ListN.{length, take, drop, getD}
+use Rattle.terms.specs.Limits.{stateBytes, mostInput, reportBytes}
+use Rattle.stack.specs.Stack.{Bytes}
+use Rattle.chip.specs.declared.State.{State}
+use Rattle.host.specs.declared.Reply.{Reply}
+use Rattle.records.specs.Record.{turnOf}
+use Rattle.records.specs.Run.{runOf}
+use Rattle.pundaliket.specs.Bytes.{isState, stateOf, bytesOf}
+use Rattle.pundaliket.specs.Calls.{Called, callOf, signalOf, sentOf}
+use Rattle.promises.specs.Records.{countAt}
+
+-- ---- a call that is turned away
+
+-- 14 writes nothing, whatever else is wrong
+abbrev pub NoReport : Type 0
+NoReport =
+    (state input replies report : List ℕ) → (length report ≡ reportBytes → ⊥)
+    → callOf state input replies report ≡ record { result = 14; state = state; replies = replies; report = report }
+
+-- 13 writes the report alone, both counts 0
+abbrev pub NoState : Type 0
+NoState =
+    (state input replies report : List ℕ) → length report ≡ reportBytes → isState state ≡ false
+    → callOf state input replies report
+    ≡ record { result = 13; state = state; replies = replies; report = 13 ∷ 0 ∷ 0 ∷ 0 ∷ 0 ∷ 0 ∷ 0 ∷ 0 ∷ 0 ∷ [] }
+
+-- and so does 9, over 12,288 bytes
+abbrev pub LongInput : Type 0
+LongInput =
+    (state input replies report : List ℕ) → length report ≡ reportBytes → isState state ≡ true → mostInput < length input
+    → callOf state input replies report
+    ≡ record { result = 9; state = state; replies = replies; report = 9 ∷ 0 ∷ 0 ∷ 0 ∷ 0 ∷ 0 ∷ 0 ∷ 0 ∷ 0 ∷ [] }
+
+-- which bytes stand for a state
+pub record Stands (l : List ℕ) : Type 0 where
+  pub size : length l ≡ stateBytes
+  pub pending : getD l 16 0 ≤ 1
+  pub ready : getD l 17 0 < 128
+  pub service : getD l 18 0 ≤ 1
+
+abbrev pub GoodStates : Type 0
+GoodStates = (l : List ℕ) → (isState l ≡ true → Stands l) × (Stands l → isState l ≡ true)
+
+-- they come back as they were: nothing is lost in reading and writing a state
+abbrev pub StateReturns : Type 0
+StateReturns = (l : List ℕ) → isState l ≡ true → bytesOf (stateOf l) ≡ l
+
+-- an input of no bytes ends at once with 0
+abbrev pub EmptyInput : Type 0
+EmptyInput =
+    (state replies report : List ℕ) → length report ≡ reportBytes → isState state ≡ true
+    → callOf state [] replies report
+    ≡ record { result = 0; state = state; replies = replies; report = 0 ∷ 0 ∷ 0 ∷ 0 ∷ 0 ∷ 0 ∷ 0 ∷ 0 ∷ 0 ∷ [] }
+
+-- a refused event leaves every byte of the state
+abbrev pub EventKept : Type 0
+EventKept =
+    (state : List ℕ) (kind byte : ℕ) → Bytes state → 256 ≤ signalOf state kind byte .result
+    → signalOf state kind byte .state ≡ state
+
+-- a refused conversion leaves every byte of the slice
+abbrev pub OutKept : Type 0
+OutKept = (reply : Reply) (out : List ℕ) → (sentOf reply out .result ≡ 0 → ⊥) → sentOf reply out .out ≡ out
+
+-- a run and an event leave bytes that stand for a state again
+abbrev pub StateStays : Type 0
+StateStays =
+    (state input replies report : List ℕ) → Bytes state → Bytes input → isState state ≡ true
+    → isState (callOf state input replies report .state) ≡ true
+
+abbrev pub StateStaysEvent : Type 0
+StateStaysEvent =
+    (state : List ℕ) (kind byte : ℕ) → Bytes state → byte < 256 → isState state ≡ true → isState (signalOf state kind byte .state) ≡ true
+
+-- ---- replies
+
+-- every byte of replies at or past the report's second count stays, and their number
+abbrev pub RepliesStay : Type 0
+RepliesStay =
+    (state input replies report : List ℕ)
+    → (length (callOf state input replies report .replies) ≡ length replies)
+    × ((i : ℕ) → countAt (callOf state input replies report .report) 5 ≤ i → getD (callOf state input replies report .replies) i 0 ≡ getD replies i 0)
+
+-- ---- a bad file
+
+-- a run that does not end with 0 ends with 5 to 8, the refusal of the record that stands after the bytes taken
+abbrev pub StopsThere : Type 0
+StopsThere =
+    (s : State) (l : List ℕ) (room : ℕ) → (runOf s l room .refusal ≡ 0 → ⊥)
+    → (5 ≤ runOf s l room .refusal) × (runOf s l room .refusal ≤ 8)
+    × (turnOf (runOf s l room .state) (drop (runOf s l room .taken) l) (room - length (runOf s l room .written)) .refusal ≡ runOf s l room .refusal)
+
+-- all that it leaves but the refusal is what the file of the bytes taken leaves: the records done before, and nothing of the one that stops
+abbrev pub BadFile : Type 0
+BadFile =
+    (state input replies report : List ℕ) → length report ≡ reportBytes → isState state ≡ true → length input ≤ mostInput
+    → callOf state (take (countAt (callOf state input replies report .report) 1) input) replies report
+    ≡ record {
+      result = 0;
+      state = callOf state input replies report .state;
+      replies = callOf state input replies report .replies;
+      report = 0 ∷ drop 1 (callOf state input replies report .report);
+    }
+
+-- ---- a file cut after any byte
+
+-- the call on a cut of k bytes beside the call on n bytes that are whole records
+pub record CutCall (cut whole : Called) (k n : ℕ) : Type 0 where
+  pub upto : n ≤ k
+  pub whole-done : whole .result ≡ 0
+  pub whole-taken : countAt (whole .report) 1 ≡ n
+  pub state-is : cut .state ≡ whole .state
+  pub replies-is : cut .replies ≡ whole .replies
+  pub counts-are : drop 1 (cut .report) ≡ drop 1 (whole .report)
+  pub at-end : k ≡ n → cut .result ≡ 0
+  pub in-one : n < k → cut .result ≡ 6
+
+-- a file that ends with 0, cut after any byte and run on the same state in the same room, leaves what its whole records leave
+abbrev pub CutFile : Type 0
+CutFile =
+    (state input replies report : List ℕ) → callOf state input replies report .result ≡ 0 → (k : ℕ) → k ≤ length input
+    → (n : ℕ) × CutCall (callOf state (take k input) replies report) (callOf state (take n input) replies report) k n

@@ -1,0 +1,119 @@
+-- The wrong cores of 01's section 'What the proofs have to say', each as a class of cores of the four calls' types, none of which meets the promises.
+-- Definitions and the statement only: proofs/ShutOut.antt proves it. Assumes nothing.
+use Prim.Native.Nat.{ℕ, _^_, _≤_, _<_}
+use mathlib.Core.Path.{_≡_}
+use mathlib.Core.Logic.{_⊎_}
+use mathlib.Core.Bool.{Bool, true, false}
+use mathlib.Core.List.{List, [], _∷_, _++_}
+use lib.ListN.{length, take}
+use Rattle.terms.specs.Limits.{mostInput, reportBytes}
+use Rattle.stack.specs.Stack.{Bytes, zeros}
+use Rattle.records.specs.Run.{runOf as fileRun}
+use Rattle.pundaliket.specs.Bytes.{isState, stateOf}
+use Rattle.promises.specs.Cores.{Core, Meets, described, driven, Begins, runOf}
+use Rattle.promises.specs.Chains.{Step, Change, Constants}
+use Rattle.promises.specs.Records.{IsRecord, Split, total, lengths, repliesOf, countAt}
+
+-- no core of a class meets the promises
+abbrev pub No : (Core → Type 0) → Type 0
+No Class = (c : Core) → Meets c → Class c → ⊥
+
+-- ---- (a) refuses everything: one of its calls never answers 0 (a single event answers 0 where it returns less than 256)
+pub data RefusesEverything (c : Core) : Type 0 where
+  never-run : ((state input replies report : List ℕ) → Bytes state → Bytes input → Bytes replies → Bytes report → (c .run state input replies report) .result ≡ 0 → ⊥) → RefusesEverything c
+  never-event : ((state : List ℕ) (kind byte : ℕ) → Bytes state → kind < 2 ^ 32 → byte < 256 → (c .event state kind byte) .result < 256 → ⊥) → RefusesEverything c
+  never-float : ((word : ℕ) (out : List ℕ) → word < 2 ^ 32 → Bytes out → (c .word-to-f32 word out) .result ≡ 0 → ⊥) → RefusesEverything c
+  never-word : ((bits : ℕ) (out : List ℕ) → bits < 2 ^ 32 → Bytes out → (c .f32-to-word bits out) .result ≡ 0 → ⊥) → RefusesEverything c
+
+-- ---- (b) a single reply: one of its calls returns the same number on every input
+pub data SingleReply (c : Core) : Type 0 where
+  same-run : (n : ℕ) → ((state input replies report : List ℕ) → Bytes state → Bytes input → Bytes replies → Bytes report → (c .run state input replies report) .result ≡ n) → SingleReply c
+  same-event : (n : ℕ) → ((state : List ℕ) (kind byte : ℕ) → Bytes state → kind < 2 ^ 32 → byte < 256 → (c .event state kind byte) .result ≡ n) → SingleReply c
+  same-float : (n : ℕ) → ((word : ℕ) (out : List ℕ) → word < 2 ^ 32 → Bytes out → (c .word-to-f32 word out) .result ≡ n) → SingleReply c
+  same-word : (n : ℕ) → ((bits : ℕ) (out : List ℕ) → bits < 2 ^ 32 → Bytes out → (c .f32-to-word bits out) .result ≡ n) → SingleReply c
+
+-- ---- (c) does nothing: one of its slices always comes back as it was lent
+pub data DoesNothing (c : Core) : Type 0 where
+  back-state : ((state input replies report : List ℕ) → Bytes state → Bytes input → Bytes replies → Bytes report → (c .run state input replies report) .state ≡ state) → DoesNothing c
+  back-replies : ((state input replies report : List ℕ) → Bytes state → Bytes input → Bytes replies → Bytes report → (c .run state input replies report) .replies ≡ replies) → DoesNothing c
+  back-report : ((state input replies report : List ℕ) → Bytes state → Bytes input → Bytes replies → Bytes report → (c .run state input replies report) .report ≡ report) → DoesNothing c
+  back-event : ((state : List ℕ) (kind byte : ℕ) → Bytes state → kind < 2 ^ 32 → byte < 256 → (c .event state kind byte) .state ≡ state) → DoesNothing c
+  back-float : ((word : ℕ) (out : List ℕ) → word < 2 ^ 32 → Bytes out → (c .word-to-f32 word out) .out ≡ out) → DoesNothing c
+  back-word : ((bits : ℕ) (out : List ℕ) → bits < 2 ^ 32 → Bytes out → (c .f32-to-word bits out) .out ≡ out) → DoesNothing c
+
+-- ---- (d) works only its first record: the state, or the replies, after a file are those of its first record
+pub data FirstRecordOnly (c : Core) : Type 0 where
+  first-state : ((state r rest replies report : List ℕ) → IsRecord r → Bytes state → Bytes r → Bytes rest → Bytes replies → Bytes report
+      → (c .run state (r ++ rest) replies report) .state ≡ (c .run state r replies report) .state) → FirstRecordOnly c
+  first-replies : ((state r rest replies report : List ℕ) → IsRecord r → Bytes state → Bytes r → Bytes rest → Bytes replies → Bytes report
+      → (c .run state (r ++ rest) replies report) .replies ≡ (c .run state r replies report) .replies) → FirstRecordOnly c
+
+-- ---- (e) invented byte counts: on some one input a count is not the summed sizes of the records taken, those refused with 1 to 4 among them, or of their
+-- replies (Records: every file splits so); or it is not 0 where the call is turned away with 13 or 9
+pub data InventedCounts (c : Core) : Type 0 where
+  wrong-taken : (state input replies report : List ℕ) → Bytes state → Bytes input → Bytes replies → Bytes report → length report ≡ reportBytes → isState state ≡ true → length input ≤ mostInput
+      → (split : Split (stateOf state) input (length replies) (fileRun (stateOf state) input (length replies)))
+      → (countAt ((c .run state input replies report) .report) 1 ≡ total (lengths (split .records)) → ⊥) → InventedCounts c
+  wrong-written : (state input replies report : List ℕ) → Bytes state → Bytes input → Bytes replies → Bytes report → length report ≡ reportBytes → isState state ≡ true → length input ≤ mostInput
+      → (split : Split (stateOf state) input (length replies) (fileRun (stateOf state) input (length replies)))
+      → (countAt ((c .run state input replies report) .report) 5 ≡ total (lengths (repliesOf (stateOf state) (split .records) (length replies))) → ⊥) → InventedCounts c
+  wrong-away : (state input replies report : List ℕ) → Bytes state → Bytes input → Bytes replies → Bytes report → length report ≡ reportBytes → (isState state ≡ false) ⊎ (mostInput < length input)
+      → ((countAt ((c .run state input replies report) .report) 1 ≡ 0) × (countAt ((c .run state input replies report) .report) 5 ≡ 0) → ⊥) → InventedCounts c
+
+-- ---- (f) answers every chain with zero
+-- after every chain of one or more steps, from any state with nothing pending, on any proper word, the zero word lies on top
+abbrev pub ZeroChains : Core → Type 0
+ZeroChains c =
+    (state : List ℕ) (w : ℕ) (sr : ℕ → Bool) (k : Step) (ks : List Step) → Begins state w → Constants (k ∷ ks) → take 4 (driven c state (runOf w sr (k ∷ ks))) ≡ zeros 4
+
+-- ---- the inputs that tell
+-- the 19 bytes of a state after reset, a report's nine bytes, and a file of two records that push 55 and AA
+abbrev pub fresh : List ℕ
+fresh = zeros 19
+
+abbrev pub nine : List ℕ
+nine = zeros 9
+
+abbrev pub first : List ℕ
+first = 3 ∷ 0 ∷ 1 ∷ 0 ∷ 0x55 ∷ []
+
+abbrev pub second : List ℕ
+second = 3 ∷ 0 ∷ 1 ∷ 0 ∷ 0xaa ∷ []
+
+-- what every core that meets the promises does with them
+pub record Tells (c : Core) : Type 0 where
+  -- (a), (b): each call answers 0 to one input and another number to another
+  pub run-0 : (c .run fresh [] [] nine) .result ≡ 0
+  pub run-14 : (c .run fresh [] [] []) .result ≡ 14
+  pub event-0 : (c .event fresh 5 0) .result ≡ 0
+  pub event-5 : (c .event fresh 0 0) .result ≡ 1280
+  pub float-0 : (c .word-to-f32 0 (zeros 4)) .result ≡ 0
+  pub float-4 : (c .word-to-f32 1 (zeros 4)) .result ≡ 4
+  pub word-0 : (c .f32-to-word 0 (zeros 4)) .result ≡ 0
+  pub word-10 : (c .f32-to-word 0x7f800000 (zeros 4)) .result ≡ 10
+  -- (c), (d), (e): one record, and two
+  pub one-state : (c .run fresh first (zeros 10) nine) .state ≡ 0x55 ∷ zeros 15 ++ (1 ∷ 0 ∷ 0 ∷ [])
+  pub one-replies : (c .run fresh first (zeros 10) nine) .replies ≡ 3 ∷ 0 ∷ 129 ∷ 0 ∷ 0 ∷ zeros 5
+  pub one-report : (c .run fresh first (zeros 10) nine) .report ≡ 0 ∷ 5 ∷ 0 ∷ 0 ∷ 0 ∷ 5 ∷ 0 ∷ 0 ∷ 0 ∷ []
+  pub two-state : (c .run fresh (first ++ second) (zeros 10) nine) .state ≡ 0xaa ∷ 0x55 ∷ zeros 14 ++ (0 ∷ 0 ∷ 0 ∷ [])
+  pub two-replies : (c .run fresh (first ++ second) (zeros 10) nine) .replies ≡ 3 ∷ 0 ∷ 129 ∷ 0 ∷ 0 ∷ 3 ∷ 0 ∷ 129 ∷ 0 ∷ 0 ∷ []
+  pub two-report : (c .run fresh (first ++ second) (zeros 10) nine) .report ≡ 0 ∷ 10 ∷ 0 ∷ 0 ∷ 0 ∷ 10 ∷ 0 ∷ 0 ∷ 0 ∷ []
+  pub event-state : (c .event fresh 1 0x55) .state ≡ 0x55 ∷ zeros 15 ++ (1 ∷ 0 ∷ 0 ∷ [])
+  pub float-out : (c .word-to-f32 0x01800000 (zeros 4)) .out ≡ 0 ∷ 0 ∷ 0x80 ∷ 0x3f ∷ []
+  pub word-out : (c .f32-to-word 0x3f800000 (zeros 4)) .out ≡ 0 ∷ 0 ∷ 0x80 ∷ 1 ∷ []
+  -- (f): the sign of 1 changed is -1
+  pub chain : take 4 (driven c fresh (runOf 0x01800000 (λ (n : ℕ). false) (Change ∷ []))) ≡ 0x81 ∷ 0x80 ∷ 0 ∷ 0 ∷ []
+
+-- ---- the statement
+pub record WrongCores : Type 0 where
+  -- the promises can be met
+  pub met : Meets described
+  -- every core that meets them does this with the inputs that tell
+  pub tells : (c : Core) → Meets c → Tells c
+  -- so that none of these does
+  pub refuses-everything : No RefusesEverything
+  pub single-reply : No SingleReply
+  pub does-nothing : No DoesNothing
+  pub first-record-only : No FirstRecordOnly
+  pub invented-counts : No InventedCounts
+  pub zero-chains : No ZeroChains

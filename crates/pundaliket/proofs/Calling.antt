@@ -1,0 +1,121 @@
+-- The ways through the exported calls: by their tests, which case of the definition holds. Assumes nothing.
+use mathlib.Core.Path.{_≡_, refl, sym, _∙_}
+use mathlib.Core.Bool.{Bool, true, false, not}
+use mathlib.Core.List.{List}
+use Prim.Native.Nat.{ℕ, _≤_, _<_}
+use native.Mathlib.Omega.{arith}
+use lib.ListN.{length, getD}
+use borrow.Author.Tests.{lt-ltb, le-ltb, eq-eqb, ne-eqb}
+use Rattle.terms.specs.declared.Refusal.{Refusal}
+use Rattle.terms.specs.declared.Refusal.the-variants.{NoRoom, InputTooLong, BadState}
+use Rattle.terms.specs.Refusal.{numberOf}
+use Rattle.chip.specs.declared.State.{State}
+use Rattle.chip.specs.declared.Answer.{Answer}
+use Rattle.host.specs.declared.Reply.{Reply}
+use Rattle.records.specs.Run.{Outcome, Runs, runOf}
+use Rattle.records.proofs.Tests.{either-eq}
+use Rattle.pundaliket.specs.Bytes.{isState, stateOf, bytesOf, reportOf, le4}
+use Rattle.pundaliket.specs.Calls.{ranOf, away, callOf, Calls, eventOf, joinedOf, signalBy, signalOf, Signals, sentOf, Sends}
+
+pub false-true : false ≡ true → ⊥
+false-true e = let z : _≡_ {A = ℕ} 0 1 = cc in omega arith
+
+-- a test that failed, and one that did not, as the code's `!` says it
+pub failed : (x y : Bool) → x ≡ y → not x ≡ true → y ≡ false
+failed true y e n = absurd (false-true n)
+failed false y e n = sym e
+
+pub passed : (x y : Bool) → x ≡ y → not x ≡ false → y ≡ true
+passed true y e n = sym e
+passed false y e n = absurd (false-true (sym n))
+
+module _ (l : List ℕ) where
+  -- the tests of a state's bytes
+  pub bad-length : (length l ≡ 19 → ⊥) → false ≡ isState l
+  unfolding isState
+  bad-length a = simp ne-eqb
+
+  pub bad-pending : length l ≡ 19 → 1 < getD l 16 0 → false ≡ isState l
+  unfolding isState
+  bad-pending a b = simp (eq-eqb, lt-ltb)
+
+  pub is-busy : length l ≡ 19 → getD l 16 0 ≤ 1 → 127 < getD l 17 0 → false ≡ isState l
+  unfolding isState
+  is-busy a b d = simp (eq-eqb, lt-ltb, le-ltb)
+
+  pub bad-service : length l ≡ 19 → getD l 16 0 ≤ 1 → getD l 17 0 ≤ 127 → 1 < getD l 18 0 → false ≡ isState l
+  unfolding isState
+  bad-service a b d e = simp (eq-eqb, lt-ltb, le-ltb)
+
+  pub is-good : length l ≡ 19 → getD l 16 0 ≤ 1 → getD l 17 0 ≤ 127 → getD l 18 0 ≤ 1 → true ≡ isState l
+  unfolding isState
+  is-good a b d e = simp (eq-eqb, le-ltb)
+
+-- a run of the code, with its state and report laid out
+pub called : (o : Outcome) (refusal : ℕ) (s : State) (taken written : ℕ) (input replies left state report : List ℕ)
+    → Runs o refusal s taken written input replies left → state ≡ bytesOf s → report ≡ reportOf refusal taken written
+    → Calls (ranOf o replies) refusal state left report
+called o refusal s taken written input replies left state report r a b = record {
+  result-is = r .refusal-is;
+  state-is = a ∙ rw (r .state-is);
+  replies-is = r .left-is;
+  report-is = b ∙ rw (r .refusal-is, r .taken-is, r .written-is);
+}
+
+-- a call that is turned away
+pub turned-away : (r : Refusal) (n : ℕ) (state replies report : List ℕ) → n ≡ numberOf r → report ≡ reportOf (numberOf r) 0 0
+    → Calls (away r state replies) n state replies report
+turned-away r n state replies report e h = record { result-is = e; state-is = refl; replies-is = refl; report-is = h }
+
+module _ (state input replies report : List ℕ) where
+  pub bad-report : (length report ≡ 9 → ⊥) → (n : ℕ) → n ≡ 14 → Calls (callOf state input replies report) n state replies report
+  unfolding callOf
+  bad-report a n e = simp ne-eqb record { result-is = e; state-is = refl; replies-is = refl; report-is = refl }
+
+  pub bad-state : length report ≡ 9 → isState state ≡ false → callOf state input replies report ≡ away BadState state replies
+  unfolding callOf
+  bad-state a b = rw (eq-eqb (length report) 9 a, b)
+
+  pub too-long : length report ≡ 9 → isState state ≡ true → 12288 < length input → callOf state input replies report ≡ away InputTooLong state replies
+  unfolding callOf
+  too-long a b d = rw (eq-eqb (length report) 9 a, b, lt-ltb 12288 (length input) d)
+
+  pub good : length report ≡ 9 → isState state ≡ true → length input ≤ 12288
+      → callOf state input replies report ≡ ranOf (runOf (stateOf state) input (length replies)) replies
+  unfolding callOf
+  good a b d = rw (eq-eqb (length report) 9 a, b, le-ltb 12288 (length input) d)
+
+-- the length of a state
+pub state-length : (l : List ℕ) → isState l ≡ true → length l ≡ 19
+unfolding isState
+state-length l h = either-eq (λ (b : Bool). b ≡ true → length l ≡ 19) (length l) 19 _ _ (λ e z. e) (λ n z. absurd (false-true z)) h
+
+-- a single event: turned away, refused, done
+module _ (state : List ℕ) (kind byte : ℕ) where
+  pub no-state : isState state ≡ false → (n r : ℕ) → n ≡ numberOf BadState → r ≡ joinedOf n 0 → Signals (signalOf state kind byte) r state
+  unfolding signalOf
+  no-state h n r e f = rw h record { result-is = f ∙ rw e; state-is = refl }
+
+  module _ (h : isState state ≡ true) (a : Answer) (is : a ≡ eventOf (stateOf state) kind byte) (n r : ℕ) (e : n ≡ numberOf (a .refusal)) (f : r ≡ joinedOf n (a .byte)) where
+    pub no-event : (n ≡ 0 → ⊥) → Signals (signalOf state kind byte) r state
+    unfolding signalOf
+    no-event g = rw (h, ← is, ← e, ne-eqb n 0 g) record { result-is = f; state-is = refl }
+
+    pub an-event : (left : List ℕ) → n ≡ 0 → left ≡ bytesOf (a .state) → Signals (signalOf state kind byte) r left
+    unfolding signalOf
+    an-event left g d = rw (h, ← is, ← e, eq-eqb n 0 g) record { result-is = f; state-is = d }
+
+-- a conversion: a slice of another length, a refusal, the bits sent
+module _ (reply : Reply) (out : List ℕ) where
+  pub no-slice : (length out ≡ 4 → ⊥) → (n : ℕ) → n ≡ numberOf NoRoom → Sends (sentOf reply out) n out
+  unfolding sentOf
+  no-slice h n e = simp ne-eqb record { result-is = e; out-is = refl }
+
+  module _ (h : length out ≡ 4) (n : ℕ) (e : n ≡ numberOf (reply .refusal)) where
+    pub no-value : (n ≡ 0 → ⊥) → Sends (sentOf reply out) n out
+    unfolding sentOf
+    no-value g = rw (eq-eqb (length out) 4 h, ← e, ne-eqb n 0 g) record { result-is = refl; out-is = refl }
+
+    pub a-value : n ≡ 0 → (left : List ℕ) → left ≡ le4 (reply .bits) → Sends (sentOf reply out) 0 left
+    unfolding sentOf
+    a-value g left d = rw (eq-eqb (length out) 4 h, ← e, g) record { result-is = refl; out-is = d }

@@ -1,0 +1,115 @@
+-- What each exported call returns and leaves in each slice that it was lent. Definitions only. Assumes nothing.
+use Prim.Native.Nat.{ℕ, _+_, _*_}
+use mathlib.Core.Path.{_≡_}
+use mathlib.Core.Bool.{cond}
+use mathlib.Core.List.{List, _++_}
+use lib.Dec.{eqb, ltb}
+use lib.ListN.{length, drop}
+use Rattle.terms.specs.declared.Refusal.{Refusal}
+use Rattle.terms.specs.declared.Refusal.the-variants.{NoSuchKind, NoRoom, InputTooLong, BadState, BadReport}
+use Rattle.terms.specs.Refusal.{numberOf}
+use Rattle.terms.specs.Limits.{reportBytes, mostInput}
+use Rattle.chip.specs.declared.State.{State}
+use Rattle.chip.specs.declared.Answer.{Answer}
+use Rattle.chip.specs.Step.{pushOf, popOf, readOf, resetOf, acknowledgeOf, commandOf}
+use Rattle.host.specs.declared.Reply.{Reply}
+use Rattle.records.specs.Run.{Outcome, runOf}
+use Rattle.pundaliket.specs.Bytes.{isState, stateOf, bytesOf, reportOf, wordBytes, le4}
+
+-- ---- the run
+
+-- what the call returns, and what state, replies and report hold after
+pub record Called : Type 0 where
+  pub result : ℕ
+  pub state : List ℕ
+  pub replies : List ℕ
+  pub report : List ℕ
+
+-- after a run: replies past the written ones stay
+abbrev pub ranOf : Outcome → List ℕ → Called
+ranOf o replies = record {
+  result = o .refusal;
+  state = bytesOf (o .state);
+  replies = o .written ++ drop (length (o .written)) replies;
+  report = reportOf (o .refusal) (o .taken) (length (o .written));
+}
+
+-- turned away: only the report is written, both counts 0
+abbrev pub away : Refusal → List ℕ → List ℕ → Called
+away r state replies = record { result = numberOf r; state = state; replies = replies; report = reportOf (numberOf r) 0 0 }
+
+-- the order is 14, 13, 9; 14 writes nothing
+unfoldable pub callOf : List ℕ → List ℕ → List ℕ → List ℕ → Called
+callOf state input replies report =
+    cond (eqb (length report) reportBytes)
+    (cond (isState state)
+    (cond (ltb mostInput (length input)) (away InputTooLong state replies) (ranOf (runOf (stateOf state) input (length replies)) replies))
+    (away BadState state replies))
+    (record { result = numberOf BadReport; state = state; replies = replies; report = report })
+
+-- what a call did beside the definition's
+pub record Calls (c : Called) (result : ℕ) (state replies report : List ℕ) : Type 0 where
+  pub result-is : result ≡ c .result
+  pub state-is : state ≡ c .state
+  pub replies-is : replies ≡ c .replies
+  pub report-is : report ≡ c .report
+
+-- ---- a single event
+
+-- an event by its kind: 5 for a kind that is not 1 to 6
+abbrev pub eventOf : State → ℕ → ℕ → Answer
+eventOf s kind byte =
+    cond (eqb kind 1) (pushOf s byte)
+    (cond (eqb kind 2) (popOf s)
+    (cond (eqb kind 3) (commandOf s byte)
+    (cond (eqb kind 4) (readOf s)
+    (cond (eqb kind 5) (resetOf s)
+    (cond (eqb kind 6) (acknowledgeOf s)
+    (record { refusal = NoSuchKind; byte = 0; state = s }))))))
+
+-- what the call returns, and what the state holds after
+pub record Signal : Type 0 where
+  pub result : ℕ
+  pub state : List ℕ
+
+-- 256 times the refusal plus the byte read
+abbrev pub joinedOf : ℕ → ℕ → ℕ
+joinedOf refusal byte = 256 * refusal + byte
+
+-- the state is written on 0 alone
+abbrev pub signalBy : List ℕ → Answer → Signal
+signalBy state a = record {
+  result = joinedOf (numberOf (a .refusal)) (a .byte);
+  state = cond (eqb (numberOf (a .refusal)) 0) (bytesOf (a .state)) state;
+}
+
+-- 13 comes first
+unfoldable pub signalOf : List ℕ → ℕ → ℕ → Signal
+signalOf state kind byte =
+    cond (isState state) (signalBy state (eventOf (stateOf state) kind byte)) (record { result = joinedOf (numberOf BadState) 0; state = state })
+
+pub record Signals (t : Signal) (result : ℕ) (state : List ℕ) : Type 0 where
+  pub result-is : result ≡ t .result
+  pub state-is : state ≡ t .state
+
+-- ---- a conversion
+
+-- what the call returns, and what the slice holds after
+pub record Sent : Type 0 where
+  pub result : ℕ
+  pub out : List ℕ
+
+-- the slice is written on 0 alone
+abbrev pub sentBy : Reply → List ℕ → Sent
+sentBy reply out = record {
+  result = numberOf (reply .refusal);
+  out = cond (eqb (numberOf (reply .refusal)) 0) (le4 (reply .bits)) out;
+}
+
+-- 8 comes first
+unfoldable pub sentOf : Reply → List ℕ → Sent
+sentOf reply out = cond (eqb (length out) wordBytes) (sentBy reply out) (record { result = numberOf NoRoom; out = out })
+
+pub record Sends (t : Sent) (result : ℕ) (out : List ℕ) : Type 0 where
+  pub result-is : result ≡ t .result
+  pub out-is : out ≡ t .out

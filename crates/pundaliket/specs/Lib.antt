@@ -1,0 +1,3 @@
+-- The book of the exported calls.
+pub mod Bytes
+pub mod Calls

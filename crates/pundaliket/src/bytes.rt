@@ -1,0 +1,100 @@
+// The state as 19 bytes and the report as 9: the one place where their layout is known.
+use chip::State;
+ghost use mathlib.Core.Path.{_≡_};
+ghost use lib.ListN.{length};
+ghost use Rattle.terms.specs.Limits.{stateBytes, reportBytes};
+ghost use Rattle.pundaliket.specs.Bytes.{isState, stateOf, flagOf, bytesOf, reportOf, wordBytes, le4};
+
+// The bytes of a slice that takes a word or an f32.
+pub const WORD_BYTES: usize = 4;
+
+// Whether the bytes stand for a state: 19 of them, both flags 0 or 1, busy clear.
+pub fn is_state(state: &[u8]) -> bool
+    ensures { λ r. ⌜ r ≡ isState (now (state .entry)) ⌝ }
+{
+    if state.len() != terms::STATE_BYTES {
+        return false;
+    }
+    if 1 < state[16] {
+        return false;
+    }
+    if 127 < state[17] {
+        return false;
+    }
+    if 1 < state[18] {
+        return false;
+    }
+    true
+}
+
+// The state that 19 bytes stand for.
+pub fn load(state: &[u8]) -> State
+    requires { ⌜ length (now state) ≡ stateBytes ⌝ }
+    ensures { λ r. ⌜ r ≡ stateOf (now (state .entry)) ⌝ }
+{
+    let mut stack = [0u8; 16];
+    let mut i = 0;
+    while i < terms::STACK_BYTES {
+        stack[i] = state[i];
+        i += 1;
+    }
+    let pending = state[16] == 1;
+    let status = state[17];
+    let service = state[18] == 1;
+    State {
+        stack,
+        pending,
+        status,
+        service,
+    }
+}
+
+// A flag as a byte.
+fn flag(set: bool) -> u8
+    ensures { λ r. ⌜ r ≡ flagOf set ⌝ }
+{
+    if set { 1 } else { 0 }
+}
+
+// The 19 bytes of a state.
+pub fn store(state: &mut [u8], s: State)
+    requires { ⌜ length (now state) ≡ stateBytes ⌝ }
+    ensures { λ _. ⌜ now (state .exit) ≡ bytesOf s ⌝ }
+{
+    state[16] = flag(s.pending);
+    state[17] = s.status;
+    state[18] = flag(s.service);
+    let stack = s.stack;
+    let mut i = 0;
+    while i < terms::STACK_BYTES {
+        state[i] = stack[i];
+        i += 1;
+    }
+}
+
+// The 9 bytes of a report.
+pub fn fill_report(report: &mut [u8], refusal: u8, taken: usize, written: usize)
+    requires { ⌜ length (now report) ≡ reportBytes ⌝ }
+    ensures { λ _. ⌜ now (report .exit) ≡ reportOf refusal taken written ⌝ }
+{
+    report[0] = refusal;
+    report[1] = (taken % 256) as u8;
+    report[2] = (taken / 256 % 256) as u8;
+    report[3] = (taken / 65536 % 256) as u8;
+    report[4] = (taken / 16777216 % 256) as u8;
+    report[5] = (written % 256) as u8;
+    report[6] = (written / 256 % 256) as u8;
+    report[7] = (written / 65536 % 256) as u8;
+    report[8] = (written / 16777216 % 256) as u8;
+}
+
+// The four bytes of 32 bits, little-endian.
+pub fn put_word(out: &mut [u8], bits: u32)
+    requires { ⌜ length (now out) ≡ wordBytes ⌝ }
+    ensures { λ _. ⌜ now (out .exit) ≡ le4 bits ⌝ }
+{
+    out[0] = (bits % 256) as u8;
+    out[1] = (bits / 256 % 256) as u8;
+    out[2] = (bits / 65536 % 256) as u8;
+    out[3] = (bits / 16777216 % 256) as u8;
+}

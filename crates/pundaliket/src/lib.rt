@@ -1,0 +1,146 @@
+// The calls that the rack controller's firmware makes, on byte slices that it lends. Every
+// call refuses by 01's number, asks nothing of its caller, and says what each slice holds after.
+pub mod bytes;
+
+use bytes::fill_report;
+use bytes::is_state;
+use bytes::load;
+use bytes::put_word;
+use bytes::store;
+use chip::Answer;
+use chip::State;
+use host::Reply;
+use records::run::run_all;
+use terms::Refusal;
+use terms::number;
+ghost use mathlib.Core.Path.{_≡_};
+ghost use Prim.Native.Nat.{_+_, _*_};
+ghost use lib.ListN.{length};
+ghost use Rattle.host.specs.Host.{hostOf, takenOf, hostReply, takenReply};
+ghost use Rattle.records.specs.Run.{runOf};
+ghost use Rattle.terms.specs.Refusal.{numberOf};
+ghost use Rattle.terms.specs.Limits.{stateBytes, reportBytes};
+ghost use Rattle.pundaliket.specs.Bytes.{stateOf, reportOf};
+ghost use Rattle.pundaliket.specs.Calls.{Calls, callOf, ranOf, eventOf, signalOf, Signals, sentOf, Sends};
+
+// The report of a call that is turned away: the refusal and two counts of 0.
+fn turn_away(report: &mut [u8], refusal: Refusal) -> u32
+    requires { ⌜ length (now report) ≡ reportBytes ⌝ }
+    ensures { λ r. ⌜ (r ≡ numberOf refusal) × (now (report .exit) ≡ reportOf (numberOf refusal) 0 0) ⌝ }
+{
+    let n = number(refusal);
+    fill_report(report, n, 0, 0);
+    n as u32
+}
+
+// The run on a good state: decoded once, run, encoded once, reported.
+fn run_good(state: &mut [u8], input: &[u8], replies: &mut [u8], report: &mut [u8]) -> u32
+    requires { ⌜ (length (now state) ≡ stateBytes) × (length (now report) ≡ reportBytes) ⌝ }
+    ensures { λ r. ⌜ Calls (ranOf (runOf (stateOf (now (state .entry))) (now (input .entry)) (length (now (replies .entry)))) (now (replies .entry))) r (now (state .exit)) (now (replies .exit)) (now (report .exit)) ⌝ }
+{
+    let s = load(state);
+    let r = run_all(s, input, replies);
+    let t = r.state;
+    store(state, t);
+    fill_report(report, r.refusal, r.taken, r.written);
+    r.refusal as u32
+}
+
+// A file of records run on a state. Returns the refusal; 14, then 13, then 9 before any record.
+#[no_mangle]
+pub extern "C" fn pundaliket_run(
+    state: &mut [u8],
+    input: &[u8],
+    replies: &mut [u8],
+    report: &mut [u8],
+) -> u32
+    ensures { λ r. ⌜ Calls (callOf (now (state .entry)) (now (input .entry)) (now (replies .entry)) (now (report .entry))) r (now (state .exit)) (now (replies .exit)) (now (report .exit)) ⌝ }
+{
+    if report.len() != terms::REPORT_BYTES {
+        return number(Refusal::BadReport) as u32;
+    }
+    if !is_state(state) {
+        return turn_away(report, Refusal::BadState);
+    }
+    if terms::MOST_INPUT < input.len() {
+        return turn_away(report, Refusal::InputTooLong);
+    }
+    run_good(state, input, replies, report)
+}
+
+// One event of a kind on a state; the byte is the one pushed or the code, else ignored.
+fn event(s: State, kind: u32, byte: u8) -> Answer
+    ensures { λ a. ⌜ a ≡ eventOf s kind byte ⌝ }
+{
+    match kind {
+        1 => s.push(byte),
+        2 => s.pop(),
+        3 => s.command(byte),
+        4 => s.status(),
+        5 => s.reset(),
+        6 => s.acknowledge(),
+        _ => Answer {
+            refusal: Refusal::NoSuchKind,
+            byte: 0,
+            state: s,
+        },
+    }
+}
+
+// 256 times a refusal plus a byte.
+fn joined(refusal: u8, byte: u8) -> u32
+    ensures { λ r. ⌜ r ≡ 256 * refusal + byte ⌝ }
+{
+    256 * refusal as u32 + byte as u32
+}
+
+// One event on a state. Returns 256 times the refusal plus the byte read; a refused event writes nothing.
+#[no_mangle]
+pub extern "C" fn pundaliket_event(state: &mut [u8], kind: u32, byte: u8) -> u32
+    ensures { λ r. ⌜ Signals (signalOf (now (state .entry)) kind byte) r (now (state .exit)) ⌝ }
+{
+    if !is_state(state) {
+        return joined(number(Refusal::BadState), 0);
+    }
+    let a = event(load(state), kind, byte);
+    let refusal = a.refusal;
+    let n = number(refusal);
+    if n != 0 {
+        return joined(n, a.byte);
+    }
+    let t = a.state;
+    store(state, t);
+    joined(n, a.byte)
+}
+
+// The reply of a conversion, its 32 bits to `out` on 0 alone; a slice that is not four bytes first.
+fn send(reply: Reply, out: &mut [u8]) -> u32
+    ensures { λ r. ⌜ Sends (sentOf reply (now (out .entry))) r (now (out .exit)) ⌝ }
+{
+    if out.len() != bytes::WORD_BYTES {
+        return number(Refusal::NoRoom) as u32;
+    }
+    let refusal = reply.refusal;
+    let code = number(refusal);
+    if code != 0 {
+        return code as u32;
+    }
+    put_word(out, reply.bits);
+    0
+}
+
+// The f32 of a word's value, as its bits to `out`. Returns the refusal.
+#[no_mangle]
+pub extern "C" fn pundaliket_word_to_f32(word: u32, out: &mut [u8]) -> u32
+    ensures { λ r. ⌜ Sends (sentOf (hostReply (hostOf word)) (now (out .entry))) r (now (out .exit)) ⌝ }
+{
+    send(host::reply_to_word(word), out)
+}
+
+// The word of the value of an f32, given by its bits, to `out`. Returns the refusal.
+#[no_mangle]
+pub extern "C" fn pundaliket_f32_to_word(bits: u32, out: &mut [u8]) -> u32
+    ensures { λ r. ⌜ Sends (sentOf (takenReply (takenOf bits)) (now (out .entry))) r (now (out .exit)) ⌝ }
+{
+    send(host::reply_to_f32(bits), out)
+}

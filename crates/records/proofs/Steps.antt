@@ -1,0 +1,43 @@
+-- The ways of a record step: it stops with 5 to 8 and nothing done, or works the event that the record holds. Assumes nothing.
+use mathlib.Core.Path.{_≡_, refl}
+use mathlib.Core.List.{List, []}
+use Prim.Native.Nat.{ℕ, _+_, _≤_, _<_}
+use native.Mathlib.Omega.{arith}
+use lib.Dec.{lit≤}
+use lib.ListN.{length, take, drop}
+use Rattle.terms.specs.declared.Refusal.{Refusal}
+use Rattle.terms.specs.declared.Refusal.the-variants.{NoRoom}
+use Rattle.terms.specs.Refusal.{numberOf}
+use Rattle.chip.specs.declared.State.{State}
+use Rattle.records.specs.declared.head.Event.{Event}
+use Rattle.records.specs.Record.{payloadOf, answeredOf, answerOf, Holds, Turned, stopped, worked, turnBy, turnOf}
+use Rattle.records.proofs.Tests.{either-lt}
+use Rattle.records.proofs.Heads.{heads}
+
+-- what holds of a record that stops and of one that is worked holds of the step
+pub steps : (P : Turned → Type 0) (s : State) (l : List ℕ) (room : ℕ)
+    → ((r : Refusal) → 5 ≤ numberOf r → numberOf r ≤ 8 → P (stopped r s))
+    → ((e : Event) → Holds l e → 5 + answeredOf e ≤ room → P (worked s e (answerOf s (take (payloadOf e) (drop 4 l)) e)))
+    → P (turnOf s l room)
+unfolding turnOf
+steps P s l room stop work =
+    heads (λ h. P (turnBy s l room h)) (λ r g. stop r (g .0) (omega (arith, g .1))) l
+    (λ e h. either-lt P room (5 + answeredOf e) _ _ (λ g. stop NoRoom (lit≤ tt) (lit≤ tt)) (λ g. work e h g))
+
+abbrev Moves : Turned → Type 0
+Moves t = t .refusal ≡ 0 → 0 < t .size
+
+-- a record that is taken has at least one byte
+pub moves : (s : State) (l : List ℕ) (room : ℕ) → Moves (turnOf s l room)
+moves s l room = steps Moves s l room (λ r a b z. omega arith) (λ e h g z. omega arith)
+
+-- a record that stops is no byte long here, has no reply, and leaves the state
+pub record Idle (s : State) (t : Turned) : Type 0 where
+  pub state-is : t .state ≡ s
+  pub size-is : t .size ≡ 0
+  pub reply-is : t .reply ≡ []
+
+pub idle : (s : State) (l : List ℕ) (room : ℕ) → (turnOf s l room .refusal ≡ 0 → ⊥) → Idle s (turnOf s l room)
+idle s l room =
+    steps (λ t. (t .refusal ≡ 0 → ⊥) → Idle s t) s l room
+    (λ r a b z. record { state-is = refl; size-is = refl; reply-is = refl }) (λ e h g z. absurd (z refl))

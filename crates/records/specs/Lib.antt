@@ -1,0 +1,3 @@
+-- The book of record files.
+pub mod Record
+pub mod Run

@@ -1,0 +1,192 @@
+-- Record files: what the head of a record says, what its event answers, and its reply. Definitions only. Assumes nothing.
+use Prim.Native.Nat.{ℕ, zero, suc, _+_, _*_, _-_, _/_, _%_, _≤_, _<_}
+use mathlib.Core.Path.{_≡_}
+use mathlib.Core.List.{List, [], _∷_, _++_}
+use mathlib.Core.Bool.{cond}
+use lib.Dec.{ltb, eqb}
+use lib.ListN.{length, take, drop, getD}
+use Rattle.terms.specs.declared.Refusal.{Refusal}
+use Rattle.terms.specs.declared.Refusal.the-variants.{Done, NoSuchKind, CutShort, BadLength, NoRoom}
+use Rattle.terms.specs.Refusal.{numberOf}
+use Rattle.terms.specs.Limits.{mostPayload, leastLength, mostLength}
+use Rattle.chip.specs.declared.State.{State}
+use Rattle.chip.specs.declared.Answer.{Answer}
+use Rattle.chip.specs.Step.{pushOf, popOf, readOf, resetOf, acknowledgeOf, commandOf}
+use Rattle.chip.specs.Turns.{bytesPopped}
+use Rattle.records.specs.declared.head.Event.{Event}
+use Rattle.records.specs.declared.head.Event.the-variants.{Push, Pop, Command, Status, Reset, Acknowledge}
+use Rattle.records.specs.declared.head.Head.{Head}
+use Rattle.records.specs.declared.head.Head.the-variants.{Whole, Stop}
+
+-- the two-byte number at a place, little-endian
+abbrev pub wordAt : List ℕ → ℕ → ℕ
+wordAt l i = getD l i 0 + getD l (i + 1) 0 * 256
+
+-- a number as two bytes, little-endian
+abbrev pub le2 : ℕ → List ℕ
+le2 n = n % 256 ∷ n / 256 ∷ []
+
+-- ---- an event: 01's number of its kind, the bytes of its payload, the bytes of data in its reply
+abbrev pub kindOf : Event → ℕ
+kindOf (Push n) = 1
+kindOf (Pop n) = 2
+kindOf (Command code) = 3
+kindOf Status = 4
+kindOf Reset = 5
+kindOf Acknowledge = 6
+
+abbrev pub payloadOf : Event → ℕ
+payloadOf (Push n) = n
+payloadOf (Pop n) = 1
+payloadOf (Command code) = 1
+payloadOf Status = 0
+payloadOf Reset = 0
+payloadOf Acknowledge = 0
+
+abbrev pub answeredOf : Event → ℕ
+answeredOf (Push n) = 0
+answeredOf (Pop n) = n
+answeredOf (Command code) = 0
+answeredOf Status = 1
+answeredOf Reset = 0
+answeredOf Acknowledge = 0
+
+-- 01's number of a head: 0 for a whole record
+abbrev pub headNumber : Head → ℕ
+headNumber (Whole e) = 0
+headNumber (Stop r) = numberOf r
+
+-- ---- the head of a record
+
+-- a payload of n bytes where another number is wanted is 7
+abbrev pub exactly : ℕ → ℕ → Event → Head
+exactly wanted n e = cond (eqb n wanted) (Whole e) (Stop BadLength)
+
+-- a push of no bytes is 7; one of more than 16 is over the length already
+abbrev pub pushRow : ℕ → Head
+pushRow n = cond (ltb n 1) (Stop BadLength) (Whole (Push n))
+
+-- a pop whose payload is not one byte, or whose count is not 1 to 16, is 7
+abbrev pub popRow : ℕ → ℕ → Head
+popRow n count =
+    cond (eqb n 1)
+    (cond (ltb count 1) (Stop BadLength) (cond (ltb mostPayload count) (Stop BadLength) (Whole (Pop count))))
+    (Stop BadLength)
+
+-- 01's table of kinds: the kind, the bytes of the payload, and the first of them
+abbrev pub rowOf : ℕ → ℕ → ℕ → Head
+rowOf kind n first =
+    cond (eqb kind 1) (pushRow n)
+    (cond (eqb kind 2) (popRow n first)
+    (cond (eqb kind 3) (exactly 1 n (Command first))
+    (cond (eqb kind 4) (exactly 0 n Status)
+    (cond (eqb kind 5) (exactly 0 n Reset)
+    (cond (eqb kind 6) (exactly 0 n Acknowledge)
+    (Stop NoSuchKind))))))
+
+-- the front of a file: fewer than two bytes 6, length out of range 7, bytes missing 6, then kind 5 and payload 7
+unfoldable pub headOf : List ℕ → Head
+headOf l =
+    cond (ltb (length l) 2) (Stop CutShort)
+    (cond (ltb (wordAt l 0) leastLength) (Stop BadLength)
+    (cond (ltb mostLength (wordAt l 0)) (Stop BadLength)
+    (cond (ltb (length l - 2) (wordAt l 0)) (Stop CutShort)
+    (rowOf (wordAt l 2) (wordAt l 0 - 2) (getD l 4 0)))))
+
+-- the event of a record whose first payload byte is this: 1 to 16 bytes are pushed or popped, a code is that byte
+abbrev pub Carried : ℕ → Event → Type 0
+Carried first (Push n) = 1 ≤ n
+Carried first (Pop n) = (n ≡ first) × (1 ≤ n) × (n ≤ mostPayload)
+Carried first (Command code) = code ≡ first
+Carried first Status = Unit
+Carried first Reset = Unit
+Carried first Acknowledge = Unit
+
+-- a whole record of this event stands at the front of a file
+pub record Holds (l : List ℕ) (e : Event) : Type 0 where
+  pub length-is : wordAt l 0 ≡ 2 + payloadOf e
+  pub kind-is : wordAt l 2 ≡ kindOf e
+  pub there : 4 + payloadOf e ≤ length l
+  pub small : payloadOf e ≤ mostPayload
+  pub carried : Carried (getD l 4 0) e
+
+-- ---- what an event does
+
+-- the state as it stands, before a block of bytes
+abbrev pub before : State → Answer
+before s = record { refusal = Done; byte = 0; state = s }
+
+-- bytes pushed in order, each as a single byte: the last answer
+abbrev pub pushAll : Answer → List ℕ → Answer
+pushAll a [] = a
+pushAll a (b ∷ bs) = pushAll (pushOf (a .state) b) bs
+
+-- n bytes popped, each as a single byte: the last answer
+abbrev pub popAll : ℕ → Answer → Answer
+popAll zero a = a
+popAll (suc n) a = popAll n (popOf (a .state))
+
+-- the chip's answer to an event with this payload
+abbrev pub answerOf : State → List ℕ → Event → Answer
+answerOf s payload (Push n) = pushAll (before s) payload
+answerOf s payload (Pop n) = popAll n (before s)
+answerOf s payload (Command code) = commandOf s code
+answerOf s payload Status = readOf s
+answerOf s payload Reset = resetOf s
+answerOf s payload Acknowledge = acknowledgeOf s
+
+-- the data in its reply
+abbrev pub dataOf : State → Event → List ℕ
+dataOf s (Push n) = []
+dataOf s (Pop n) = bytesPopped n s
+dataOf s (Command code) = []
+dataOf s Status = readOf s .byte ∷ []
+dataOf s Reset = []
+dataOf s Acknowledge = []
+
+-- a reply: length and kind + 128 laid out as in a record, the refusal, the data
+abbrev pub replyOf : ℕ → ℕ → List ℕ → List ℕ
+replyOf kind refusal bytes = le2 (3 + length bytes) ++ (le2 (kind + 128) ++ (refusal ∷ bytes))
+
+-- ---- what becomes of the record at the front of a file
+
+-- the refusal that stops the run, or 0; the state; the bytes of the record; its reply
+pub record Turned : Type 0 where
+  pub refusal : ℕ
+  pub state : State
+  pub size : ℕ
+  pub reply : List ℕ
+
+-- nothing of the record is done
+abbrev pub stopped : Refusal → State → Turned
+stopped r s = record { refusal = numberOf r; state = s; size = 0; reply = [] }
+
+-- the chip's answer makes the state and the reply
+abbrev pub worked : State → Event → Answer → Turned
+worked s e a = record {
+  refusal = 0;
+  state = a .state;
+  size = 4 + payloadOf e;
+  reply = replyOf (kindOf e) (numberOf (a .refusal)) (dataOf s e);
+}
+
+-- with so much room for the reply: 8 where it does not fit, else the event is done with the payload
+abbrev pub turnBy : State → List ℕ → ℕ → Head → Turned
+turnBy s l room (Stop r) = stopped r s
+turnBy s l room (Whole e) =
+    cond (ltb room (5 + answeredOf e)) (stopped NoRoom s) (worked s e (answerOf s (take (payloadOf e) (drop 4 l)) e))
+
+-- the record step
+unfoldable pub turnOf : State → List ℕ → ℕ → Turned
+turnOf s l room = turnBy s l room (headOf l)
+
+-- a turn of the code beside a definition's: of a file and of room, as they were and as the room is left
+pub record Turns (t : Turned) (refusal : ℕ) (state : State) (size reply : ℕ) (file room left : List ℕ) : Type 0 where
+  pub refusal-is : refusal ≡ t .refusal
+  pub state-is : state ≡ t .state
+  pub size-is : size ≡ t .size
+  pub reply-is : reply ≡ length (t .reply)
+  pub left-is : left ≡ t .reply ++ drop (length (t .reply)) room
+  pub within : size ≤ length file
+  pub fits : reply ≤ length room
+  pub moves : refusal ≡ 0 → 0 < size

@@ -1,0 +1,76 @@
+// The event of a record, done on a state: blocks of bytes are single bytes in turn, and what
+// is read goes straight to its place in the reply.
+use crate::head::Event;
+use chip::Answer;
+use chip::State;
+use terms::Refusal;
+ghost use mathlib.Core.Path.{_≡_};
+ghost use mathlib.Core.List.{_∷_, _++_};
+ghost use Prim.Native.Nat.{_≤_};
+ghost use lib.ListN.{length, drop};
+ghost use Rattle.chip.specs.Step.{readOf};
+ghost use Rattle.chip.specs.Turns.{bytesPopped};
+ghost use Rattle.records.specs.Record.{before, pushAll, popAll, answeredOf, answerOf, dataOf};
+
+// Every byte of the payload pushed, in order.
+fn push_all(s: State, payload: &[u8]) -> Answer
+    ensures { λ a. ⌜ a ≡ pushAll (before s) (now (payload .entry)) ⌝ }
+{
+    let mut a = Answer {
+        refusal: Refusal::Done,
+        byte: 0,
+        state: s,
+    };
+    let mut i = 0;
+    while i < payload.len() {
+        let t = a.state;
+        a = t.push(payload[i]);
+        i += 1;
+    }
+    a
+}
+
+// So many bytes popped, each to its place at the front of `room`.
+fn pop_all(s: State, n: usize, room: &mut [u8]) -> Answer
+    requires { ⌜ n ≤ length (now room) ⌝ }
+    ensures { λ a. ⌜ (a ≡ popAll n (before s)) × (now (room .exit) ≡ bytesPopped n s ++ drop n (now (room .entry))) ⌝ }
+{
+    let mut a = Answer {
+        refusal: Refusal::Done,
+        byte: 0,
+        state: s,
+    };
+    let mut i = 0;
+    while i < n {
+        let t = a.state;
+        a = t.pop();
+        room[i] = a.byte;
+        i += 1;
+    }
+    a
+}
+
+// The status byte, to the front of `room`.
+fn read_status(s: State, room: &mut [u8]) -> Answer
+    requires { ⌜ 1 ≤ length (now room) ⌝ }
+    ensures { λ a. ⌜ (a ≡ readOf s) × (now (room .exit) ≡ readOf s .byte ∷ drop 1 (now (room .entry))) ⌝ }
+{
+    let a = s.status();
+    room[0] = a.byte;
+    a
+}
+
+// The event done on the state, with the record's payload; what it reads goes to the front of `room`.
+pub fn work(s: State, event: Event, payload: &[u8], room: &mut [u8]) -> Answer
+    requires { ⌜ answeredOf event ≤ length (now room) ⌝ }
+    ensures { λ a. ⌜ (a ≡ answerOf s (now (payload .entry)) event) × (now (room .exit) ≡ dataOf s event ++ drop (answeredOf event) (now (room .entry))) ⌝ }
+{
+    match event {
+        Event::Push(_) => push_all(s, payload),
+        Event::Pop(n) => pop_all(s, n, room),
+        Event::Command(code) => s.command(code),
+        Event::Status => read_status(s, room),
+        Event::Reset => s.reset(),
+        Event::Acknowledge => s.acknowledge(),
+    }
+}

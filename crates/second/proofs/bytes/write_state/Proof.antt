@@ -1,0 +1,20 @@
+-- The places are counted; the slice keeps its length. Assumes nothing.
+use Prim.Native.Nat.{_-_, _≤_}
+use borrow.Author.Needs.{needs}
+use lib.ListN.{length}
+use mathlib.Core.Path.{_≡_}
+use Rattle.second.proofs.bytes.write_state.Statement.{statement}
+use Rattle.second.proofs.bytes.write_state.Tie as tie
+
+abbrev Inv-loop : tie.InvT-loop
+Inv-loop s₀ c i₀ s i = (i ≤ 16) × (length s ≡ length s₀)
+
+abbrev μ-loop : tie.MeasureT-loop
+μ-loop s₀ c i₀ s i = 16 - i
+
+pub write-state-spec : {M : Type 1} → statement M
+write-state-spec =
+    tie.close
+    (tie.spec Inv-loop μ-loop (λ c. search needs) (λ c κs. search needs) (λ c κs. search needs) (λ c. search needs)
+    (λ c. search needs) (λ c. search needs) (λ c. search needs) (λ c κs. search needs) (λ c κs. search needs)
+    (λ c. search needs) (λ c κs. search needs) (λ c. search needs) (λ c. search needs))

@@ -1,0 +1,23 @@
+-- The turns are counted; the replies keep their length. Assumes nothing.
+use Prim.Native.Nat.{_-_, _≤_}
+use borrow.Author.Needs.{needs}
+use lib.ListN.{length}
+use mathlib.Core.Path.{_≡_}
+use Rattle.second.proofs.records.run.Statement.{statement}
+use Rattle.second.proofs.records.run.Tie as tie
+
+abbrev Inv-loop : tie.InvT-loop
+Inv-loop state input replies₀ report r₀ counter₀ replies r counter = (counter ≤ 3073) × (length replies ≡ length replies₀)
+
+abbrev μ-loop : tie.MeasureT-loop
+μ-loop state input replies₀ report r₀ counter₀ replies r counter = 3073 - counter
+
+pub run-spec : {M : Type 1} → statement M
+run-spec =
+    tie.close
+    (tie.spec Inv-loop μ-loop (λ c. search needs) (λ c κs. search needs) (λ c κs. search needs) (λ c. search needs)
+    (λ c. search needs) (λ c. search needs) (λ c κs. search needs) (λ c. search needs) (λ c. search needs)
+    (λ c. search needs) (λ c κs. search needs) (λ c. search needs) (λ c κs. search needs) (λ c. search needs)
+    (λ c. search needs) (λ c. search needs) (λ c κs. search needs) (λ c. search needs) (λ c. search needs)
+    (λ c κs. search needs) (λ c. search needs) (λ c. search needs) (λ c. search needs) (λ c. search needs)
+    (λ c. search needs))

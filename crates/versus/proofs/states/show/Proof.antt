@@ -1,0 +1,19 @@
+-- The places are counted. Assumes nothing.
+use Prim.Native.Nat.{_-_, _≤_}
+use borrow.Author.Needs.{needs}
+use Rattle.versus.proofs.states.show.Statement.{statement}
+use Rattle.versus.proofs.states.show.Tie as tie
+
+abbrev Inv-loop : tie.InvT-loop
+Inv-loop x y c i₀ i = i ≤ 16
+
+abbrev μ-loop : tie.MeasureT-loop
+μ-loop x y c i₀ i = 16 - i
+
+pub show-spec : {M : Type 1} → statement M
+show-spec =
+    tie.close
+    (tie.spec Inv-loop μ-loop (λ c. search needs) (λ c κs. search needs) (λ c κs. search needs) (λ c κs. search needs)
+    (λ c. search needs) (λ c κs. search needs) (λ c. search needs) (λ c κs. search needs) (λ c. search needs)
+    (λ c. search needs) (λ c. search needs) (λ c. search needs) (λ c κs. search needs) (λ c. search needs)
+    (λ c κs. search needs) (λ c. search needs) (λ c κs. search needs) (λ c. search needs))

@@ -1,0 +1,111 @@
+// Record files, drawn record by record from a seed, and states as bytes.
+use crate::lent;
+use crate::words;
+
+// A payload of one to sixteen bytes, in three of four cases a word.
+fn amount(n: u32) -> u8 {
+    match n % 4 {
+        0 => (1 + n / 4 % 16) as u8,
+        1 => 2,
+        _ => 4,
+    }
+}
+
+// A carried code in three of four cases, else any.
+pub fn code(n: u32) -> u8 {
+    let low = n / 4;
+    if n % 4 == 0 {
+        (low % 256) as u8
+    } else if n % 4 == 1 {
+        0x10 + (low % 16) as u8
+    } else if n % 4 == 2 {
+        0x2C + (low % 14) as u8
+    } else {
+        0xEC + (low % 14) as u8
+    }
+}
+
+// Half of the records push, the others are of every kind.
+fn kind(n: u32) -> u8 {
+    if n % 2 == 0 { 1 } else { (1 + n / 2 % 6) as u8 }
+}
+
+// How many bytes the payload of a kind has.
+fn size(kind: u8, n: u32) -> u8 {
+    if kind == 1 {
+        amount(n)
+    } else if kind <= 3 {
+        1
+    } else {
+        0
+    }
+}
+
+// Pushed words come low byte first.
+fn payload(kind: u8, n: u32, seed: u32, i: u32) -> u8 {
+    if kind == 1 {
+        let w = words::any(std::num::wrapping_add_u32(seed, i / 4));
+        lent::byte_of(w, (3 - i % 4) as usize)
+    } else if kind == 2 {
+        amount(n)
+    } else {
+        code(n)
+    }
+}
+
+// A record from a place on; the place after it.
+fn put_record(s: &mut [u8], at: usize, seed: u32) -> usize {
+    let n = words::drawn(seed);
+    let k = kind(n);
+    let bytes = size(k, n / 16);
+    let body = lent::on(at, 4);
+    lent::put(s, at, std::num::wrapping_add_u8(bytes, 2));
+    lent::put(s, lent::on(at, 1), 0);
+    lent::put(s, lent::on(at, 2), k);
+    lent::put(s, lent::on(at, 3), 0);
+    for i in 0..bytes {
+        lent::put(
+            s,
+            lent::on(body, i as usize),
+            payload(k, n / 16, seed, i as u32),
+        );
+    }
+    lent::on(body, bytes as usize)
+}
+
+// So many records from the start; the place after them.
+pub fn put_records(s: &mut [u8], seed: u32, records: u32) -> usize {
+    let mut at: usize = 0;
+    for i in 0..records {
+        at = put_record(s, at, std::num::wrapping_add_u32(seed % 65536 * 4096, i));
+    }
+    at
+}
+
+// A fault of a state: 1 to 3 another length, 4 to 6 a byte that 01 refuses, else none.
+pub fn state_size(fault: u32) -> usize {
+    match fault {
+        1 => 18,
+        2 => 20,
+        3 => 0,
+        _ => 19,
+    }
+}
+
+// A drawn state; a half word is pending in one of four.
+pub fn put_state(s: &mut [u8], seed: u32, fault: u32) {
+    lent::fill(s, seed % 65536 * 64);
+    let n = words::drawn(seed);
+    let pending: u8 = if fault == 4 {
+        2
+    } else if n % 4 == 0 {
+        1
+    } else {
+        0
+    };
+    let busy: u8 = if fault == 5 { 128 } else { 0 };
+    let service: u8 = if fault == 6 { 255 } else { (n / 4 % 2) as u8 };
+    lent::put(s, 16, pending);
+    lent::put(s, 17, std::num::wrapping_add_u8((n / 8 % 128) as u8, busy));
+    lent::put(s, 18, service);
+}

@@ -1,0 +1,429 @@
+/* Document 01 in plain C. The state is worked on where it lies, as 19 bytes; fixed-point results are
+ * formed in 64-bit integers, float results in 64 bits with what falls off kept as one low bit. */
+#include "plain.h"
+
+enum { PENDING = 16, STATUS = 17, SERVICE = 18, STATE = 19, REPORT = 9, MOST_INPUT = 12288 };
+enum { OVERFLOW_ERROR = 1, UNDERFLOW_ERROR = 2, DIVIDE_ERROR = 8 };
+
+static uint32_t get(const uint8_t *p, int n)
+{
+    uint32_t w = 0;
+    for (int i = 0; i < n; i++)
+        w = w << 8 | p[i];
+    return w;
+}
+
+static void put(uint8_t *p, int n, uint32_t w)
+{
+    for (int i = n - 1; i >= 0; i--, w >>= 8)
+        p[i] = (uint8_t)w;
+}
+
+/* to and from may overlap; the lower place is the target */
+static void move_up(uint8_t *to, const uint8_t *from, int n)
+{
+    for (int i = 0; i < n; i++)
+        to[i] = from[i];
+}
+
+/* the same with the higher place as the target */
+static void move_down(uint8_t *to, const uint8_t *from, int n)
+{
+    for (int i = n - 1; i >= 0; i--)
+        to[i] = from[i];
+}
+
+static void clear(uint8_t *p, int n)
+{
+    for (int i = 0; i < n; i++)
+        p[i] = 0;
+}
+
+static void push(uint8_t *s, uint8_t b)
+{
+    move_down(s + 1, s, 15);
+    s[0] = b;
+    s[PENDING] ^= 1;
+}
+
+static uint8_t pop(uint8_t *s)
+{
+    uint8_t b = s[0];
+    move_up(s, s + 1, 15);
+    s[15] = b;
+    s[PENDING] ^= 1;
+    return b;
+}
+
+/* the status that an accepted command leaves, by the new top of n bytes */
+static void settle(uint8_t *s, int n, uint32_t error, uint32_t carry, uint32_t sr)
+{
+    uint32_t top = get(s, n);
+    s[STATUS] = (uint8_t)((s[0] & 0x80) >> 1 | (top == 0 ? 0x20 : 0) | error << 1 | carry);
+    s[SERVICE] = (uint8_t)sr;
+}
+
+static int64_t extend(uint32_t w, int n)
+{
+    return n == 2 ? (int64_t)(w & 0x7FFF) - (int64_t)(w & 0x8000)
+                  : (int64_t)(w & 0x7FFFFFFF) - (int64_t)(w & 0x80000000u);
+}
+
+/* add c, subtract d, multiply lower e, upper 6, divide f: the low digit of the code */
+static void fixed(uint8_t *s, int n, uint32_t digit, uint32_t sr)
+{
+    uint32_t a = get(s, n), b = get(s + n, n), least = n == 2 ? 0x8000u : 0x80000000u;
+    int64_t x = extend(a, n), y = extend(b, n), high = (int64_t)least - 1, low = -(int64_t)least;
+    int64_t exact = 0;
+    uint32_t error = 0, carry = 0;
+    int kept = 0;
+    if (digit == 0xC || digit == 0xD) {
+        exact = digit == 0xC ? y + x : y - x;
+        carry = digit == 0xC ? (uint32_t)((uint64_t)a + b > (uint64_t)high * 2 + 1) : b < a;
+        error = exact > high || exact < low || (digit == 0xD && a == least);
+        kept = 1;
+    } else if (digit == 0xF && a == 0) {
+        exact = y;
+        error = DIVIDE_ERROR;
+    } else if (a == least || b == least) {
+        exact = low;
+        error = OVERFLOW_ERROR;
+    } else if (digit == 0xF) {
+        exact = y / x;
+    } else {
+        exact = y * x;
+        if (digit == 0x6)
+            exact >>= n * 8;
+        else
+            error = exact > high || exact < low;
+    }
+    move_up(s, s + n, 16 - n);
+    put(s, n, (uint32_t)(uint64_t)exact);
+    put(s + 16 - n, n, kept ? a : 0);
+    settle(s, n, error, carry, sr);
+}
+
+static int is_proper(uint32_t w) { return w == 0 || (w & 0x800000) != 0; }
+
+static int exponent(uint32_t w) { return (int)(w >> 24 & 0x7F) - (int)(w >> 23 & 0x80); }
+
+/* plus or minus magnitude times 2^e, cut to a word */
+static uint32_t cut(int minus, uint64_t magnitude, int e, uint32_t *error)
+{
+    if (magnitude == 0)
+        return 0;
+    int top = 63 - __builtin_clzll(magnitude);
+    uint32_t m = (uint32_t)(top > 23 ? magnitude >> (top - 23) : magnitude << (23 - top));
+    e += top + 1;
+    if (e > 63) {
+        *error = OVERFLOW_ERROR;
+        e -= 128;
+    } else if (e < -64) {
+        *error = UNDERFLOW_ERROR;
+        e += 128;
+    }
+    return (minus ? 0x80000000u : 0) | ((uint32_t)e & 0x7F) << 24 | m;
+}
+
+static uint32_t sum(uint32_t b, uint32_t a, uint32_t *error)
+{
+    if (a == 0 || b == 0)
+        return a | b;
+    if (exponent(b) < exponent(a)) {
+        uint32_t t = a;
+        a = b;
+        b = t;
+    }
+    int apart = exponent(b) - exponent(a), e = exponent(b) - 62;
+    uint64_t big = (uint64_t)(b & 0xFFFFFF) << 38, small = (uint64_t)(a & 0xFFFFFF) << 38;
+    if (apart > 62)
+        small = 1;
+    else if (apart > 0)
+        small = small >> apart | ((small << (64 - apart)) != 0);
+    if ((a ^ b) >> 31 == 0)
+        return cut(b >> 31 != 0, big + small, e, error);
+    if (big >= small)
+        return cut(b >> 31 != 0, big - small, e, error);
+    return cut(a >> 31 != 0, small - big, e, error);
+}
+
+static uint32_t product(uint32_t b, uint32_t a, uint32_t *error)
+{
+    return cut((a ^ b) >> 31 != 0, (uint64_t)(a & 0xFFFFFF) * (b & 0xFFFFFF), exponent(a) + exponent(b) - 48, error);
+}
+
+static uint32_t quotient(uint32_t b, uint32_t a, uint32_t *error)
+{
+    if (a == 0) {
+        *error = DIVIDE_ERROR;
+        return b;
+    }
+    return cut((a ^ b) >> 31 != 0, ((uint64_t)(b & 0xFFFFFF) << 26) / (a & 0xFFFFFF), exponent(b) - exponent(a) - 26, error);
+}
+
+static uint32_t floating(uint8_t *s, uint32_t code, uint32_t sr)
+{
+    uint32_t a = get(s, 4), b = get(s + 4, 4), r, error = 0;
+    if (!is_proper(a) || !is_proper(b))
+        return 4;
+    switch (code) {
+    case 0x10: r = sum(b, a, &error); break;
+    case 0x11: r = sum(b, a ? a ^ 0x80000000u : 0, &error); break;
+    case 0x12: r = product(b, a, &error); break;
+    default: r = quotient(b, a, &error); break;
+    }
+    put(s, 4, r);
+    move_up(s + 4, s + 8, 8);
+    clear(s + 12, 4);
+    settle(s, 4, error, 0, sr);
+    return 0;
+}
+
+/* FIXS (n = 2) and FIXD (n = 4) */
+static uint32_t fix(uint8_t *s, int n, uint32_t sr)
+{
+    uint32_t a = get(s, 4);
+    if (!is_proper(a))
+        return 4;
+    int e = exponent(a);
+    clear(s + 12, 4);
+    if (e > (n == 2 ? 15 : 31)) {
+        settle(s, 4, OVERFLOW_ERROR, 0, sr);
+        return 0;
+    }
+    uint64_t m = a & 0xFFFFFF, whole = e <= 0 ? 0 : e <= 24 ? m >> (24 - e) : m << (e - 24);
+    if (n == 2) {
+        move_up(s + 2, s + 4, 8);
+        clear(s + 10, 6);
+    }
+    put(s, n, a >> 31 ? 0u - (uint32_t)whole : (uint32_t)whole);
+    settle(s, n, 0, 0, sr);
+    return 0;
+}
+
+/* FLTS (n = 2) and FLTD (n = 4) */
+static void flt(uint8_t *s, int n, uint32_t sr)
+{
+    int64_t x = extend(get(s, n), n);
+    uint32_t error = 0, r = cut(x < 0, (uint64_t)(x < 0 ? -x : x), 0, &error);
+    if (n == 2)
+        move_down(s + 4, s + 2, 8);
+    put(s, 4, r);
+    clear(s + 12, 4);
+    settle(s, 4, 0, 0, sr);
+}
+
+static void change_sign(uint8_t *s, int n, uint32_t sr)
+{
+    uint32_t a = get(s, n), least = n == 2 ? 0x8000u : 0x80000000u;
+    put(s, n, 0u - a);
+    settle(s, n, a == least ? OVERFLOW_ERROR : 0, 0, sr);
+}
+
+static void change_float_sign(uint8_t *s, uint32_t sr)
+{
+    if (s[1] & 0x80)
+        s[0] ^= 0x80;
+    settle(s, 4, 0, 0, sr);
+}
+
+static void copy_top(uint8_t *s, int n, uint32_t sr)
+{
+    move_down(s + n, s, 16 - n);
+    settle(s, n, 0, 0, sr);
+}
+
+static void roll(uint8_t *s, int n, uint32_t sr)
+{
+    uint32_t a = get(s, n);
+    move_up(s, s + n, 16 - n);
+    put(s + 16 - n, n, a);
+    settle(s, n, 0, 0, sr);
+}
+
+static void exchange(uint8_t *s, int n, uint32_t sr)
+{
+    uint32_t a = get(s, n), b = get(s + n, n);
+    put(s, n, b);
+    put(s + n, n, a);
+    settle(s, n, 0, 0, sr);
+}
+
+static void push_pi(uint8_t *s, uint32_t sr)
+{
+    move_down(s + 4, s, 12);
+    put(s, 4, 0x02C90FDA);
+    settle(s, 4, 0, 0, sr);
+}
+
+/* unknown 1, derived 2, any other 0 */
+static uint32_t known(uint32_t code)
+{
+    switch (code) {
+    case 0x00: case 0x10: case 0x11: case 0x12: case 0x13: case 0x15: case 0x17: case 0x18:
+    case 0x19: case 0x1A: case 0x1C: case 0x1D: case 0x1E: case 0x1F: case 0x2C: case 0x2D:
+    case 0x2E: case 0x2F: case 0x34: case 0x36: case 0x37: case 0x38: case 0x39: case 0x6C:
+    case 0x6D: case 0x6E: case 0x6F: case 0x74: case 0x76: case 0x77: case 0x78: case 0x79:
+        return 0;
+    default:
+        return code >= 0x01 && code <= 0x0B ? 2 : 1;
+    }
+}
+
+static uint32_t command(uint8_t *s, uint8_t byte)
+{
+    uint32_t code = byte & 0x7F, sr = byte >> 7, refusal = known(code);
+    int n = code & 0x40 ? 2 : 4;
+    if (refusal)
+        return refusal;
+    if (s[PENDING])
+        return 3;
+    switch (code) {
+    case 0x00: s[STATUS] = 0; s[SERVICE] = (uint8_t)sr; return 0;
+    case 0x10: case 0x11: case 0x12: case 0x13: return floating(s, code, sr);
+    case 0x15: change_float_sign(s, sr); return 0;
+    case 0x17: case 0x37: case 0x77: copy_top(s, n, sr); return 0;
+    case 0x18: case 0x38: case 0x78: roll(s, n, sr); return 0;
+    case 0x19: case 0x39: case 0x79: exchange(s, n, sr); return 0;
+    case 0x1A: push_pi(s, sr); return 0;
+    case 0x1C: flt(s, 4, sr); return 0;
+    case 0x1D: flt(s, 2, sr); return 0;
+    case 0x1E: return fix(s, 4, sr);
+    case 0x1F: return fix(s, 2, sr);
+    case 0x34: case 0x74: change_sign(s, n, sr); return 0;
+    default: fixed(s, n, code & 0xF, sr); return 0;
+    }
+}
+
+static int bad_state(const uint8_t *s, size_t n)
+{
+    return n != STATE || s[PENDING] > 1 || s[SERVICE] > 1 || s[STATUS] > 0x7F;
+}
+
+uint32_t plain_event(uint8_t *state, size_t state_length, uint32_t kind, uint8_t byte)
+{
+    if (bad_state(state, state_length))
+        return 13 * 256;
+    switch (kind) {
+    case 1: push(state, byte); return 0;
+    case 2: return pop(state);
+    case 3: return 256 * command(state, byte);
+    case 4: return state[STATUS];
+    case 5: clear(state, STATE); return 0;
+    case 6: state[SERVICE] = 0; return 0;
+    default: return 5 * 256;
+    }
+}
+
+/* what the record at the front is: 0 and its payload's length and its reply's data, or the refusal */
+static uint32_t look(const uint8_t *in, size_t left, uint32_t *kind, uint32_t *payload, uint32_t *data)
+{
+    if (left < 2)
+        return 6;
+    uint32_t length = in[0] | (uint32_t)in[1] << 8;
+    if (length < 2 || length > 18)
+        return 7;
+    if (left - 2 < length)
+        return 6;
+    *kind = in[2] | (uint32_t)in[3] << 8;
+    *payload = length - 2;
+    *data = 0;
+    switch (*kind) {
+    case 1: return *payload == 0 ? 7 : 0;
+    case 2:
+        if (*payload != 1 || in[4] < 1 || in[4] > 16)
+            return 7;
+        *data = in[4];
+        return 0;
+    case 3: return *payload == 1 ? 0 : 7;
+    case 4: *data = 1; return *payload == 0 ? 0 : 7;
+    case 5: case 6: return *payload == 0 ? 0 : 7;
+    default: return 5;
+    }
+}
+
+static uint32_t away(uint8_t *report, uint32_t refusal)
+{
+    clear(report, REPORT);
+    report[0] = (uint8_t)refusal;
+    return refusal;
+}
+
+uint32_t plain_run(uint8_t *state, size_t state_length, const uint8_t *input, size_t input_length,
+                   uint8_t *replies, size_t replies_length, uint8_t *report, size_t report_length)
+{
+    if (report_length != REPORT)
+        return 14;
+    if (bad_state(state, state_length))
+        return away(report, 13);
+    if (input_length > MOST_INPUT)
+        return away(report, 9);
+    size_t taken = 0, written = 0;
+    uint32_t refusal = 0;
+    while (taken < input_length) {
+        const uint8_t *in = input + taken;
+        uint8_t *out = replies + written;
+        uint32_t kind = 0, payload = 0, data = 0, answer = 0;
+        refusal = look(in, input_length - taken, &kind, &payload, &data);
+        if (refusal == 0 && replies_length - written < 5 + data)
+            refusal = 8;
+        if (refusal)
+            break;
+        if (kind == 1) {
+            for (uint32_t i = 0; i < payload; i++)
+                push(state, in[4 + i]);
+        } else if (kind == 2) {
+            for (uint32_t i = 0; i < data; i++)
+                out[5 + i] = pop(state);
+        } else {
+            answer = plain_event(state, STATE, kind, payload ? in[4] : 0);
+            if (kind == 4)
+                out[5] = (uint8_t)answer;
+            answer >>= 8;
+        }
+        out[0] = (uint8_t)(3 + data);
+        out[1] = 0;
+        out[2] = (uint8_t)(kind + 128);
+        out[3] = 0;
+        out[4] = (uint8_t)answer;
+        taken += 4 + payload;
+        written += 5 + data;
+    }
+    report[0] = (uint8_t)refusal;
+    for (int i = 0; i < 4; i++) {
+        report[1 + i] = (uint8_t)(taken >> 8 * i);
+        report[5 + i] = (uint8_t)(written >> 8 * i);
+    }
+    return refusal;
+}
+
+static void put_little(uint8_t *p, uint32_t w)
+{
+    for (int i = 0; i < 4; i++)
+        p[i] = (uint8_t)(w >> 8 * i);
+}
+
+uint32_t plain_word_to_f32(uint32_t word, uint8_t *out, size_t out_length)
+{
+    if (out_length != 4)
+        return 8;
+    if (!is_proper(word))
+        return 4;
+    put_little(out, word == 0 ? 0 : (word & 0x807FFFFF) + ((uint32_t)(exponent(word) + 126) << 23));
+    return 0;
+}
+
+uint32_t plain_f32_to_word(uint32_t bits, uint8_t *out, size_t out_length)
+{
+    uint32_t magnitude = bits & 0x7FFFFFFF, biased = magnitude >> 23;
+    if (out_length != 4)
+        return 8;
+    if (biased == 255)
+        return 10;
+    if (biased >= 63 + 127)
+        return 11;
+    if (magnitude != 0 && biased < 127 - 65)
+        return 12;
+    put_little(out, magnitude == 0 ? 0 : (bits & 0x807FFFFF) | 0x800000 | ((biased - 126) & 0x7F) << 24);
+    return 0;
+}

@@ -1,0 +1,444 @@
+/* A C program over include/pundaliket.h, linked with the library. It checks 01's example, each
+ * refusal of 01's table, that no byte beyond a lent slice is written, and, against the plain C of
+ * plain.c, events over all codes, drawn, damaged and cut files, and conversions.
+ * Prints what differs, then 'N checks, M failed'; ends with 1 if M is not 0. */
+#include "../../include/pundaliket.h"
+#include "plain.h"
+
+int printf(const char *format, ...);
+void *memcpy(void *to, const void *from, size_t n);
+void *memset(void *to, int byte, size_t n);
+int memcmp(const void *a, const void *b, size_t n);
+
+static unsigned checks, failed;
+
+static void check(int good, const char *what, unsigned number)
+{
+    checks++;
+    if (good)
+        return;
+    failed++;
+    if (failed <= 20)
+        printf("differs: %s (%u)\n", what, number);
+}
+
+/* ---- lent slices, with guard bytes round them, at any alignment */
+
+enum { ROOM = 70000, GUARD = 64, UNTOUCHED = 0xA5 };
+
+struct slice {
+    uint8_t bytes[ROOM + 2 * GUARD + 8];
+    uint8_t *at;
+    size_t length;
+};
+
+static struct slice state, input, replies, report, out;
+static struct slice plain_state, plain_replies, plain_report, plain_out;
+
+/* lends a slice at this alignment, filled with content or, where there is none, a fixed byte */
+static void lend(struct slice *s, unsigned alignment, size_t length, const uint8_t *content)
+{
+    size_t whole = length + 2 * GUARD + 8;
+    for (size_t i = 0; i < whole; i++)
+        s->bytes[i] = (uint8_t)(i * 7 + 3);
+    s->at = s->bytes + GUARD + alignment;
+    s->length = length;
+    if (content)
+        memcpy(s->at, content, length);
+    else
+        memset(s->at, UNTOUCHED, length);
+}
+
+/* the guard bytes on both sides are as they were */
+static int guarded(const struct slice *s)
+{
+    size_t first = (size_t)(s->at - s->bytes), whole = s->length + 2 * GUARD + 8;
+    for (size_t i = 0; i < first; i++)
+        if (s->bytes[i] != (uint8_t)(i * 7 + 3))
+            return 0;
+    for (size_t i = first + s->length; i < whole; i++)
+        if (s->bytes[i] != (uint8_t)(i * 7 + 3))
+            return 0;
+    return 1;
+}
+
+static int same(const struct slice *a, const struct slice *b)
+{
+    return a->length == b->length && memcmp(a->at, b->at, a->length) == 0;
+}
+
+static int holds(const struct slice *s, const uint8_t *content)
+{
+    return memcmp(s->at, content, s->length) == 0;
+}
+
+/* ---- drawn numbers: one fixed seed */
+
+static uint64_t seed = 0x9E3779B97F4A7C15u;
+
+static uint32_t drawn(void)
+{
+    seed ^= seed << 13;
+    seed ^= seed >> 7;
+    seed ^= seed << 17;
+    return (uint32_t)(seed >> 32);
+}
+
+static uint32_t below(uint32_t n) { return drawn() % n; }
+
+static const uint32_t edges[] = {
+    0x00000000, 0x00000001, 0x00007FFF, 0x00008000, 0x0000FFFF, 0x7FFFFFFF, 0x80000000, 0x80000001,
+    0xFFFFFFFF, 0x80008000, 0x00010001, 0x7FFF8000, 0x01800000, 0x02C00000, 0x81800000, 0xC0800000,
+    0x40800000, 0x3FFFFFFF, 0xBFFFFFFF, 0x3F800000, 0x8FFFFE00, 0x90800000, 0x0FFFFFFF, 0x1FFFFFFF,
+    0xA0800000, 0x9FFFFFFF, 0x00800000, 0x00FFFFFF, 0x007FFFFF, 0x00400000, 0x7F800000, 0x7FFFFFFE,
+};
+
+/* edge words, whole words, words of near exponents, improper words */
+static uint32_t drawn_word(void)
+{
+    switch (below(6)) {
+    case 0: return edges[below(sizeof edges / sizeof edges[0])];
+    case 1: return drawn();
+    case 2: return drawn() | 0x00800000;
+    case 3: return (drawn() & 0x80FFFFFF) | 0x00800000 | (below(24) & 0x7F) << 24;
+    case 4: return (drawn() & 0xFF000003) | 0x00800000;
+    default: return (drawn() & 0x81FFFFFF) | 0x00800000;
+    }
+}
+
+static void draw_state(uint8_t *s)
+{
+    for (int i = 0; i < 4; i++) {
+        uint32_t w = drawn_word();
+        for (int j = 0; j < 4; j++)
+            s[4 * i + j] = (uint8_t)(w >> (24 - 8 * j));
+    }
+    if (below(4) == 0) {
+        memcpy(s + 4, s, 4);
+        s[7] ^= (uint8_t)below(4);
+    }
+    s[16] = below(8) == 0;
+    s[17] = (uint8_t)below(128);
+    s[18] = (uint8_t)below(2);
+}
+
+/* ---- one call of each, compared */
+
+static int event_agrees(unsigned alignment, const uint8_t *s, size_t n, uint32_t kind, uint8_t byte)
+{
+    lend(&state, alignment, n, s);
+    lend(&plain_state, 0, n, s);
+    uint32_t a = pundaliket_event(state.at, n, kind, byte), b = plain_event(plain_state.at, n, kind, byte);
+    return a == b && same(&state, &plain_state) && guarded(&state);
+}
+
+static int run_agrees(unsigned alignment, const uint8_t *s, size_t sn, const uint8_t *file, size_t n, size_t room, size_t rn)
+{
+    lend(&state, alignment & 7, sn, s);
+    lend(&plain_state, 0, sn, s);
+    lend(&input, (alignment * 3) & 7, n, file);
+    lend(&replies, (alignment * 5 + 1) & 7, room, NULL);
+    lend(&plain_replies, 0, room, NULL);
+    lend(&report, (alignment * 7 + 2) & 7, rn, NULL);
+    lend(&plain_report, 0, rn, NULL);
+    uint32_t a = pundaliket_run(state.at, sn, input.at, n, replies.at, room, report.at, rn);
+    uint32_t b = plain_run(plain_state.at, sn, input.at, n, plain_replies.at, room, plain_report.at, rn);
+    return a == b && same(&state, &plain_state) && same(&replies, &plain_replies) && same(&report, &plain_report)
+        && guarded(&state) && guarded(&input) && holds(&input, file) && guarded(&replies) && guarded(&report);
+}
+
+static int conversions_agree(unsigned alignment, uint32_t x, size_t n)
+{
+    lend(&out, alignment, n, NULL);
+    lend(&plain_out, 0, n, NULL);
+    uint32_t a = pundaliket_word_to_f32(x, out.at, n), b = plain_word_to_f32(x, plain_out.at, n);
+    int good = a == b && same(&out, &plain_out) && guarded(&out);
+    lend(&out, alignment, n, NULL);
+    lend(&plain_out, 0, n, NULL);
+    a = pundaliket_f32_to_word(x, out.at, n);
+    b = plain_f32_to_word(x, plain_out.at, n);
+    return good && a == b && same(&out, &plain_out) && guarded(&out);
+}
+
+/* ---- 01's example, and each refusal of 01's table: what must come is written out here */
+
+static const uint8_t zeros[PUNDALIKET_STATE_BYTES];
+
+/* runs a file from a state in some room: the refusal, the counts, and the guards */
+static void expect_run(const char *what, const uint8_t *s, const uint8_t *file, size_t n, size_t room, uint32_t refusal, size_t taken,
+                       const uint8_t *written, size_t count, const uint8_t *left)
+{
+    for (unsigned alignment = 0; alignment < 8; alignment++) {
+        lend(&state, alignment, PUNDALIKET_STATE_BYTES, s);
+        lend(&input, 7 - alignment, n, file);
+        lend(&replies, alignment, room, NULL);
+        lend(&report, 7 - alignment, PUNDALIKET_REPORT_BYTES, NULL);
+        uint32_t r = pundaliket_run(state.at, state.length, input.at, n, replies.at, room, report.at, report.length);
+        const uint8_t numbers[PUNDALIKET_REPORT_BYTES] = {
+            (uint8_t)refusal, (uint8_t)taken, (uint8_t)(taken >> 8), 0, 0, (uint8_t)count, (uint8_t)(count >> 8), 0, 0,
+        };
+        int rest = 1;
+        for (size_t i = count; i < room; i++)
+            rest = rest && replies.at[i] == UNTOUCHED;
+        check(r == refusal, what, 1);
+        check(holds(&report, numbers), what, 2);
+        check(memcmp(replies.at, written, count) == 0 && rest, what, 3);
+        check(holds(&state, left), what, 4);
+        check(guarded(&state) && guarded(&input) && guarded(&replies) && guarded(&report) && holds(&input, file), what, 5);
+    }
+}
+
+static void example_of_01(void)
+{
+    static const uint8_t file[] = {
+        0x06, 0, 1, 0, 3, 0, 5, 0, 0x03, 0, 3, 0, 0x6C, 0x03, 0, 2, 0, 2, 0x02, 0, 4, 0,
+    };
+    static const uint8_t written[] = {
+        3, 0, 129, 0, 0, 3, 0, 131, 0, 0, 5, 0, 130, 0, 0, 0x00, 0x08, 4, 0, 132, 0, 0, 0x00,
+    };
+    /* 0003 and 0005 are pushed, their sum 0008 is read; the last operand 0005 stands at the bottom, then 0008 */
+    static const uint8_t left[] = { 0, 0, 0, 0, 0, 0, 0, 0, 0, 0, 0, 0, 0, 5, 0, 8, 0, 0, 0 };
+    expect_run("example of 01", zeros, file, sizeof file, 65536, 0, sizeof file, written, sizeof written, left);
+    expect_run("example of 01, just its room", zeros, file, sizeof file, sizeof written, 0, sizeof file, written, sizeof written, left);
+}
+
+/* a push of one byte, done, then a record that is answered or stops */
+static void refusals_of_a_file(void)
+{
+    static const uint8_t pushed[] = { 7, 0, 0, 0, 0, 0, 0, 0, 0, 0, 0, 0, 0, 0, 0, 0, 1, 0, 0 };
+    static const uint8_t improper[] = { 1, 0, 0, 0, 0, 0, 0, 0, 0, 0, 0, 0, 0, 0, 0, 0, 0, 0, 0 };
+    static const uint8_t one[] = { 3, 0, 129, 0, 0 };
+    static const uint8_t unknown[] = { 3, 0, 1, 0, 7, 3, 0, 3, 0, 0x0C }, unknown_replies[] = { 3, 0, 129, 0, 0, 3, 0, 131, 0, 1 };
+    static const uint8_t derived[] = { 3, 0, 1, 0, 7, 3, 0, 3, 0, 0x81 }, derived_replies[] = { 3, 0, 129, 0, 0, 3, 0, 131, 0, 2 };
+    static const uint8_t half[] = { 3, 0, 1, 0, 7, 3, 0, 3, 0, 0x00 }, half_replies[] = { 3, 0, 129, 0, 0, 3, 0, 131, 0, 3 };
+    static const uint8_t not_proper[] = { 3, 0, 3, 0, 0x9E }, not_proper_replies[] = { 3, 0, 131, 0, 4 };
+    static const uint8_t kind[] = { 3, 0, 1, 0, 7, 2, 0, 7, 0 }, wide_kind[] = { 3, 0, 1, 0, 7, 2, 0, 4, 1 };
+    static const uint8_t cut[] = { 3, 0, 1, 0, 7, 3, 0, 1, 0 }, cut_length[] = { 3, 0, 1, 0, 7, 3 };
+    static const uint8_t low[] = { 3, 0, 1, 0, 7, 1, 0 }, high[] = { 3, 0, 1, 0, 7, 19, 0, 1, 0 };
+    static const uint8_t no_count[] = { 3, 0, 1, 0, 7, 3, 0, 2, 0, 0 }, status_pay[] = { 3, 0, 1, 0, 7, 3, 0, 4, 0, 0 };
+    static const uint8_t pop[] = { 3, 0, 1, 0, 7, 3, 0, 2, 0, 2 };
+    expect_run("refusal 1", zeros, unknown, sizeof unknown, 64, 0, 10, unknown_replies, 10, pushed);
+    expect_run("refusal 2", zeros, derived, sizeof derived, 64, 0, 10, derived_replies, 10, pushed);
+    expect_run("refusal 3", zeros, half, sizeof half, 64, 0, 10, half_replies, 10, pushed);
+    expect_run("refusal 4", improper, not_proper, sizeof not_proper, 64, 0, 5, not_proper_replies, 5, improper);
+    expect_run("refusal 5", zeros, kind, sizeof kind, 64, 5, 5, one, 5, pushed);
+    expect_run("refusal 5, kind of two bytes", zeros, wide_kind, sizeof wide_kind, 64, 5, 5, one, 5, pushed);
+    expect_run("refusal 6", zeros, cut, sizeof cut, 64, 6, 5, one, 5, pushed);
+    expect_run("refusal 6, in the length", zeros, cut_length, sizeof cut_length, 64, 6, 5, one, 5, pushed);
+    expect_run("refusal 7, length 1", zeros, low, sizeof low, 64, 7, 5, one, 5, pushed);
+    expect_run("refusal 7, length 19", zeros, high, sizeof high, 64, 7, 5, one, 5, pushed);
+    expect_run("refusal 7, pop of none", zeros, no_count, sizeof no_count, 64, 7, 5, one, 5, pushed);
+    expect_run("refusal 7, payload", zeros, status_pay, sizeof status_pay, 64, 7, 5, one, 5, pushed);
+    expect_run("refusal 8", zeros, pop, sizeof pop, 11, 8, 5, one, 5, pushed);
+    expect_run("an empty file", pushed, zeros, 0, 0, 0, 0, one, 0, pushed);
+}
+
+static void refusals_of_the_call(void)
+{
+    static uint8_t long_file[PUNDALIKET_MOST_INPUT + 1];
+    uint8_t bad[PUNDALIKET_STATE_BYTES] = { 0 };
+    for (size_t i = 0; i + 4 <= PUNDALIKET_MOST_INPUT; i += 4)
+        memcpy(long_file + i, "\2\0\4\0", 4);
+    expect_run("refusal 9", zeros, long_file, sizeof long_file, 64, 9, 0, zeros, 0, zeros);
+    for (int flag = 16; flag <= 18; flag++) {
+        memset(bad, 0, sizeof bad);
+        bad[flag] = flag == 17 ? 0x80 : 2;
+        expect_run("refusal 13", bad, long_file, sizeof long_file, 64, 13, 0, zeros, 0, bad);
+        lend(&state, 1, sizeof bad, bad);
+        check(pundaliket_event(state.at, sizeof bad, 99, 0) == 13 * 256 && holds(&state, bad) && guarded(&state), "event 13", (unsigned)flag);
+    }
+    for (size_t n = 0; n < 24; n++) {
+        lend(&state, 3, n, NULL);
+        lend(&replies, 2, 64, NULL);
+        lend(&report, 1, n, NULL);
+        uint32_t r = pundaliket_run(state.at, 0, long_file, sizeof long_file, replies.at, 64, report.at, n);
+        int kept = 1;
+        for (size_t i = 0; i < n; i++)
+            kept = kept && report.at[i] == UNTOUCHED;
+        check(n == 9 ? r == 13 : r == 14 && kept, "refusal 14", (unsigned)n);
+        check(guarded(&state) && guarded(&replies) && guarded(&report), "refusal 14, guards", (unsigned)n);
+    }
+}
+
+static void expect_conversion(const char *what, int inward, uint32_t x, size_t n, uint32_t refusal, uint32_t result)
+{
+    for (unsigned alignment = 0; alignment < 8; alignment++) {
+        lend(&out, alignment, n, NULL);
+        uint32_t r = inward ? pundaliket_f32_to_word(x, out.at, n) : pundaliket_word_to_f32(x, out.at, n);
+        int good = r == refusal && guarded(&out);
+        for (size_t i = 0; i < n; i++)
+            good = good && out.at[i] == (refusal ? UNTOUCHED : (uint8_t)(result >> (8 * i)));
+        check(good, what, alignment);
+    }
+}
+
+static void refusals_of_conversions(void)
+{
+    expect_conversion("one outward", 0, 0x01800000, 4, 0, 0x3F800000);
+    expect_conversion("one inward", 1, 0x3F800000, 4, 0, 0x01800000);
+    expect_conversion("minus the least outward", 0, 0xC0800000, 4, 0, 0x9F000000);
+    expect_conversion("minus the least inward", 1, 0x9F000000, 4, 0, 0xC0800000);
+    expect_conversion("the zero word", 0, 0, 4, 0, 0);
+    expect_conversion("minus zero", 1, 0x80000000, 4, 0, 0);
+    expect_conversion("refusal 4 of a conversion", 0, 0x01400000, 4, 4, 0);
+    expect_conversion("refusal 4, a signed zero", 0, 0x80000000, 4, 4, 0);
+    expect_conversion("refusal 8 before 4", 0, 0x01400000, 3, 8, 0);
+    expect_conversion("refusal 8 before 10", 1, 0x7F800000, 5, 8, 0);
+    expect_conversion("refusal 8, no bytes", 1, 0x3F800000, 0, 8, 0);
+    expect_conversion("refusal 10, infinite", 1, 0xFF800000, 4, 10, 0);
+    expect_conversion("refusal 10, not a number", 1, 0x7F800001, 4, 10, 0);
+    expect_conversion("refusal 11", 1, 0x5F000000, 4, 11, 0);
+    expect_conversion("the largest", 1, 0x5EFFFFFF, 4, 0, 0x3FFFFFFF);
+    expect_conversion("refusal 12", 1, 0x1EFFFFFF, 4, 12, 0);
+    expect_conversion("refusal 12, subnormal", 1, 0x80000001, 4, 12, 0);
+}
+
+static void expect_event(const char *what, const uint8_t *s, uint32_t kind, uint8_t byte, uint32_t answer, const uint8_t *left)
+{
+    for (unsigned alignment = 0; alignment < 8; alignment++) {
+        lend(&state, alignment, PUNDALIKET_STATE_BYTES, s);
+        uint32_t r = pundaliket_event(state.at, state.length, kind, byte);
+        check(r == answer && holds(&state, left) && guarded(&state), what, alignment);
+    }
+}
+
+static void events_of_each_kind(void)
+{
+    static const uint8_t s[] = { 1, 2, 3, 4, 5, 6, 7, 8, 9, 10, 11, 12, 13, 14, 15, 16, 0, 0x23, 1 };
+    static const uint8_t pushed[] = { 0xEE, 1, 2, 3, 4, 5, 6, 7, 8, 9, 10, 11, 12, 13, 14, 15, 1, 0x23, 1 };
+    static const uint8_t popped[] = { 2, 3, 4, 5, 6, 7, 8, 9, 10, 11, 12, 13, 14, 15, 16, 1, 1, 0x23, 1 };
+    static const uint8_t exchanged[] = { 3, 4, 1, 2, 5, 6, 7, 8, 9, 10, 11, 12, 13, 14, 15, 16, 0, 0, 1 };
+    static const uint8_t acknowledged[] = { 1, 2, 3, 4, 5, 6, 7, 8, 9, 10, 11, 12, 13, 14, 15, 16, 0, 0x23, 0 };
+    expect_event("event push", s, PUNDALIKET_PUSH, 0xEE, 0, pushed);
+    expect_event("event pop", s, PUNDALIKET_POP, 0xEE, 1, popped);
+    expect_event("event command XCHS", s, PUNDALIKET_COMMAND, 0xF9, 0, exchanged);
+    expect_event("event command, unknown", s, PUNDALIKET_COMMAND, 0x0C, 1 * 256, s);
+    expect_event("event command, derived", s, PUNDALIKET_COMMAND, 0x8B, 2 * 256, s);
+    expect_event("event command, half word", pushed, PUNDALIKET_COMMAND, 0x80, 3 * 256, pushed);
+    expect_event("event command, improper", s, PUNDALIKET_COMMAND, 0x10, 4 * 256, s);
+    expect_event("event status", s, PUNDALIKET_STATUS, 0xEE, 0x23, s);
+    expect_event("event reset", s, PUNDALIKET_RESET, 0xEE, 0, zeros);
+    expect_event("event acknowledge", s, PUNDALIKET_ACKNOWLEDGE, 0xEE, 0, acknowledged);
+    expect_event("event of no kind", s, 0, 1, 5 * 256, s);
+    expect_event("event of kind 7", s, 7, 1, 5 * 256, s);
+    expect_event("event of kind 257", s, 257, 1, 5 * 256, s);
+    expect_event("event of kind 2^32 - 1", s, 0xFFFFFFFF, 1, 5 * 256, s);
+}
+
+/* ---- against plain.c */
+
+static void all_events(void)
+{
+    uint8_t s[24];
+    static const uint32_t kinds[] = { 0, 1, 2, 3, 4, 5, 6, 7, 8, 255, 256, 257, 258, 259, 260, 261, 262, 65539, 0x80000003, 0xFFFFFFFF };
+    for (unsigned code = 0; code < 256; code++)
+        for (unsigned i = 0; i < 200; i++) {
+            draw_state(s);
+            check(event_agrees(i & 7, s, 19, 3, (uint8_t)code), "command, code", code);
+        }
+    for (unsigned k = 0; k < sizeof kinds / sizeof kinds[0]; k++)
+        for (unsigned i = 0; i < 500; i++) {
+            draw_state(s);
+            if (below(4) == 0)
+                s[16 + below(3)] = (uint8_t)drawn();
+            check(event_agrees(i & 7, s, below(10) ? 19 : below(24), kinds[k], (uint8_t)drawn()), "event, kind", kinds[k]);
+        }
+}
+
+/* a record that is done or answered, most often */
+static size_t draw_record(uint8_t *to)
+{
+    static const uint8_t codes[] = {
+        0x00, 0x10, 0x11, 0x12, 0x13, 0x15, 0x17, 0x18, 0x19, 0x1A, 0x1C, 0x1D, 0x1E, 0x1F, 0x2C, 0x2D, 0x2E, 0x2F, 0x34, 0x36,
+        0x37, 0x38, 0x39, 0x6C, 0x6D, 0x6E, 0x6F, 0x74, 0x76, 0x77, 0x78, 0x79,
+    };
+    uint32_t draw = below(16), kind = draw < 6 ? 1 : draw < 8 ? 2 : draw < 13 ? 3 : draw - 9, n = 0;
+    if (kind == 1) {
+        n = below(4) ? 4 : below(3) ? 2 : 1 + below(16);
+        uint32_t w = drawn_word();
+        for (uint32_t i = 0; i < n; i++)
+            to[4 + i] = i < 4 ? (uint8_t)(w >> (8 * i)) : (uint8_t)drawn();
+    } else if (kind == 2) {
+        n = 1;
+        to[4] = below(3) ? (below(2) ? 4 : 2) : (uint8_t)(1 + below(16));
+    } else if (kind == 3) {
+        n = 1;
+        to[4] = below(12) ? codes[below(sizeof codes)] | (uint8_t)(below(2) << 7) : (uint8_t)drawn();
+    }
+    to[0] = (uint8_t)(2 + n);
+    to[1] = 0;
+    to[2] = (uint8_t)kind;
+    to[3] = 0;
+    return 4 + n;
+}
+
+static void drawn_files(void)
+{
+    static uint8_t file[16384];
+    uint8_t s[24];
+    for (unsigned i = 0; i < 10000; i++) {
+        size_t n = 0, records = i % 100 == 0 ? 900 : below(40), room = i % 3 ? 2000 : below(200);
+        for (size_t k = 0; k < records; k++)
+            n += draw_record(file + n);
+        if (i % 100 == 0)
+            room = 65536;
+        draw_state(s);
+        if (below(30) == 0)
+            s[16 + below(3)] = (uint8_t)drawn();
+        if (i % 4 == 1 && n > 0)
+            for (unsigned k = 1 + below(3); k > 0; k--)
+                file[below((uint32_t)n)] = below(2) ? (uint8_t)below(20) : (uint8_t)drawn();
+        if (i % 4 == 2)
+            n = below((uint32_t)n + 1);
+        check(run_agrees(i, s, 19, file, n, room, 9), "drawn file", i);
+    }
+    /* one file cut after each of its bytes, and in every small room */
+    size_t n = 0;
+    for (size_t k = 0; k < 40; k++)
+        n += draw_record(file + n);
+    for (size_t k = 0; k <= n; k++)
+        check(run_agrees((unsigned)k, zeros, 19, file, k, 2000, 9), "cut file", (unsigned)k);
+    for (size_t k = 0; k < 400; k++)
+        check(run_agrees((unsigned)k, zeros, 19, file, n, k, 9), "small room", (unsigned)k);
+    /* every small file of drawn bytes, slices of other lengths, the longest file and one byte more */
+    for (unsigned i = 0; i < 4000; i++) {
+        n = below(12);
+        for (size_t k = 0; k < n; k++)
+            file[k] = below(3) ? (uint8_t)below(8) : (uint8_t)drawn();
+        check(run_agrees(i, zeros, below(10) ? 19 : below(24), file, n, below(40), below(10) ? 9 : below(16)), "small file", i);
+    }
+    for (n = 0; n + 20 < PUNDALIKET_MOST_INPUT;)
+        n += draw_record(file + n);
+    while (n < PUNDALIKET_MOST_INPUT + 2)
+        file[n++] = 4;
+    for (size_t k = PUNDALIKET_MOST_INPUT - 2; k <= PUNDALIKET_MOST_INPUT + 2; k++)
+        check(run_agrees((unsigned)k, zeros, 19, file, k, 65536, 9), "long file", (unsigned)k);
+}
+
+static void all_conversions(void)
+{
+    static const uint32_t fractions[] = { 0, 1, 2, 0x3FFFFF, 0x400000, 0x7FFFFE, 0x7FFFFF };
+    for (uint32_t top = 0; top < 512; top++) {
+        for (unsigned k = 0; k < 7; k++)
+            check(conversions_agree(k, top << 23 | fractions[k], 4), "conversion, top bits", top);
+        for (unsigned k = 0; k < 40; k++)
+            check(conversions_agree(k & 7, top << 23 | (drawn() & 0x7FFFFF), 4), "conversion, drawn", top);
+    }
+    for (size_t n = 0; n < 9; n++)
+        for (unsigned k = 0; k < 50; k++)
+            check(conversions_agree(k & 7, drawn_word(), n), "conversion, slice of", (unsigned)n);
+}
+
+int main(void)
+{
+    example_of_01();
+    refusals_of_a_file();
+    refusals_of_the_call();
+    refusals_of_conversions();
+    events_of_each_kind();
+    all_events();
+    drawn_files();
+    all_conversions();
+    printf("%u checks, %u failed\n", checks, failed);
+    return failed != 0;
+}
