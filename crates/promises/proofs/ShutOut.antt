@@ -24,7 +24,7 @@ use Rattle.promises.specs.Cores.{Core, Meets, driven, Begins, runOf}
 use Rattle.promises.specs.WrongCores.{No, RefusesEverything, never-run, never-event, never-float, never-word, SingleReply, same-run, same-event, same-float, same-word, DoesNothing, back-state, back-replies, back-report, back-event, back-float, back-word, FirstRecordOnly, first-state, first-replies, InventedCounts, wrong-taken, wrong-written, wrong-away, ZeroChains, fresh, nine, first, second, Tells, WrongCores}
 use Rattle.promises.proofs.Recorded.{counts-exact}
 use Rattle.promises.proofs.Hosted.{float-comes-back}
-use Rattle.promises.proofs.Events.{both as both-true}
+use Rattle.promises.proofs.Events.{both}
 use Rattle.promises.proofs.Driven.{cores}
 
 -- ---- the inputs are bytes
@@ -35,7 +35,7 @@ isBytes (b ∷ l) = ltb b 256 && isBytes l
 bytes-in : (l : List ℕ) → isBytes l ≡ true → Bytes l
 unfolding isBytes
 bytes-in [] h = tt
-bytes-in (b ∷ l) h = let p = both-true (ltb b 256) (isBytes l) h in (ltb-true b 256 (p .0), bytes-in l (p .1))
+bytes-in (b ∷ l) h = let p = both (ltb b 256) (isBytes l) h in (ltb-true b 256 (p .0), bytes-in l (p .1))
 
 fresh-bytes : Bytes fresh
 fresh-bytes = bytes-in fresh (unfold isBytes in refl)
@@ -99,8 +99,8 @@ tells c M = record {
 }
 
 -- ---- two bytes that are not the same are no one byte
-unlike : (x y i : ℕ) {l m : List ℕ} → l ≡ m → getD l i 0 ≡ x → getD m i 0 ≡ y → (x ≡ y → ⊥) → ⊥
-unlike x y i e a b n = n (sym a ∙ ap (λ (k : List ℕ). getD k i 0) e ∙ b)
+apart : (x y i : ℕ) {l m : List ℕ} → l ≡ m → getD l i 0 ≡ x → getD m i 0 ≡ y → (x ≡ y → ⊥) → ⊥
+apart x y i e a b n = n (sym a ∙ ap (λ (k : List ℕ). getD k i 0) e ∙ b)
 
 refuses-everything : No RefusesEverything
 refuses-everything c M (never-run f) = f fresh [] [] nine fresh-bytes tt tt nine-bytes (tells c M .run-0)
@@ -109,30 +109,30 @@ refuses-everything c M (never-float f) = f 0 (zeros 4) (lit< tt) four-bytes (tel
 refuses-everything c M (never-word f) = f 0 (zeros 4) (lit< tt) four-bytes (tells c M .word-0)
 
 -- two numbers that are both n are the same
-both : (n x y : ℕ) {a b : ℕ} → a ≡ n → b ≡ n → a ≡ x → b ≡ y → x ≡ y
-both n x y p q r s = sym r ∙ p ∙ sym q ∙ s
+alike : (n x y : ℕ) {a b : ℕ} → a ≡ n → b ≡ n → a ≡ x → b ≡ y → x ≡ y
+alike n x y p q r s = sym r ∙ p ∙ sym q ∙ s
 
 single-reply : No SingleReply
 single-reply c M (same-run n f) =
-    let e = both n 0 14 (f fresh [] [] nine fresh-bytes tt tt nine-bytes) (f fresh [] [] [] fresh-bytes tt tt tt) (tells c M .run-0) (tells c M .run-14) in
+    let e = alike n 0 14 (f fresh [] [] nine fresh-bytes tt tt nine-bytes) (f fresh [] [] [] fresh-bytes tt tt tt) (tells c M .run-0) (tells c M .run-14) in
     omega arith
 single-reply c M (same-event n f) =
-    let e = both n 0 1280 (f fresh 5 0 fresh-bytes (lit< tt) (lit< tt)) (f fresh 0 0 fresh-bytes (lit< tt) (lit< tt)) (tells c M .event-0) (tells c M .event-5) in
+    let e = alike n 0 1280 (f fresh 5 0 fresh-bytes (lit< tt) (lit< tt)) (f fresh 0 0 fresh-bytes (lit< tt) (lit< tt)) (tells c M .event-0) (tells c M .event-5) in
     omega arith
 single-reply c M (same-float n f) =
-    let e = both n 0 4 (f 0 (zeros 4) (lit< tt) four-bytes) (f 1 (zeros 4) (lit< tt) four-bytes) (tells c M .float-0) (tells c M .float-4) in
+    let e = alike n 0 4 (f 0 (zeros 4) (lit< tt) four-bytes) (f 1 (zeros 4) (lit< tt) four-bytes) (tells c M .float-0) (tells c M .float-4) in
     omega arith
 single-reply c M (same-word n f) =
-    let e = both n 0 10 (f 0 (zeros 4) (lit< tt) four-bytes) (f 0x7f800000 (zeros 4) (lit< tt) four-bytes) (tells c M .word-0) (tells c M .word-10) in
+    let e = alike n 0 10 (f 0 (zeros 4) (lit< tt) four-bytes) (f 0x7f800000 (zeros 4) (lit< tt) four-bytes) (tells c M .word-0) (tells c M .word-10) in
     omega arith
 
 does-nothing : No DoesNothing
-does-nothing c M (back-state f) = unlike 0x55 0 0 (sym (tells c M .one-state) ∙ f fresh first (zeros 10) nine fresh-bytes first-bytes ten-bytes nine-bytes) refl refl (λ e. omega (arith, e))
-does-nothing c M (back-replies f) = unlike 3 0 0 (sym (tells c M .one-replies) ∙ f fresh first (zeros 10) nine fresh-bytes first-bytes ten-bytes nine-bytes) refl refl (λ e. omega (arith, e))
-does-nothing c M (back-report f) = unlike 5 0 1 (sym (tells c M .one-report) ∙ f fresh first (zeros 10) nine fresh-bytes first-bytes ten-bytes nine-bytes) refl refl (λ e. omega (arith, e))
-does-nothing c M (back-event f) = unlike 0x55 0 0 (sym (tells c M .event-state) ∙ f fresh 1 0x55 fresh-bytes (lit< tt) (lit< tt)) refl refl (λ e. omega (arith, e))
-does-nothing c M (back-float f) = unlike 0x80 0 2 (sym (tells c M .float-out) ∙ f 0x01800000 (zeros 4) (lit< tt) four-bytes) refl refl (λ e. omega (arith, e))
-does-nothing c M (back-word f) = unlike 0x80 0 2 (sym (tells c M .word-out) ∙ f 0x3f800000 (zeros 4) (lit< tt) four-bytes) refl refl (λ e. omega (arith, e))
+does-nothing c M (back-state f) = apart 0x55 0 0 (sym (tells c M .one-state) ∙ f fresh first (zeros 10) nine fresh-bytes first-bytes ten-bytes nine-bytes) refl refl (λ e. omega (arith, e))
+does-nothing c M (back-replies f) = apart 3 0 0 (sym (tells c M .one-replies) ∙ f fresh first (zeros 10) nine fresh-bytes first-bytes ten-bytes nine-bytes) refl refl (λ e. omega (arith, e))
+does-nothing c M (back-report f) = apart 5 0 1 (sym (tells c M .one-report) ∙ f fresh first (zeros 10) nine fresh-bytes first-bytes ten-bytes nine-bytes) refl refl (λ e. omega (arith, e))
+does-nothing c M (back-event f) = apart 0x55 0 0 (sym (tells c M .event-state) ∙ f fresh 1 0x55 fresh-bytes (lit< tt) (lit< tt)) refl refl (λ e. omega (arith, e))
+does-nothing c M (back-float f) = apart 0x80 0 2 (sym (tells c M .float-out) ∙ f 0x01800000 (zeros 4) (lit< tt) four-bytes) refl refl (λ e. omega (arith, e))
+does-nothing c M (back-word f) = apart 0x80 0 2 (sym (tells c M .word-out) ∙ f 0x3f800000 (zeros 4) (lit< tt) four-bytes) refl refl (λ e. omega (arith, e))
 
 -- the first record is one
 one-record : IsRecord first
@@ -144,9 +144,9 @@ one-record = record {
 
 first-record-only : No FirstRecordOnly
 first-record-only c M (first-state f) =
-    unlike 0xaa 0x55 0 (sym (tells c M .two-state) ∙ f fresh first second (zeros 10) nine one-record fresh-bytes first-bytes second-bytes ten-bytes nine-bytes ∙ tells c M .one-state) refl refl (λ e. omega (arith, e))
+    apart 0xaa 0x55 0 (sym (tells c M .two-state) ∙ f fresh first second (zeros 10) nine one-record fresh-bytes first-bytes second-bytes ten-bytes nine-bytes ∙ tells c M .one-state) refl refl (λ e. omega (arith, e))
 first-record-only c M (first-replies f) =
-    unlike 3 0 5 (sym (tells c M .two-replies) ∙ f fresh first second (zeros 10) nine one-record fresh-bytes first-bytes second-bytes ten-bytes nine-bytes ∙ tells c M .one-replies) refl refl (λ e. omega (arith, e))
+    apart 3 0 5 (sym (tells c M .two-replies) ∙ f fresh first second (zeros 10) nine one-record fresh-bytes first-bytes second-bytes ten-bytes nine-bytes ∙ tells c M .one-replies) refl refl (λ e. omega (arith, e))
 
 -- both counts are 0 where a call is turned away
 none-counted : (state input replies report : List ℕ) → length report ≡ 9 → (isState state ≡ false) ⊎ (12288 < length input)
@@ -169,7 +169,7 @@ invented-counts c M (wrong-away state input replies report s i w p n g differs) 
     differs (ap (λ (x : List ℕ). countAt x 1) e ∙ z .0, ap (λ (x : List ℕ). countAt x 5) e ∙ z .1)
 
 zero-chains : No ZeroChains
-zero-chains c M f = unlike 0x81 0 0 (sym (tells c M .chain) ∙ f fresh 0x01800000 (λ (n : ℕ). false) Change [] begins (tt, tt)) refl refl (λ e. omega (arith, e))
+zero-chains c M f = apart 0x81 0 0 (sym (tells c M .chain) ∙ f fresh 0x01800000 (λ (n : ℕ). false) Change [] begins (tt, tt)) refl refl (λ e. omega (arith, e))
 
 -- ---- the statement
 pub wrong-cores : WrongCores

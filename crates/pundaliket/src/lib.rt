@@ -40,8 +40,8 @@ fn run_good(state: &mut [u8], input: &[u8], replies: &mut [u8], report: &mut [u8
 {
     let s = load(state);
     let r = run_all(s, input, replies);
-    let t = r.state;
-    store(state, t);
+    let after = r.state;
+    store(state, after);
     fill_report(report, r.refusal, r.taken, r.written);
     r.refusal as u32
 }

@@ -1,7 +1,7 @@
 // Lent slices, read and written byte by byte within their bounds: what stands past the end reads as 0,
 // and what would be stored there is not. The state as 19 bytes.
-use crate::chip;
-use crate::chip::Chip;
+use crate::ring;
+use crate::ring::Chip;
 ghost use Prim.Native.Nat.{_≤_};
 
 pub fn get(s: &[u8], i: usize) -> u8 {
@@ -41,9 +41,9 @@ pub fn is_state(s: &[u8]) -> bool {
 
 // The stack is pushed from the bottom byte up.
 pub fn read_state(s: &[u8]) -> Chip {
-    let mut c = chip::fresh();
+    let mut c = ring::fresh();
     for i in 0..16usize {
-        c = chip::push(c, get(s, 15 - i)).chip;
+        c = ring::push(c, get(s, 15 - i)).chip;
     }
     let ring = c.ring;
     Chip {
@@ -57,7 +57,7 @@ pub fn read_state(s: &[u8]) -> Chip {
 
 pub fn write_state(s: &mut [u8], c: Chip) {
     for i in 0..16usize {
-        put(s, i, chip::byte(c, i));
+        put(s, i, ring::byte(c, i));
     }
     put(s, 16, c.pending as u8);
     put(s, 17, c.status);

@@ -1,8 +1,8 @@
 // The single event and the conversions on lent slices.
 use crate::bytes;
-use crate::chip;
-use crate::host;
-use crate::host::Host;
+use crate::host_floats;
+use crate::host_floats::Host;
+use crate::ring;
 
 // 256 times the refusal plus the byte read; a refused event writes nothing.
 pub fn event(state: &mut [u8], kind: u32, byte: u8) -> u32 {
@@ -12,7 +12,7 @@ pub fn event(state: &mut [u8], kind: u32, byte: u8) -> u32 {
     if kind == 0 || 6 < kind {
         return 5 * 256;
     }
-    let r = chip::event(bytes::read_state(state), kind, byte);
+    let r = ring::event(bytes::read_state(state), kind, byte);
     if r.refusal != 0 {
         return r.refusal as u32 * 256;
     }
@@ -32,9 +32,9 @@ fn handed(out: &mut [u8], h: Host) -> u32 {
 }
 
 pub fn word_to_f32(word: u32, out: &mut [u8]) -> u32 {
-    handed(out, host::word_to_f32(word))
+    handed(out, host_floats::word_to_f32(word))
 }
 
 pub fn f32_to_word(bits: u32, out: &mut [u8]) -> u32 {
-    handed(out, host::f32_to_word(bits))
+    handed(out, host_floats::f32_to_word(bits))
 }

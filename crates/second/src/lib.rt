@@ -6,15 +6,15 @@
 mod bytes;
 // The single event and the conversions, on slices.
 pub mod calls;
-// The chip: stack, status, service line and commands.
-pub mod chip;
 // Whole numbers of 320 binary digits.
 mod digits;
 // Fixed point: sums by halves, products by shift and add, quotients a bit at a time.
-pub mod fixed;
+pub mod fixed_point;
 // Float words: exact values as binary digits, cut once.
-pub mod float;
+pub mod float_words;
 // Chip words and host floats.
-pub mod host;
+pub mod host_floats;
+// The chip as a ring of bytes: stack, status, service line and commands.
+pub mod ring;
 // Files of records.
-pub mod records;
+pub mod runner;

@@ -7,7 +7,7 @@ use crate::tally::Tally;
 use crate::words;
 
 // A run: the file is drawn from a seed with so many records, then cut and damaged; the state is sound
-// where `fault` is 0 or 7; replies and report have so many bytes.
+// where `fault` is not 1 to 6; replies and report have so many bytes.
 struct Case {
     seed: u32,
     records: u32,
@@ -59,9 +59,9 @@ fn run_at(group: u32, i: u32) -> Case {
     let few = (i % 128) as usize;
     match group {
         0 => sound(i, 1 + i % 24, INPUT, 0, ROOM),
-        1 => sound(i / 128, 8, few, 0, ROOM),
+        1 => sound(i / 128, 16, few, 0, ROOM),
         2 => sound(i, 1 + i % 8, INPUT, 1 + i % 2, ROOM),
-        3 => sound(i / 128, 8, INPUT, 0, few),
+        3 => sound(i / 128, 16, INPUT, 0, few),
         4 => sound(i, 2400, 12264 + (i % 40) as usize, 0, ROOM),
         _ => unsound(i),
     }
@@ -122,7 +122,7 @@ fn second_run(
     let i = lent::part(input, n);
     let r = lent::part(replies, c.room);
     let p = lent::part(report, c.report);
-    second::records::run(
+    second::runner::run(
         &mut state[..s],
         &input[..i],
         &mut replies[..r],
@@ -172,14 +172,14 @@ fn second_event(state: &mut [u8], fault: u32, kind: u32, byte: u8) -> u32 {
 }
 
 fn same_event(i: u32) -> bool {
-    let fault = i % 8;
+    let fault = i % 16;
     let byte = files::code(words::drawn(i));
     let mut state_x = [0u8; 20];
     let mut state_y = [0u8; 20];
     files::put_state(&mut state_x, i, fault);
     files::put_state(&mut state_y, i, fault);
-    let x = main_event(&mut state_x, fault, kind(i / 8), byte);
-    let y = second_event(&mut state_y, fault, kind(i / 8), byte);
+    let x = main_event(&mut state_x, fault, kind(i / 16), byte);
+    let y = second_event(&mut state_y, fault, kind(i / 16), byte);
     x == y && check::same(&state_x, &state_y)
 }
 

@@ -5,7 +5,7 @@ use crate::tally;
 use crate::tally::Tally;
 use crate::words;
 use crate::words::Pair;
-use second::fixed::Made;
+use second::fixed_point::Made;
 
 fn made(bits: u32, refusal: u8) -> Made {
     Made {
@@ -27,9 +27,9 @@ fn main_answer(outward: bool, bits: u32) -> Made {
 
 fn second_answer(outward: bool, bits: u32) -> Made {
     let r = if outward {
-        second::host::word_to_f32(bits)
+        second::host_floats::word_to_f32(bits)
     } else {
-        second::host::f32_to_word(bits)
+        second::host_floats::f32_to_word(bits)
     };
     made(r.bits, r.refusal)
 }

@@ -11,23 +11,26 @@ fn amount(n: u32) -> u8 {
     }
 }
 
-// A carried code in three of four cases, else any.
+// A carried code in seven of eight cases, with either service bit; else any.
 pub fn code(n: u32) -> u8 {
-    let low = n / 4;
-    if n % 4 == 0 {
+    let carried =
+        b"\x00\x10\x11\x12\x13\x15\x17\x18\x19\x1A\x1C\x1D\x1E\x1F\x2C\x2D\x2E\x2F\x34\x36\x37\x38\x39\x6C\x6D\x6E\x6F\x74\x76\x77\x78\x79";
+    let low = n / 8;
+    if n % 8 == 0 {
         (low % 256) as u8
-    } else if n % 4 == 1 {
-        0x10 + (low % 16) as u8
-    } else if n % 4 == 2 {
-        0x2C + (low % 14) as u8
     } else {
-        0xEC + (low % 14) as u8
+        let service = (low / 32 % 2 * 128) as u8;
+        std::num::wrapping_add_u8(lent::get(carried, (low % 32) as usize), service)
     }
 }
 
-// Half of the records push, the others are of every kind.
+// Half of the records push, a quarter are commands, the others are of every kind.
 fn kind(n: u32) -> u8 {
-    if n % 2 == 0 { 1 } else { (1 + n / 2 % 6) as u8 }
+    match n % 4 {
+        0 | 1 => 1,
+        2 => 3,
+        _ => (1 + n / 4 % 6) as u8,
+    }
 }
 
 // How many bytes the payload of a kind has.

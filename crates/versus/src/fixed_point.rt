@@ -3,7 +3,7 @@ use crate::tally;
 use crate::tally::Tally;
 use crate::words;
 use crate::words::Pair;
-use second::fixed::Made;
+use second::fixed_point::Made;
 
 // The drawn pairs of each operation.
 const DRAWN: u32 = 4096;
@@ -12,39 +12,42 @@ fn is_wide(op: u32) -> bool {
     6 <= op
 }
 
+fn made(x: fixed::Fixed) -> Made {
+    Made {
+        word: x.word,
+        error: x.error,
+        carry: x.carry,
+    }
+}
+
 fn main_answer(op: u32, p: Pair) -> Made {
     let b = (p.b % 65536) as u16;
     let a = (p.a % 65536) as u16;
-    let made = match op {
-        0 => fixed::add16(b, a),
-        1 => fixed::sub16(b, a),
-        2 => fixed::mul16(b, a),
-        3 => fixed::muu16(b, a),
-        4 => fixed::div16(b, a),
-        5 => fixed::chs16(a),
-        6 => fixed::add32(p.b, p.a),
-        7 => fixed::sub32(p.b, p.a),
-        8 => fixed::mul32(p.b, p.a),
-        9 => fixed::muu32(p.b, p.a),
-        10 => fixed::div32(p.b, p.a),
-        _ => fixed::chs32(p.a),
-    };
-    Made {
-        word: made.word,
-        error: made.error,
-        carry: made.carry,
+    match op {
+        0 => made(fixed::add16(b, a)),
+        1 => made(fixed::sub16(b, a)),
+        2 => made(fixed::mul16(b, a)),
+        3 => made(fixed::muu16(b, a)),
+        4 => made(fixed::div16(b, a)),
+        5 => made(fixed::chs16(a)),
+        6 => made(fixed::add32(p.b, p.a)),
+        7 => made(fixed::sub32(p.b, p.a)),
+        8 => made(fixed::mul32(p.b, p.a)),
+        9 => made(fixed::muu32(p.b, p.a)),
+        10 => made(fixed::div32(p.b, p.a)),
+        _ => made(fixed::chs32(p.a)),
     }
 }
 
 fn second_answer(op: u32, p: Pair) -> Made {
     let wide = is_wide(op);
     match op % 6 {
-        0 => second::fixed::add(wide, p.b, p.a),
-        1 => second::fixed::sub(wide, p.b, p.a),
-        2 => second::fixed::mul(wide, p.b, p.a),
-        3 => second::fixed::muu(wide, p.b, p.a),
-        4 => second::fixed::div(wide, p.b, p.a),
-        _ => second::fixed::chs(wide, p.a),
+        0 => second::fixed_point::add(wide, p.b, p.a),
+        1 => second::fixed_point::sub(wide, p.b, p.a),
+        2 => second::fixed_point::mul(wide, p.b, p.a),
+        3 => second::fixed_point::muu(wide, p.b, p.a),
+        4 => second::fixed_point::div(wide, p.b, p.a),
+        _ => second::fixed_point::chs(wide, p.a),
     }
 }
 

@@ -8,7 +8,7 @@ use crate::tally;
 use crate::tally::Tally;
 use crate::words;
 use crate::words::Pair;
-use second::fixed::Made;
+use second::fixed_point::Made;
 
 // The words of `floats` below, and the parts of an operation's cases.
 const FLOATS: u32 = 91;
@@ -71,16 +71,16 @@ fn second_answer(op: u32, p: Pair) -> Made {
     let b = p.b;
     let a = p.a;
     match op {
-        0 => second::float::add(b, a),
-        1 => second::float::sub(b, a),
-        2 => second::float::mul(b, a),
-        3 => second::float::div(b, a),
-        4 => second::float::fixd(a),
-        5 => second::float::fixs(a),
-        6 => second::float::fltd(a),
-        7 => second::float::flts(a),
-        8 => made(second::float::chsf(a), 0),
-        _ => made(second::float::is_proper(a) as u32, 0),
+        0 => second::float_words::add(b, a),
+        1 => second::float_words::sub(b, a),
+        2 => second::float_words::mul(b, a),
+        3 => second::float_words::div(b, a),
+        4 => second::float_words::fixd(a),
+        5 => second::float_words::fixs(a),
+        6 => second::float_words::fltd(a),
+        7 => second::float_words::flts(a),
+        8 => made(second::float_words::chsf(a), 0),
+        _ => made(second::float_words::is_proper(a) as u32, 0),
     }
 }
 

@@ -2,6 +2,10 @@
 use crate::words;
 ghost use Rattle.io.specs.Counts.{Counts};
 
+pub fn get(s: &[u8], i: usize) -> u8 {
+    if i < s.len() { s[i] } else { 0 }
+}
+
 pub fn put(s: &mut [u8], i: usize, b: u8) {
     if i < s.len() {
         s[i] = b;

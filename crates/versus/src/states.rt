@@ -6,8 +6,8 @@ use crate::tally::Tally;
 use crate::words;
 use chip::Answer;
 use chip::State;
-use second::chip::Chip;
-use second::chip::Reply;
+use second::ring::Chip;
+use second::ring::Reply;
 
 // An event on a state.
 struct Event {
@@ -160,13 +160,13 @@ fn main_answer(e: Event) -> Reply {
 }
 
 fn second_answer(e: Event) -> Reply {
-    second::chip::event(chip_of(e.state), e.kind, e.byte)
+    second::ring::event(chip_of(e.state), e.kind, e.byte)
 }
 
 fn same_stack(x: Chip, y: Chip) -> bool {
     let mut same = true;
     for i in 0..16usize {
-        if second::chip::byte(x, i) != second::chip::byte(y, i) {
+        if second::ring::byte(x, i) != second::ring::byte(y, i) {
             same = false;
         }
     }
@@ -187,7 +187,7 @@ fn show(x: u32, y: u8, c: Chip) {
     tally::hex(x as u64, 2);
     tally::hex(y as u64, 2);
     for i in 0..16usize {
-        tally::hex(second::chip::byte(c, i) as u64, 2);
+        tally::hex(second::ring::byte(c, i) as u64, 2);
     }
     tally::hex(c.pending as u64, 2);
     tally::hex(c.status as u64, 2);

@@ -1,7 +1,7 @@
 // Counts of compared cases and of those that differ, and what is printed.
 use crate::words::Pair;
 use libc::STDOUT_FILENO;
-use second::fixed::Made;
+use second::fixed_point::Made;
 
 pub struct Tally {
     pub compared: u64,

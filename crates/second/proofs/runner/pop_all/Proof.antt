@@ -3,8 +3,8 @@ use Prim.Native.Nat.{_-_, _≤_}
 use borrow.Author.Needs.{needs}
 use lib.ListN.{length}
 use mathlib.Core.Path.{_≡_}
-use Rattle.second.proofs.records.pop_all.Statement.{statement}
-use Rattle.second.proofs.records.pop_all.Tie as tie
+use Rattle.second.proofs.runner.pop_all.Statement.{statement}
+use Rattle.second.proofs.runner.pop_all.Tie as tie
 
 abbrev Inv-loop : tie.InvT-loop
 Inv-loop replies₀ to n after₀ i₀ replies after i = (i ≤ n) × (length replies ≡ length replies₀)

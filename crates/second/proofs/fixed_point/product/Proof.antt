@@ -1,8 +1,8 @@
 -- Each turn halves what is left of the factor. Assumes nothing.
 use Prim.Native.Nat.{_+_, _-_, _≤_, _<_}
 use borrow.Author.Needs.{needs}
-use Rattle.second.proofs.fixed.product.Statement.{statement}
-use Rattle.second.proofs.fixed.product.Tie as tie
+use Rattle.second.proofs.fixed_point.product.Statement.{statement}
+use Rattle.second.proofs.fixed_point.product.Tie as tie
 
 abbrev Inv-loop : tie.InvT-loop
 Inv-loop b a sum₀ part₀ rest₀ sum part rest = 0 ≤ rest

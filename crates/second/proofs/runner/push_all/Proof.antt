@@ -1,8 +1,8 @@
 -- The bytes are counted. Assumes nothing.
 use Prim.Native.Nat.{_-_, _≤_}
 use borrow.Author.Needs.{needs}
-use Rattle.second.proofs.records.push_all.Statement.{statement}
-use Rattle.second.proofs.records.push_all.Tie as tie
+use Rattle.second.proofs.runner.push_all.Statement.{statement}
+use Rattle.second.proofs.runner.push_all.Tie as tie
 
 abbrev Inv-loop : tie.InvT-loop
 Inv-loop input from n after₀ i₀ after i = i ≤ n

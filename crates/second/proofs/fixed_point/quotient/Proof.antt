@@ -1,8 +1,8 @@
 -- Thirty-two turns are counted. Assumes nothing.
 use Prim.Native.Nat.{_+_, _-_, _≤_, _<_}
 use borrow.Author.Needs.{needs}
-use Rattle.second.proofs.fixed.quotient.Statement.{statement}
-use Rattle.second.proofs.fixed.quotient.Tie as tie
+use Rattle.second.proofs.fixed_point.quotient.Statement.{statement}
+use Rattle.second.proofs.fixed_point.quotient.Tie as tie
 
 abbrev Inv-loop : tie.InvT-loop
 Inv-loop b a left₀ rest₀ digits₀ counter₀ left rest digits counter = counter ≤ 32

@@ -3,8 +3,8 @@ use Prim.Native.Nat.{_-_, _≤_}
 use borrow.Author.Needs.{needs}
 use lib.ListN.{length}
 use mathlib.Core.Path.{_≡_}
-use Rattle.second.proofs.records.run.Statement.{statement}
-use Rattle.second.proofs.records.run.Tie as tie
+use Rattle.second.proofs.runner.run.Statement.{statement}
+use Rattle.second.proofs.runner.run.Tie as tie
 
 abbrev Inv-loop : tie.InvT-loop
 Inv-loop state input replies₀ report r₀ counter₀ replies r counter = (counter ≤ 3073) × (length replies ≡ length replies₀)

@@ -1,8 +1,8 @@
 // The chip as a ring of 16 bytes with a place for the top: a pop is a step of the place, a push a step
 // back and a store. Codes are told apart by a chain of tests.
-use crate::fixed;
-use crate::fixed::Made;
-use crate::float;
+use crate::fixed_point;
+use crate::fixed_point::Made;
+use crate::float_words;
 ghost use Prim.Native.Nat.{_<_, _≤_};
 
 pub struct Chip {
@@ -152,7 +152,7 @@ fn converted(c: Chip, r: Made) -> Work {
 
 // The top cell made two: the cells F, G, H are lost.
 fn float_of_cell(c: Chip) -> Work {
-    let r = float::flts(cell(c, 0));
+    let r = float_words::flts(cell(c, 0));
     let down = put(moved(c, 14), true, 0, r.word);
     done(
         put(put(down, false, 6, 0), false, 7, 0),
@@ -164,7 +164,7 @@ fn float_of_cell(c: Chip) -> Work {
 
 // The top two cells made one, and D lost; A stays where it does not fit.
 fn cell_of_float(c: Chip) -> Work {
-    let r = float::fixs(word(c, true, 0));
+    let r = float_words::fixs(word(c, true, 0));
     if r.error != 0 {
         return converted(c, r);
     }
@@ -178,17 +178,17 @@ fn fixed_work(c: Chip, wide: bool, op: u8) -> Work {
     let b = word(c, wide, 1);
     let a = word(c, wide, 0);
     if op == 0x0C {
-        two_to_one(c, wide, fixed::add(wide, b, a), false)
+        two_to_one(c, wide, fixed_point::add(wide, b, a), false)
     } else if op == 0x0D {
-        two_to_one(c, wide, fixed::sub(wide, b, a), false)
+        two_to_one(c, wide, fixed_point::sub(wide, b, a), false)
     } else if op == 0x0E {
-        two_to_one(c, wide, fixed::mul(wide, b, a), true)
+        two_to_one(c, wide, fixed_point::mul(wide, b, a), true)
     } else if op == 0x0F {
-        two_to_one(c, wide, fixed::div(wide, b, a), true)
+        two_to_one(c, wide, fixed_point::div(wide, b, a), true)
     } else if op == 0x16 {
-        two_to_one(c, wide, fixed::muu(wide, b, a), true)
+        two_to_one(c, wide, fixed_point::muu(wide, b, a), true)
     } else if op == 0x14 {
-        replaced(c, wide, fixed::chs(wide, a))
+        replaced(c, wide, fixed_point::chs(wide, a))
     } else {
         stack_work(c, wide, op)
     }
@@ -212,21 +212,21 @@ fn float_work(c: Chip, op: u8) -> Work {
     let b = word(c, true, 1);
     let a = word(c, true, 0);
     if op == 0x10 {
-        two_to_one(c, true, float::add(b, a), true)
+        two_to_one(c, true, float_words::add(b, a), true)
     } else if op == 0x11 {
-        two_to_one(c, true, float::sub(b, a), true)
+        two_to_one(c, true, float_words::sub(b, a), true)
     } else if op == 0x12 {
-        two_to_one(c, true, float::mul(b, a), true)
+        two_to_one(c, true, float_words::mul(b, a), true)
     } else if op == 0x13 {
-        two_to_one(c, true, float::div(b, a), true)
+        two_to_one(c, true, float_words::div(b, a), true)
     } else if op == 0x15 {
-        replaced(c, true, float::made(float::chsf(a), 0))
+        replaced(c, true, float_words::made(float_words::chsf(a), 0))
     } else if op == 0x1C {
-        converted(c, float::fltd(a))
+        converted(c, float_words::fltd(a))
     } else if op == 0x1D {
         float_of_cell(c)
     } else if op == 0x1E {
-        converted(c, float::fixd(a))
+        converted(c, float_words::fixd(a))
     } else if op == 0x1F {
         cell_of_float(c)
     } else {
@@ -267,8 +267,8 @@ fn judged_float(op: u8) -> u8 {
 // Whether a float command meets an operand that is not proper: A and B for the four operations,
 // A for the two fixings.
 fn meets_improper(c: Chip, op: u8) -> bool {
-    let a = float::is_proper(word(c, true, 0));
-    let b = float::is_proper(word(c, true, 1));
+    let a = float_words::is_proper(word(c, true, 0));
+    let b = float_words::is_proper(word(c, true, 1));
     if op >= 0x10 && op <= 0x13 {
         !a || !b
     } else if op == 0x1E || op == 0x1F {

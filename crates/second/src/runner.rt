@@ -1,7 +1,7 @@
 // Files of records: each is judged from its bytes alone, then done, event by event.
 use crate::bytes;
-use crate::chip;
-use crate::chip::Chip;
+use crate::ring;
+use crate::ring::Chip;
 ghost use Prim.Native.Nat.{_≤_};
 
 // The bytes of data in a reply, by kind and the payload's first byte.
@@ -57,7 +57,7 @@ fn judged(input: &[u8], at: usize, room: usize) -> u8 {
 fn push_all(c: Chip, input: &[u8], from: usize, n: usize) -> Chip {
     let mut after = c;
     for i in 0..n {
-        after = chip::push(after, bytes::get(input, bytes::on(from, i))).chip;
+        after = ring::push(after, bytes::get(input, bytes::on(from, i))).chip;
     }
     after
 }
@@ -66,8 +66,8 @@ fn push_all(c: Chip, input: &[u8], from: usize, n: usize) -> Chip {
 fn pop_all(c: Chip, replies: &mut [u8], to: usize, n: usize) -> Chip {
     let mut after = c;
     for i in 0..n {
-        bytes::put(replies, bytes::on(to, i), chip::byte(after, 0));
-        after = chip::pop(after).chip;
+        bytes::put(replies, bytes::on(to, i), ring::byte(after, 0));
+        after = ring::pop(after).chip;
     }
     after
 }
@@ -100,7 +100,7 @@ fn worked(c: Chip, input: &[u8], at: usize, replies: &mut [u8], to: usize) -> Ch
         bytes::put(replies, bytes::on(to, 5), c.status);
         return c;
     }
-    let r = chip::event(c, kind as u32, first);
+    let r = ring::event(c, kind as u32, first);
     bytes::put(replies, bytes::on(to, 4), r.refusal);
     r.chip
 }

@@ -1,7 +1,7 @@
 // Chip words and host floats by their exact values: the value of an f32, and of a word, times 2^149 is
 // a whole number of fewer than 320 binary digits.
 use crate::digits;
-use crate::float;
+use crate::float_words;
 
 // 01's number of the refusal, and the float's bits or the word.
 pub struct Host {
@@ -16,10 +16,10 @@ fn given(refusal: u8, bits: u32) -> Host {
 // The f32 whose 24 digits from the first on are those of the word: its exponent field is the place of
 // the last of them plus 1.
 pub fn word_to_f32(word: u32) -> Host {
-    if !float::is_proper(word) {
+    if !float_words::is_proper(word) {
         return given(4, 0);
     }
-    let x = digits::number(float::mantissa(word), float::raised(word) + 61);
+    let x = digits::number(float_words::mantissa(word), float_words::raised(word) + 61);
     let length = digits::length(x);
     if length == 0 {
         return given(0, 0);
@@ -28,7 +28,7 @@ pub fn word_to_f32(word: u32) -> Host {
     let m = (digits::spelled(x, length, 24) % 8388608) as u32;
     given(
         0,
-        float::signed(float::is_negative(word), field * 8388608 + m),
+        float_words::signed(float_words::is_negative(word), field * 8388608 + m),
     )
 }
 
@@ -51,6 +51,9 @@ pub fn f32_to_word(bits: u32) -> Host {
     } else if length < 85 {
         given(12, 0)
     } else {
-        given(0, float::cut(float::is_negative(bits), x, 149).word)
+        given(
+            0,
+            float_words::cut(float_words::is_negative(bits), x, 149).word,
+        )
     }
 }

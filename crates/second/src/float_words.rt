@@ -2,7 +2,7 @@
 // A value's digits are those of the value times 2^unit; the value of a word times 2^88 is whole.
 ghost use Prim.Native.Nat.{_<_};
 use crate::digits;
-use crate::fixed::Made;
+use crate::fixed_point::Made;
 
 pub fn made(word: u32, error: u8) -> Made {
     Made {
