@@ -1,2 +1,3 @@
+-- The laws of the calls, beside the proofs of the functions.
 pub mod Laid
 pub mod Calling

@@ -1,3 +1,4 @@
+-- The laws of record files, beside the proofs of the functions.
 pub mod Tests
 pub mod Heads
 pub mod Blocks

@@ -6,8 +6,8 @@ use crate::tally;
 use crate::tally::Tally;
 use crate::words;
 
-// A run: the file is drawn from a seed with so many records, then cut and damaged; the state is sound
-// where `fault` is not 1 to 6; replies and report have so many bytes.
+// A run: the file is drawn from a seed with so many records, then cut and damaged, or is an edge record
+// where there are none; the state is sound where `fault` is not 1 to 6; replies and report have so many bytes.
 struct Case {
     seed: u32,
     records: u32,
@@ -54,7 +54,16 @@ fn unsound(i: u32) -> Case {
     }
 }
 
-// The run i of a group: whole files, cut, damaged, with small rooms, long, with faults.
+// No room, room for a reply without data, or ample room.
+fn edge_room(i: u32) -> usize {
+    match i % 3 {
+        0 => 4,
+        1 => 5,
+        _ => ROOM,
+    }
+}
+
+// The run i of a group: whole files, cut, damaged, with small rooms, long, with faults, edge records.
 fn run_at(group: u32, i: u32) -> Case {
     let few = (i % 128) as usize;
     match group {
@@ -63,12 +72,16 @@ fn run_at(group: u32, i: u32) -> Case {
         2 => sound(i, 1 + i % 8, INPUT, 1 + i % 2, ROOM),
         3 => sound(i / 128, 16, INPUT, 0, few),
         4 => sound(i, 2400, 12264 + (i % 40) as usize, 0, ROOM),
-        _ => unsound(i),
+        5 => unsound(i),
+        _ => sound(i, 0, INPUT, 0, edge_room(i / 5280)),
     }
 }
 
 // The input of a case; how many bytes it has.
 fn put_input(s: &mut [u8], c: Case) -> usize {
+    if c.records == 0 {
+        return files::put_edge(s, c.seed);
+    }
     let all = files::put_records(s, c.seed, c.records);
     let n = if c.cut < all { c.cut } else { all };
     let w = words::drawn(c.seed);
@@ -214,9 +227,9 @@ fn same_host(outward: bool, i: u32) -> bool {
 
 fn same(group: u32, i: u32) -> bool {
     match group {
-        6 => same_event(i),
-        7 => same_host(true, i),
-        8 => same_host(false, i),
+        7 => same_event(i),
+        8 => same_host(true, i),
+        9 => same_host(false, i),
         _ => same_run(run_at(group, i)),
     }
 }
@@ -240,7 +253,8 @@ pub fn groups() {
     group(3, b" small rooms", 4096);
     group(4, b" long files", 40);
     group(5, b" faults", 1024);
-    group(6, b" events", 10240);
-    group(7, b" to f32", 1584);
-    group(8, b" to word", 1584);
+    group(6, b" edge records", 15840);
+    group(7, b" events", 10240);
+    group(8, b" to f32", 1584);
+    group(9, b" to word", 1584);
 }

@@ -85,6 +85,31 @@ pub fn put_records(s: &mut [u8], seed: u32, records: u32) -> usize {
     at
 }
 
+// A single record with a length of 0 to 21, eight kinds and two that are not to be cut to a byte, eight
+// first bytes, in a file that is one byte short, whole or one byte over; how many bytes the file has.
+pub fn put_edge(s: &mut [u8], i: u32) -> usize {
+    let length = i % 22;
+    let kind = i / 22 % 10;
+    lent::put(s, 0, length as u8);
+    lent::put(s, 2, (kind % 8) as u8);
+    lent::put(s, 3, (kind / 8) as u8);
+    lent::put(s, 4, edge_byte(i / 220));
+    (length + 1 + i / 1760 % 3) as usize
+}
+
+fn edge_byte(i: u32) -> u8 {
+    match i % 8 {
+        0 => 0,
+        1 => 1,
+        2 => 2,
+        3 => 15,
+        4 => 16,
+        5 => 17,
+        6 => 0x90,
+        _ => 0xFF,
+    }
+}
+
 // A fault of a state: 1 to 3 another length, 4 to 6 a byte that 01 refuses, else none.
 pub fn state_size(fault: u32) -> usize {
     match fault {
@@ -99,15 +124,16 @@ pub fn state_size(fault: u32) -> usize {
 pub fn put_state(s: &mut [u8], seed: u32, fault: u32) {
     lent::fill(s, seed % 65536 * 64);
     let n = words::drawn(seed);
+    let over = (2 + n / 1024 % 8 * 36) as u8;
     let pending: u8 = if fault == 4 {
-        2
+        over
     } else if n % 4 == 0 {
         1
     } else {
         0
     };
     let busy: u8 = if fault == 5 { 128 } else { 0 };
-    let service: u8 = if fault == 6 { 255 } else { (n / 4 % 2) as u8 };
+    let service: u8 = if fault == 6 { over } else { (n / 4 % 2) as u8 };
     lent::put(s, 16, pending);
     lent::put(s, 17, std::num::wrapping_add_u8((n / 8 % 128) as u8, busy));
     lent::put(s, 18, service);
