@@ -23,7 +23,7 @@ extern "C" {
 enum {
     PUNDALIKET_DONE = 0,           /* done */
     PUNDALIKET_UNKNOWN_CODE = 1,   /* unknown command code; the state stays */
-    PUNDALIKET_DERIVED_CODE = 2,   /* derived function, codes 01 to 0B hex (81 to 8B); the state stays */
+    PUNDALIKET_DERIVED_CODE = 2,   /* derived function, codes 02 to 0B hex (82 to 8B); the state stays */
     PUNDALIKET_HALF_WORD = 3,      /* a known command, NOP too, with a half word pending; the state stays */
     PUNDALIKET_IMPROPER = 4,       /* a float operand, or a word to be made an f32, is not proper; the state stays */
     PUNDALIKET_NO_SUCH_KIND = 5,   /* kind of record or event not 1 to 6 */

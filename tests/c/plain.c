@@ -1,9 +1,9 @@
-/* Document 01 in plain C. The state is worked on where it lies, as 19 bytes; fixed-point results are
+/* Document 01 in plain C, with the square root of 02. The state is worked on where it lies, as 19 bytes; fixed-point results are
  * formed in 64-bit integers, float results in 64 bits with what falls off kept as one low bit. */
 #include "plain.h"
 
 enum { PENDING = 16, STATUS = 17, SERVICE = 18, STATE = 19, REPORT = 9, MOST_INPUT = 12288 };
-enum { OVERFLOW_ERROR = 1, UNDERFLOW_ERROR = 2, DIVIDE_ERROR = 8 };
+enum { OVERFLOW_ERROR = 1, UNDERFLOW_ERROR = 2, ROOT_ERROR = 4, DIVIDE_ERROR = 8 };
 
 static uint32_t get(const uint8_t *p, int n)
 {
@@ -179,6 +179,38 @@ static uint32_t floating(uint8_t *s, uint32_t code, uint32_t sr)
     return 0;
 }
 
+/* the greatest m of 24 bits whose square is not above x, for x from 2^46 on and below 2^48 */
+static uint32_t whole_root(uint64_t x)
+{
+    uint64_t low = 0x800000, high = 0x1000000;
+    while (high - low > 1) {
+        uint64_t middle = (low + high) / 2;
+        if (middle * middle > x)
+            high = middle;
+        else
+            low = middle;
+    }
+    return (uint32_t)low;
+}
+
+/* SQRT: the value is a whole number of 47 or 48 bits times an even power of two, so the root is one of 24 */
+static uint32_t root(uint8_t *s, uint32_t sr)
+{
+    uint32_t a = get(s, 4), error = 0;
+    if (!is_proper(a))
+        return 4;
+    if (a >> 31) {
+        settle(s, 4, ROOT_ERROR, 0, sr);
+        return 0;
+    }
+    int e = exponent(a), shift = e % 2 ? 23 : 24;
+    if (a)
+        put(s, 4, cut(0, whole_root((uint64_t)(a & 0xFFFFFF) << shift), (e - 24 - shift) / 2, &error));
+    clear(s + 12, 4);
+    settle(s, 4, error, 0, sr);
+    return 0;
+}
+
 /* FIXS (n = 2) and FIXD (n = 4) */
 static uint32_t fix(uint8_t *s, int n, uint32_t sr)
 {
@@ -260,13 +292,14 @@ static void push_pi(uint8_t *s, uint32_t sr)
 static uint32_t known(uint32_t code)
 {
     switch (code) {
-    case 0x00: case 0x10: case 0x11: case 0x12: case 0x13: case 0x15: case 0x17: case 0x18:
-    case 0x19: case 0x1A: case 0x1C: case 0x1D: case 0x1E: case 0x1F: case 0x2C: case 0x2D:
-    case 0x2E: case 0x2F: case 0x34: case 0x36: case 0x37: case 0x38: case 0x39: case 0x6C:
-    case 0x6D: case 0x6E: case 0x6F: case 0x74: case 0x76: case 0x77: case 0x78: case 0x79:
+    case 0x00: case 0x01: case 0x10: case 0x11: case 0x12: case 0x13: case 0x15: case 0x17:
+    case 0x18: case 0x19: case 0x1A: case 0x1C: case 0x1D: case 0x1E: case 0x1F: case 0x2C:
+    case 0x2D: case 0x2E: case 0x2F: case 0x34: case 0x36: case 0x37: case 0x38: case 0x39:
+    case 0x6C: case 0x6D: case 0x6E: case 0x6F: case 0x74: case 0x76: case 0x77: case 0x78:
+    case 0x79:
         return 0;
     default:
-        return code >= 0x01 && code <= 0x0B ? 2 : 1;
+        return code >= 0x02 && code <= 0x0B ? 2 : 1;
     }
 }
 
@@ -280,6 +313,7 @@ static uint32_t command(uint8_t *s, uint8_t byte)
         return 3;
     switch (code) {
     case 0x00: s[STATUS] = 0; s[SERVICE] = (uint8_t)sr; return 0;
+    case 0x01: return root(s, sr);
     case 0x10: case 0x11: case 0x12: case 0x13: return floating(s, code, sr);
     case 0x15: change_float_sign(s, sr); return 0;
     case 0x17: case 0x37: case 0x77: copy_top(s, n, sr); return 0;

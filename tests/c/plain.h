@@ -1,5 +1,5 @@
-/* The same four calls as include/pundaliket.h, in plain C, written from document 01 alone: another
- * opinion for the test and something to measure the library against. Proved by nothing. */
+/* The same four calls as include/pundaliket.h, in plain C, written from documents 01 and 02 alone:
+ * another opinion for the test and something to measure the library against. Proved by nothing. */
 #ifndef PLAIN_H
 #define PLAIN_H
 

@@ -1,6 +1,6 @@
 /* A C program over include/pundaliket.h, linked with the library. It checks 01's example, each
- * refusal of 01's table, that no byte beyond a lent slice is written, and, against the plain C of
- * plain.c, events over all codes, drawn, damaged and cut files, and conversions.
+ * refusal of 01's table, roots, that no byte beyond a lent slice is written, and, against the plain
+ * C of plain.c, events over all codes, drawn, damaged and cut files, and conversions.
  * Prints what differs, then 'N checks, M failed'; ends with 1 if M is not 0. */
 #include "../../include/pundaliket.h"
 #include "plain.h"
@@ -209,7 +209,7 @@ static void refusals_of_a_file(void)
     static const uint8_t improper[] = { 1, 0, 0, 0, 0, 0, 0, 0, 0, 0, 0, 0, 0, 0, 0, 0, 0, 0, 0 };
     static const uint8_t one[] = { 3, 0, 129, 0, 0 };
     static const uint8_t unknown[] = { 3, 0, 1, 0, 7, 3, 0, 3, 0, 0x0C }, unknown_replies[] = { 3, 0, 129, 0, 0, 3, 0, 131, 0, 1 };
-    static const uint8_t derived[] = { 3, 0, 1, 0, 7, 3, 0, 3, 0, 0x81 }, derived_replies[] = { 3, 0, 129, 0, 0, 3, 0, 131, 0, 2 };
+    static const uint8_t derived[] = { 3, 0, 1, 0, 7, 3, 0, 3, 0, 0x82 }, derived_replies[] = { 3, 0, 129, 0, 0, 3, 0, 131, 0, 2 };
     static const uint8_t half[] = { 3, 0, 1, 0, 7, 3, 0, 3, 0, 0x00 }, half_replies[] = { 3, 0, 129, 0, 0, 3, 0, 131, 0, 3 };
     static const uint8_t not_proper[] = { 3, 0, 3, 0, 0x9E }, not_proper_replies[] = { 3, 0, 131, 0, 4 };
     static const uint8_t kind[] = { 3, 0, 1, 0, 7, 2, 0, 7, 0 }, wide_kind[] = { 3, 0, 1, 0, 7, 2, 0, 4, 1 };
@@ -314,6 +314,7 @@ static void events_of_each_kind(void)
     expect_event("event command XCHS", s, PUNDALIKET_COMMAND, 0xF9, 0, exchanged);
     expect_event("event command, unknown", s, PUNDALIKET_COMMAND, 0x0C, 1 * 256, s);
     expect_event("event command, derived", s, PUNDALIKET_COMMAND, 0x8B, 2 * 256, s);
+    expect_event("event command, the first derived", s, PUNDALIKET_COMMAND, 0x02, 2 * 256, s);
     expect_event("event command, half word", pushed, PUNDALIKET_COMMAND, 0x80, 3 * 256, pushed);
     expect_event("event command, improper", s, PUNDALIKET_COMMAND, 0x10, 4 * 256, s);
     expect_event("event status", s, PUNDALIKET_STATUS, 0xEE, 0x23, s);
@@ -323,6 +324,68 @@ static void events_of_each_kind(void)
     expect_event("event of kind 7", s, 7, 1, 5 * 256, s);
     expect_event("event of kind 257", s, 257, 1, 5 * 256, s);
     expect_event("event of kind 2^32 - 1", s, 0xFFFFFFFF, 1, 5 * 256, s);
+}
+
+/* ---- SQRT, the first ask of 02: what must come is written out here, the roots by whole numbers of any length */
+
+static const uint8_t root_codes[] = { 0x01, 0x81 };
+
+/* SQRT of a, B to D below it, with the status and the service line that must not stay */
+static void expect_root(const char *what, uint32_t a, int pending, uint8_t code, uint32_t answer, uint32_t r, int d_kept, uint8_t status)
+{
+    uint8_t before[PUNDALIKET_STATE_BYTES] = { 0, 0, 0, 0, 0x11, 0x12, 0x13, 0x14, 0x21, 0x22, 0x23, 0x24, 0x31, 0x32, 0x33, 0x34 };
+    uint8_t left[PUNDALIKET_STATE_BYTES];
+    for (int i = 0; i < 4; i++)
+        before[i] = (uint8_t)(a >> (24 - 8 * i));
+    before[16] = (uint8_t)pending;
+    before[17] = 0x17;
+    before[18] = code < 0x80;
+    memcpy(left, before, sizeof left);
+    if (answer == 0) {
+        for (int i = 0; i < 4; i++)
+            left[i] = (uint8_t)(r >> (24 - 8 * i));
+        if (!d_kept)
+            memset(left + 12, 0, 4);
+        left[17] = status;
+        left[18] = code >= 0x80;
+    }
+    expect_event(what, before, PUNDALIKET_COMMAND, code, answer, left);
+}
+
+static void roots(void)
+{
+    static const struct {
+        uint32_t word, root;
+    } of[] = {
+        { 0x01800000, 0x01800000 }, { 0x02800000, 0x01B504F3 }, { 0x03800000, 0x02800000 }, { 0x04900000, 0x02C00000 },
+        { 0x7F800000, 0x00800000 }, { 0x00800000, 0x00B504F3 }, { 0x7E800000, 0x7FB504F3 }, { 0x07C80000, 0x04A00000 },
+        { 0x3FFFFFFF, 0x20B504F2 }, { 0x3EFFFFFF, 0x1FFFFFFF }, { 0x3F800000, 0x20800000 }, { 0x3E800001, 0x1FB504F3 },
+        { 0x40800000, 0x60B504F3 }, { 0x40FFFFFF, 0x60FFFFFF }, { 0x41800000, 0x61800000 }, { 0x41FFFFFF, 0x61B504F2 },
+        { 0x01800001, 0x01800000 }, { 0x01800002, 0x01800000 }, { 0x01800003, 0x01800001 }, { 0x02FFFFFF, 0x01FFFFFF },
+        { 0x02C90FDA, 0x01E2DFC4 }, { 0x7DCCCCCC, 0x7FA1E89A }, { 0x00FFFFFE, 0x00FFFFFE }, { 0x01FFFFFE, 0x01B504F2 },
+    };
+    static const uint32_t below_zero[] = { 0x81800000, 0x83800000, 0xBFFFFFFF, 0xC0800000, 0x80800000, 0xFFFFFFFF };
+    static const uint32_t improper[] = { 0x00000001, 0x007FFFFF, 0x01400000, 0x80000000, 0x817FFFFF, 0xFF000000 };
+    static const uint8_t file[] = { 6, 0, 1, 0, 0, 0, 0x80, 3, 3, 0, 3, 0, 0x81, 3, 0, 2, 0, 4, 2, 0, 4, 0 };
+    static const uint8_t written[] = {
+        3, 0, 129, 0, 0, 3, 0, 131, 0, 0, 7, 0, 130, 0, 0, 2, 0x80, 0, 0, 4, 0, 132, 0, 0, 0,
+    };
+    static const uint8_t left[] = { 0, 0, 0, 0, 0, 0, 0, 0, 0, 0, 0, 0, 2, 0x80, 0, 0, 0, 0, 1 };
+    for (unsigned k = 0; k < sizeof root_codes; k++) {
+        uint8_t code = root_codes[k];
+        expect_root("root of zero", 0, 0, code, 0, 0, 0, 0x20);
+        for (unsigned i = 0; i < sizeof of / sizeof of[0]; i++)
+            expect_root("root", of[i].word, 0, code, 0, of[i].root, 0, 0x00);
+        for (unsigned i = 0; i < sizeof below_zero / sizeof below_zero[0]; i++)
+            expect_root("root of a negative word", below_zero[i], 0, code, 0, below_zero[i], 1, 0x48);
+        for (unsigned i = 0; i < sizeof improper / sizeof improper[0]; i++) {
+            expect_root("root, improper", improper[i], 0, code, 4 * 256, 0, 0, 0);
+            expect_root("root, half word before improper", improper[i], 1, code, 3 * 256, 0, 0, 0);
+        }
+        expect_root("root, half word", 0x03800000, 1, code, 3 * 256, 0, 0, 0);
+        expect_root("root, half word before a negative word", 0x81800000, 1, code, 3 * 256, 0, 0, 0);
+    }
+    expect_run("root in a file", zeros, file, sizeof file, 64, 0, sizeof file, written, sizeof written, left);
 }
 
 /* ---- against plain.c */
@@ -349,8 +412,8 @@ static void all_events(void)
 static size_t draw_record(uint8_t *to)
 {
     static const uint8_t codes[] = {
-        0x00, 0x10, 0x11, 0x12, 0x13, 0x15, 0x17, 0x18, 0x19, 0x1A, 0x1C, 0x1D, 0x1E, 0x1F, 0x2C, 0x2D, 0x2E, 0x2F, 0x34, 0x36,
-        0x37, 0x38, 0x39, 0x6C, 0x6D, 0x6E, 0x6F, 0x74, 0x76, 0x77, 0x78, 0x79,
+        0x00, 0x01, 0x10, 0x11, 0x12, 0x13, 0x15, 0x17, 0x18, 0x19, 0x1A, 0x1C, 0x1D, 0x1E, 0x1F, 0x2C, 0x2D, 0x2E, 0x2F, 0x34,
+        0x36, 0x37, 0x38, 0x39, 0x6C, 0x6D, 0x6E, 0x6F, 0x74, 0x76, 0x77, 0x78, 0x79,
     };
     uint32_t draw = below(16), kind = draw < 6 ? 1 : draw < 8 ? 2 : draw < 13 ? 3 : draw - 9, n = 0;
     if (kind == 1) {
@@ -436,6 +499,7 @@ int main(void)
     refusals_of_the_call();
     refusals_of_conversions();
     events_of_each_kind();
+    roots();
     all_events();
     drawn_files();
     all_conversions();

@@ -16,19 +16,21 @@ use Rattle.float.specs.declared.Rounded.{Rounded}
 use Rattle.float.specs.Word.{proper, FloatWord}
 use Rattle.float.specs.Cut.{Rule}
 use Rattle.float.specs.Convert.{flts, fltd, fix, fixs, fixd, chsf}
+use Rattle.float.specs.Root.{sqrt}
 use Rattle.float.proofs.Results.{fltd-result, flts-result}
-use Rattle.stack.specs.Stack.{IsStack, bytesOf, zeros, nos, rotated, overA, overZero, replaced, copied, exchanged, pushedWord, converted, widened, narrowed, handedOut}
+use Rattle.float.proofs.RootExact.{root-result}
+use Rattle.stack.specs.Stack.{IsStack, bytesOf, zeros, tos, nos, rotated, overA, overZero, replaced, copied, exchanged, pushedWord, converted, widened, narrowed, handedOut}
 use Rattle.stack.proofs.Words.{tos-lt, nos-lt, length-bytes}
 use Rattle.stack.proofs.Layouts.{overA-stack, overZero-stack, replaced-stack, rotated-stack, exchanged-stack, copied-stack, pushedWord-stack, converted-stack, widened-stack, narrowed-stack}
 use Rattle.stack.proofs.Moves.{pops-hand, pops-read}
 use Rattle.codes.specs.declared.FloatOp.{FloatOp}
 use Rattle.codes.specs.declared.Command.{Command}
-use Rattle.codes.specs.declared.Command.the-variants.{Nop, Add, Sub, Mul, Muu, Div, Chs, Float, Chsf, Flt, Fix, Pto, Pop, Xch, Pupi}
+use Rattle.codes.specs.declared.Command.the-variants.{Nop, Add, Sub, Mul, Muu, Div, Chs, Float, Chsf, Flt, Fix, Pto, Pop, Xch, Pupi, Sqrt}
 use Rattle.chip.specs.declared.Outcome.{Outcome}
 use Rattle.chip.specs.declared.words.FixedOp.{FixedOp}
 use Rattle.chip.specs.declared.words.FixedOp.the-variants.{Add as XAdd, Sub as XSub, Mul as XMul, Muu as XMuu, Div as XDiv}
 use Rattle.chip.specs.Status.{sign, zeroBits, statusOf, errorOf}
-use Rattle.chip.specs.Commands.{wordA, wordB, halfOf, ends, keepsA, losesA, changesA, floats, converts, widens, narrows, fixedOf, floatOf, outcomeOf, properOperands}
+use Rattle.chip.specs.Commands.{wordA, wordB, halfOf, ends, keepsA, losesA, changesA, floats, converts, widens, narrows, roots, fixedOf, floatOf, outcomeOf, properOperands}
 use Rattle.chip.specs.Turns.{resultBytes}
 use Rattle.chip.proofs.Errors.{fixed-error, change-error, float-result, fix-error}
 use Rattle.chip.proofs.Rows.{both-of}
@@ -113,7 +115,18 @@ module _ (s : List ℕ) (S : IsStack s) where
       go true = fair Single (narrowed s (r .word)) 0 false (narrowed-stack s S (r .word)) (lit< tt)
       go false = fair Double (converted s (r .word)) (r .error) false (converted-stack s S (r .word)) h
 
+  roots-fair : (r : Rounded) → r .error < 16 → Fair (roots s r)
+  unfolding roots
+  roots-fair r h = go (eqb (r .error) 0)
+    where
+      go : (x : Bool) → Fair (cond x (ends Double (converted s (r .word)) 0 false) (ends Double s (r .error) false))
+      go true = fair Double (converted s (r .word)) 0 false (converted-stack s S (r .word)) (lit< tt)
+      go false = fair Double s (r .error) false S h
+
   -- the words A and B fit their width
+  a-fits : tos 4 s < 4294967296
+  a-fits = let e = S .sixteen in tos-lt 4 s (S .bytes) (omega arith)
+
   b-fits : nos 4 s < 4294967296
   b-fits = let e = S .sixteen in nos-lt 4 s (S .bytes) (omega arith)
 
@@ -137,6 +150,7 @@ module _ (s : List ℕ) (S : IsStack s) where
   outcome-fair rule (Pop w) p = fair w (rotated (sizeOf w) s) 0 false (rotated-stack s S (sizeOf w) (one w)) (lit< tt)
   outcome-fair rule (Xch w) p = fair w (exchanged (sizeOf w) s) 0 false (exchanged-stack s S (sizeOf w) (two w)) (lit< tt)
   outcome-fair rule Pupi p = fair Double (pushedWord s 0x02c90fda) 0 false (pushedWord-stack s S 0x02c90fda) (lit< tt)
+  outcome-fair rule Sqrt p = roots-fair (sqrt rule (wordA Double s)) (root-result rule (wordA Double s) (record { fits = a-fits; is-proper = p }) .small)
 
 -- ---- R on top
 -- what is on top of a list is what as many pops hand out
@@ -178,6 +192,15 @@ module _ (s : List ℕ) (S : IsStack s) where
       go true = pops-read 2 (r .word) (take 8 (drop 4 s) ++ zeros 6)
       go false = pops-read 4 (r .word) (take 8 (drop 4 s) ++ zeros 4)
 
+  roots-hand : (r : Rounded) → handedOut (length (cond (eqb (r .error) 0) (bytesOf 4 (r .word)) (take 4 s))) ((roots s r) .stack) ≡ cond (eqb (r .error) 0) (bytesOf 4 (r .word)) (take 4 s)
+  unfolding roots
+  roots-hand r = go (eqb (r .error) 0)
+    where
+      go : (x : Bool)
+          → handedOut (length (cond x (bytesOf 4 (r .word)) (take 4 s))) ((cond {A = Outcome} x (ends Double (converted s (r .word)) 0 false) (ends Double s (r .error) false)) .stack) ≡ cond x (bytesOf 4 (r .word)) (take 4 s)
+      go true = pops-read 4 (r .word) (take 8 (drop 4 s) ++ zeros 4)
+      go false = let e = S .sixteen in rw (length-take-le 4 s (omega arith)) (pops-hand 4 s (omega arith))
+
   -- B has its bytes, and A its own
   b-bytes : (w : Width) → length (take (sizeOf w) (drop (sizeOf w) s)) ≡ sizeOf w
   b-bytes w = let e = S .sixteen in let h = two w in length-take-le (sizeOf w) (drop (sizeOf w) s) (simp length-drop (omega arith))
@@ -208,3 +231,4 @@ module _ (s : List ℕ) (S : IsStack s) where
       rw (b-bytes w) (pops-hand (sizeOf w) (rotated (sizeOf w) s) m ∙ take-append-le (sizeOf w) (drop (sizeOf w) s) (take (sizeOf w) s) l)
   outcome-hands rule (Xch w) = rw (b-bytes w) (on-top (sizeOf w) (take (sizeOf w) (drop (sizeOf w) s)) (take (sizeOf w) s ++ drop (sizeOf w + sizeOf w) s) (b-bytes w))
   outcome-hands rule Pupi = pops-read 4 0x02c90fda (take 12 s)
+  outcome-hands rule Sqrt = roots-hand (sqrt rule (wordA Double s))

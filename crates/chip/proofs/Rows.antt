@@ -13,14 +13,15 @@ use Rattle.fixed.specs.Fixed.{chs}
 use Rattle.float.specs.declared.Rounded.{Rounded}
 use Rattle.float.specs.Word.{proper}
 use Rattle.float.specs.Convert.{flts, fltd, fixs, fixd, chsf}
+use Rattle.float.specs.Root.{sqrt}
 use Rattle.stack.specs.Stack.{tos, overA, overZero, replaced, converted, widened, narrowed}
 use Rattle.codes.specs.declared.FloatOp.{FloatOp}
 use Rattle.codes.specs.declared.Command.{Command}
-use Rattle.codes.specs.declared.Command.the-variants.{Float, Fix, Chsf, Flt}
+use Rattle.codes.specs.declared.Command.the-variants.{Float, Fix, Chsf, Flt, Sqrt}
 use Rattle.chip.specs.declared.Outcome.{Outcome}
 use Rattle.chip.specs.declared.words.FixedOp.{FixedOp}
 use Rattle.chip.specs.Status.{sign, statusOf}
-use Rattle.chip.specs.Commands.{baseRule, wordA, wordB, halfOf, ends, keepsA, losesA, changesA, floats, converts, widens, narrows, fixedOf, floatOf, outcomeOf, properOperands}
+use Rattle.chip.specs.Commands.{baseRule, wordA, wordB, halfOf, ends, keepsA, losesA, changesA, floats, converts, widens, narrows, roots, fixedOf, floatOf, outcomeOf, properOperands}
 use Rattle.chip.proofs.Errors.{float-result}
 
 -- ---- the status from its parts
@@ -74,6 +75,20 @@ module _ (s : List ℕ) {t : List ℕ} {a : ℕ} {r : Rounded} {o : Outcome} whe
       ∙ sym (ap (λ (x : Bool). cond x (ends Single (narrowed s (r .word)) 0 false) (ends Double (converted s (r .word)) (r .error) false)) (ne-eqb (r .error) 0 nz))
       ∙ ap (narrows s) (er ∙ ap fixs ea)
 
+  pub root-row : a ≡ wordA Double s → r ≡ sqrt baseRule a → r .error ≡ 0 → t ≡ converted s (r .word) → o ≡ ends Double t 0 false → o ≡ outcomeOf baseRule Sqrt s
+  unfolding roots
+  root-row ea er z et eo =
+      eo ∙ ap (λ (l : List ℕ). ends Double l 0 false) et
+      ∙ sym (ap (λ (x : Bool). cond x (ends Double (converted s (r .word)) 0 false) (ends Double s (r .error) false)) (eq-eqb (r .error) 0 z))
+      ∙ ap (roots s) (er ∙ ap (sqrt baseRule) ea)
+
+pub no-root-row : (s : List ℕ) {a : ℕ} {r : Rounded} {o : Outcome} → a ≡ wordA Double s → r ≡ sqrt baseRule a → (r .error ≡ 0 → ⊥) → o ≡ ends Double s (r .error) false → o ≡ outcomeOf baseRule Sqrt s
+unfolding roots
+no-root-row s {r = r} ea er nz eo =
+    eo
+    ∙ sym (ap (λ (x : Bool). cond x (ends Double (converted s (r .word)) 0 false) (ends Double s (r .error) false)) (ne-eqb (r .error) 0 nz))
+    ∙ ap (roots s) (er ∙ ap (sqrt baseRule) ea)
+
 pub chsf-row : (s : List ℕ) {t : List ℕ} {a x : ℕ} {o : Outcome} → a ≡ wordA Double s → x ≡ chsf a → t ≡ replaced 4 s x → o ≡ ends Double t 0 false → o ≡ outcomeOf baseRule Chsf s
 chsf-row s ea ex et eo = rw (eo, et, ex, ea)
 
@@ -83,6 +98,9 @@ both-proper s ek er ep eq ex ey = rw (ek, er, ep, eq, ex, ey)
 
 pub one-proper : (s : List ℕ) {k : Command} {w : Width} {q : Bool} {y : ℕ} → k ≡ Fix w → q ≡ proper y → y ≡ wordA Double s → q ≡ properOperands k s
 one-proper s ek eq ey = rw (ek, eq, ey)
+
+pub root-proper : (s : List ℕ) {k : Command} {q : Bool} {y : ℕ} → k ≡ Sqrt → q ≡ proper y → y ≡ wordA Double s → q ≡ properOperands k s
+root-proper s ek eq ey = rw (ek, eq, ey)
 
 -- both of two tests that together are true
 pub both-of : (p q : Bool) → (p && q) ≡ true → (p ≡ true) × (q ≡ true)

@@ -13,11 +13,12 @@ use Rattle.float.specs.Word.{proper}
 use Rattle.float.specs.Cut.{Rule, Down}
 use Rattle.float.specs.Float.{add as fadd, sub as fsub, mul as fmul, div as fdiv}
 use Rattle.float.specs.Convert.{flts, fltd, fixs, fixd, chsf}
+use Rattle.float.specs.Root.{sqrt}
 use Rattle.stack.specs.Stack.{tos, nos, rotated, overA, overZero, replaced, copied, exchanged, pushedWord, converted, widened, narrowed}
 use Rattle.codes.specs.declared.FloatOp.{FloatOp}
 use Rattle.codes.specs.declared.FloatOp.the-variants.{Add as FAdd, Sub as FSub, Mul as FMul, Div as FDiv}
 use Rattle.codes.specs.declared.Command.{Command}
-use Rattle.codes.specs.declared.Command.the-variants.{Nop, Add, Sub, Mul, Muu, Div, Chs, Float, Chsf, Flt, Fix, Pto, Pop, Xch, Pupi}
+use Rattle.codes.specs.declared.Command.the-variants.{Nop, Add, Sub, Mul, Muu, Div, Chs, Float, Chsf, Flt, Fix, Pto, Pop, Xch, Pupi, Sqrt}
 use Rattle.chip.specs.declared.Outcome.{Outcome}
 use Rattle.chip.specs.declared.words.FixedOp.{FixedOp}
 use Rattle.chip.specs.declared.words.FixedOp.the-variants.{Add as XAdd, Sub as XSub, Mul as XMul, Muu as XMuu, Div as XDiv}
@@ -74,6 +75,10 @@ widens s r = ends Double (widened s (r .word)) (r .error) false
 unfoldable pub narrows : List ℕ → Rounded → Outcome
 narrows s r = cond (eqb (r .error) 0) (ends Single (narrowed s (r .word)) 0 false) (ends Double (converted s (r .word)) (r .error) false)
 
+-- R, B, C, 0; on an error, where A is negative, the whole stack as it stands, and status by A
+unfoldable pub roots : List ℕ → Rounded → Outcome
+roots s r = cond (eqb (r .error) 0) (ends Double (converted s (r .word)) 0 false) (ends Double s (r .error) false)
+
 -- ---- the rows
 -- the fixed-point operations on B and A, at half of the number of words
 abbrev pub fixedOf : FixedOp → ℕ → ℕ → ℕ → Fixed
@@ -109,11 +114,13 @@ outcomeOf rule (Pop w) s = moves w (rotated (sizeOf w) s)
 outcomeOf rule (Pto w) s = moves w (copied (sizeOf w) s)
 outcomeOf rule (Xch w) s = moves w (exchanged (sizeOf w) s)
 outcomeOf rule Pupi s = moves Double (pushedWord s 0x02c90fda)
+outcomeOf rule Sqrt s = roots s (sqrt rule (wordA Double s))
 
--- whether the operands of FADD, FSUB, FMUL, FDIV, FIXS, FIXD are proper; no other command asks it
+-- whether the operands of FADD, FSUB, FMUL, FDIV, FIXS, FIXD, SQRT are proper; no other command asks it
 abbrev pub properOperands : Command → List ℕ → Bool
 properOperands (Float op) s = proper (wordB Double s) && proper (wordA Double s)
 properOperands (Fix w) s = proper (wordA Double s)
+properOperands Sqrt s = proper (wordA Double s)
 properOperands Nop s = true
 properOperands (Add w) s = true
 properOperands (Sub w) s = true

@@ -19,6 +19,6 @@ zeroBits w stack = eqb (tos (sizeOf w) stack) 0
 unfoldable pub statusOf : Width → List ℕ → ℕ → Bool → ℕ
 statusOf w stack error carry = cond (sign w stack) 64 0 + cond (zeroBits w stack) 32 0 + error * 2 + cond carry 1 0
 
--- the error field of a status: divide by zero 8, underflow 2, overflow 1
+-- the error field of a status: divide by zero 8, the root of a negative word 4, underflow 2, overflow 1
 abbrev pub errorOf : ℕ → ℕ
 errorOf status = status / 2 % 16

@@ -10,9 +10,10 @@ use Rattle.terms.specs.Width.{sizeOf}
 use Rattle.fixed.specs.Fixed.{add, sub, mul, muu, div, chs}
 use Rattle.float.specs.Cut.{Rule}
 use Rattle.float.specs.Convert.{flts, fltd, fixs, fixd, chsf}
+use Rattle.float.specs.Root.{sqrt}
 use Rattle.stack.specs.Stack.{bytesOf}
 use Rattle.codes.specs.declared.Command.{Command}
-use Rattle.codes.specs.declared.Command.the-variants.{Nop, Add, Sub, Mul, Muu, Div, Chs, Float, Chsf, Flt, Fix, Pto, Pop, Xch, Pupi}
+use Rattle.codes.specs.declared.Command.the-variants.{Nop, Add, Sub, Mul, Muu, Div, Chs, Float, Chsf, Flt, Fix, Pto, Pop, Xch, Pupi, Sqrt}
 use Rattle.chip.specs.declared.State.{State}
 use Rattle.chip.specs.Commands.{wordA, wordB, halfOf, floatOf}
 use Rattle.chip.specs.Step.{pushOf, popOf}
@@ -50,3 +51,4 @@ resultBytes rule (Pop w) s = take (sizeOf w) (drop (sizeOf w) s)
 resultBytes rule (Pto w) s = take (sizeOf w) s
 resultBytes rule (Xch w) s = take (sizeOf w) (drop (sizeOf w) s)
 resultBytes rule Pupi s = bytesOf 4 0x02c90fda
+resultBytes rule Sqrt s = cond (eqb ((sqrt rule (wordA Double s)) .error) 0) (bytesOf 4 ((sqrt rule (wordA Double s)) .word)) (take 4 s)

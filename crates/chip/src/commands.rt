@@ -13,7 +13,7 @@ ghost use mathlib.Core.Bool.{true, _&&_};
 ghost use Rattle.terms.specs.declared.Width.the-variants.{Single, Double};
 ghost use Rattle.float.specs.Word.{proper};
 ghost use Rattle.fixed.specs.Fixed.{chs};
-ghost use Rattle.codes.specs.declared.Command.the-variants.{Float, Chsf, Flt, Fix};
+ghost use Rattle.codes.specs.declared.Command.the-variants.{Float, Chsf, Flt, Fix, Sqrt};
 ghost use Rattle.chip.specs.Commands.{baseRule, wordA, wordB, halfOf, fixedOf, floatOf, keepsA, losesA, changesA, floats, outcomeOf, properOperands};
 
 // ADD, SUB: R, C.., the bottom holds A.
@@ -134,6 +134,18 @@ fn fix_double(s: [u8; 16]) -> Outcome
     ended(stack::after_fltd(s, r.word), Width::Double, r.error, false)
 }
 
+// SQRT: R, B, C, 0; a negative word leaves the whole stack.
+fn take_root(s: [u8; 16]) -> Outcome
+    requires { ⌜ proper (wordA Double s) ≡ true ⌝ }
+    ensures { λ o. ⌜ o ≡ outcomeOf baseRule Sqrt s ⌝ }
+{
+    let r = float::sqrt(stack::top_word(s, Width::Double));
+    if r.error == 0 {
+        return ended(stack::after_fltd(s, r.word), Width::Double, 0, false);
+    }
+    ended(s, Width::Double, r.error, false)
+}
+
 // What a command leaves on a stack.
 pub fn perform(s: [u8; 16], command: Command) -> Outcome
     requires { ⌜ properOperands command s ≡ true ⌝ }
@@ -158,6 +170,7 @@ pub fn perform(s: [u8; 16], command: Command) -> Outcome
         Command::Pop(width) => ended(stack::after_pop(s, width), width, 0, false),
         Command::Xch(width) => ended(stack::after_xch(s, width), width, 0, false),
         Command::Pupi => ended(stack::after_pupi(s, 0x02c9_0fda), Width::Double, 0, false),
+        Command::Sqrt => take_root(s),
     }
 }
 
@@ -191,5 +204,6 @@ pub fn operands_are_proper(s: [u8; 16], command: Command) -> bool
         Command::Pop(_) => true,
         Command::Xch(_) => true,
         Command::Pupi => true,
+        Command::Sqrt => float::is_proper(stack::top_word(s, Width::Double)),
     }
 }

@@ -7,7 +7,7 @@ use Rattle.terms.specs.declared.Refusal.{Refusal}
 use Rattle.terms.specs.declared.Refusal.the-variants.{Done, UnknownCode, DerivedCode}
 use Rattle.terms.specs.declared.Width.the-variants.{Single, Double}
 use Rattle.codes.specs.declared.FloatOp.the-variants.{Add as FAdd, Sub as FSub, Mul as FMul, Div as FDiv}
-use Rattle.codes.specs.declared.Command.the-variants.{Nop, Add, Sub, Mul, Muu, Div, Chs, Float, Chsf, Flt, Fix, Pto, Pop, Xch, Pupi}
+use Rattle.codes.specs.declared.Command.the-variants.{Nop, Add, Sub, Mul, Muu, Div, Chs, Float, Chsf, Flt, Fix, Pto, Pop, Xch, Pupi, Sqrt}
 use Rattle.codes.specs.declared.Kind.{Kind}
 use Rattle.codes.specs.declared.Kind.the-variants.{Known, Derived, Unknown}
 
@@ -48,10 +48,10 @@ primary =
     ∷ (0x13, Known (Float FDiv))
     ∷ []
 
--- 32-bit floating-point derived operations: SQRT, SIN, COS, TAN, ASIN, ACOS, ATAN, LOG, LN, EXP, PWR
+-- 32-bit floating-point derived operations: SQRT, which is carried; SIN, COS, TAN, ASIN, ACOS, ATAN, LOG, LN, EXP, PWR
 abbrev pub derived : List Row
 derived =
-    (0x01, Derived)
+    (0x01, Known Sqrt)
     ∷ (0x02, Derived)
     ∷ (0x03, Derived)
     ∷ (0x04, Derived)

@@ -4,11 +4,11 @@ use mathlib.Core.List.{List, [], _∷_}
 use lib.ListN.{getD}
 use Rattle.terms.specs.declared.Width.the-variants.{Single, Double}
 use Rattle.codes.specs.declared.FloatOp.the-variants.{Add as FAdd, Sub as FSub, Mul as FMul, Div as FDiv}
-use Rattle.codes.specs.declared.Command.the-variants.{Nop, Add, Sub, Mul, Muu, Div, Chs, Float, Chsf, Flt, Fix, Pto, Pop, Xch, Pupi}
+use Rattle.codes.specs.declared.Command.the-variants.{Nop, Add, Sub, Mul, Muu, Div, Chs, Float, Chsf, Flt, Fix, Pto, Pop, Xch, Pupi, Sqrt}
 use Rattle.codes.specs.declared.Kind.{Kind}
 use Rattle.codes.specs.declared.Kind.the-variants.{Known, Derived, Unknown}
 
--- the kinds by number, from 0: unknown, then those of Figure 8 in its order, each once
+-- the kinds by number, from 0: unknown, then those of Figure 8 in its order, each once, and SQRT last
 abbrev pub kinds : List Kind
 kinds =
     Unknown
@@ -42,6 +42,7 @@ kinds =
     ∷ Known (Xch Single)
     ∷ Known (Xch Double)
     ∷ Known Pupi
+    ∷ Known Sqrt
     ∷ []
 
 -- the kind that a number stands for; unknown where it stands for none

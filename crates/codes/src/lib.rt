@@ -31,6 +31,7 @@ pub enum Command {
     Pop(Width),
     Xch(Width),
     Pupi,
+    Sqrt,
 }
 
 // What a code stands for.
@@ -43,7 +44,7 @@ pub enum Kind {
 // The number of each code's kind, 0 where the code is unknown; the same with bit 7 and without.
 const TABLE: [u8; 256] = [
     16, // 00 NOP
-    15, // 01 SQRT
+    31, // 01 SQRT
     15, // 02 SIN
     15, // 03 COS
     15, // 04 TAN
@@ -171,7 +172,7 @@ const TABLE: [u8; 256] = [
     0, // 7E
     0, // 7F
     16, // 80 NOP
-    15, // 81 SQRT
+    31, // 81 SQRT
     15, // 82 SIN
     15, // 83 COS
     15, // 84 TAN
@@ -335,6 +336,7 @@ fn numbered(n: u8) -> Kind
         28 => Kind::Known(Command::Xch(Width::Single)),
         29 => Kind::Known(Command::Xch(Width::Double)),
         30 => Kind::Known(Command::Pupi),
+        31 => Kind::Known(Command::Sqrt),
         _ => Kind::Unknown,
     }
 }

@@ -26,7 +26,7 @@ use Rattle.float.proofs.Steps.{exactly, lost-least, lost-most}
 use Rattle.float.proofs.Kept.{fits-exact}
 
 -- ---- a whole number of at most 31 digits
-digits-near : (q k : ℕ) → (k ≤ digitsOf q k) × (digitsOf q k ≤ k + 1)
+pub digits-near : (q k : ℕ) → (k ≤ digitsOf q k) × (digitsOf q k ≤ k + 1)
 digits-near q k = go (ltb q 16777216)
   where
     go : (b : Bool) → (k ≤ cond b k (k + 1)) × (cond b k (k + 1) ≤ k + 1)

@@ -18,4 +18,8 @@ pub mod Steps
 pub mod Kept
 pub mod Conversions
 pub mod Moved
+pub mod WholeRoot
+pub mod RootLoop
+pub mod Root
+pub mod RootExact
 pub mod Bench

@@ -43,16 +43,16 @@ module _ (c n k J : ℕ) (x : ℤ) (X : x ≡ subℕ k J) where
   other : n * down x * 2 ^ J ≡ n * 2 ^ J * down x
   other = mul-right-comm n (down x) (2 ^ J)
 
-  to-le : c * up x ≤ n * down x → c * 2 ^ k ≤ n * 2 ^ J
+  pub to-le : c * up x ≤ n * down x → c * 2 ^ k ≤ n * 2 ^ J
   to-le h = le-of-mul-le-mul-right (subst₂ (λ (a b : ℕ). a ≤ b) scaled other (mul-le-mul-right (2 ^ J) h)) (down-pos x)
 
-  from-le : c * 2 ^ k ≤ n * 2 ^ J → c * up x ≤ n * down x
+  pub from-le : c * 2 ^ k ≤ n * 2 ^ J → c * up x ≤ n * down x
   from-le h = le-of-mul-le-mul-right (subst₂ (λ (a b : ℕ). a ≤ b) (sym scaled) (sym other) (mul-le-mul-right (down x) h)) (pow-pos J)
 
-  to-lt : n * down x < c * up x → n * 2 ^ J < c * 2 ^ k
+  pub to-lt : n * down x < c * up x → n * 2 ^ J < c * 2 ^ k
   to-lt h = lt-of-mul-lt-mul-right (down x) (subst₂ (λ (a b : ℕ). a < b) other scaled (mul-lt-mul-of-pos-right h (pow-pos J)))
 
-  from-lt : n * 2 ^ J < c * 2 ^ k → n * down x < c * up x
+  pub from-lt : n * 2 ^ J < c * 2 ^ k → n * down x < c * up x
   from-lt h = lt-of-mul-lt-mul-right (2 ^ J) (subst₂ (λ (a b : ℕ). a < b) (sym other) (sym scaled) (mul-lt-mul-of-pos-right h (down-pos x)))
 
 -- ---- the pair at an exponent, and at k digits of the scale

@@ -30,7 +30,7 @@ use Rattle.float.proofs.Order.{size-pos, div-cut}
 stored-exponent : (s : Bool) (m k b : ℕ) → m < 16777216 → (k + 16) % 128 ≡ b → exponent (packed s m k) ≡ subℕ b 64
 stored-exponent s m k b h e = ap (λ (x : ℕ). subℕ x 64) (packed-biased s m k h ∙ e)
 
-steps : (s : Bool) (m k : ℕ) → m < 16777216 → k < 368 → Steps (subℕ k 176) (stored s m k)
+pub steps : (s : Bool) (m k : ℕ) → m < 16777216 → k < 368 → Steps (subℕ k 176) (stored s m k)
 steps s m k M K = record {
   within = λ a b.
       let l = differences-le 112 176 k 176 a in

@@ -1,8 +1,9 @@
--- Float words: what a word says, the cut, the four operations, the conversions.
+-- Float words: what a word says, the cut, the four operations, the conversions, the root.
 pub mod Word
 pub mod Cut
 pub mod Float
 pub mod Convert
+pub mod Root
 pub mod Order
 pub mod Exact
 pub mod Jam

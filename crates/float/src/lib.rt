@@ -1,7 +1,8 @@
-// The float commands on words: FADD, FSUB, FMUL, FDIV, FLTD, FLTS, FIXD, FIXS, CHSF.
+// The float commands on words: FADD, FSUB, FMUL, FDIV, FLTD, FLTS, FIXD, FIXS, CHSF, SQRT.
 // Each forms the exact value, or a number of 64 bits that stands for it, and cuts it once.
 // No stack and no status here: words in, a word and an error out.
 ghost use mathlib.Core.Path.{_≡_};
+ghost use mathlib.Core.Logic.{_⊎_};
 ghost use mathlib.Core.Bool.{true, cond};
 ghost use Prim.Native.Nat.{_+_, _-_, _*_, _/_, _%_, _^_, _≤_, _<_};
 ghost use lib.IntN.{_+ℤ_};
@@ -10,10 +11,11 @@ ghost use Rattle.float.specs.Word.{negative, biased, mantissa, proper};
 ghost use Rattle.float.specs.Cut.{Down, packed, errorAt, cutSize, cut};
 ghost use Rattle.float.specs.Float.{add, sub, mul, div};
 ghost use Rattle.float.specs.Convert.{fltd, flts, wholePart, fix, fixd, fixs, chsf};
+ghost use Rattle.float.specs.Root.{sqrt};
 ghost use Rattle.float.specs.Jam.{Jammed};
 ghost use Rattle.float.specs.Addend.{Addend, Sided, sideValue};
 
-// A result word and its error: 0 none, 1 overflow, 2 underflow, 8 divide by zero.
+// A result word and its error: 0 none, 1 overflow, 2 underflow, 4 the root of a negative word, 8 divide by zero.
 pub struct Rounded {
     pub word: u32,
     pub error: u8,
@@ -309,4 +311,48 @@ pub fn chsf(w: u32) -> u32
         return w - 0x8000_0000;
     }
     w + 0x8000_0000
+}
+
+// Of a root s and one with a further digit, t: t where its square is at most v.
+fn better(s: u64, t: u64, v: u64) -> u64
+    requires { ⌜ t < 2 ^ 32 ⌝ }
+    ensures { λ r. ⌜ ((r ≡ s) × (v < t * t)) ⊎ ((r ≡ t) × (t * t ≤ v)) ⌝ }
+{
+    if t * t <= v {
+        return t;
+    }
+    s
+}
+
+// The whole part of the root of v, its digits from the highest.
+fn whole_root(v: u64) -> u64
+    ensures { λ r. ⌜ (r * r ≤ v) × (v < (r + 1) * (r + 1)) ⌝ }
+{
+    let mut s: u64 = 0;
+    let mut i: u32 = 32;
+    while 0 < i {
+        i -= 1;
+        s = better(s, s + (1u64 << i), v);
+    }
+    s
+}
+
+// SQRT of a proper word: its root, or a negative word as it is and error 4.
+pub fn sqrt(a: u32) -> Rounded
+    requires { ⌜ proper a ≡ true ⌝ }
+    ensures { λ r. ⌜ r ≡ sqrt Down a ⌝ }
+{
+    if is_negative(a) {
+        return Rounded { word: a, error: 4 };
+    }
+    let m = mantissa_of(a);
+    if m == 0 {
+        return Rounded { word: 0, error: 0 };
+    }
+    let e = biased_of(a);
+    let odd = e % 2;
+    let v = m << (38 + odd);
+    let s = whole_root(v);
+    let t = jam(s, v - s * s);
+    cut_word(false, t, (e + 274 - odd) / 2)
 }

@@ -48,7 +48,7 @@ fn main() {
     // push 0003, a pop of 17 bytes
     let count = [4, 0, 1, 0, 3, 0, 3, 0, 2, 0, 17];
     show(b"pop of 17\n", &count);
-    // push 00, code 0C unknown, SQRT derived, SADD and NOP with a half word pending
+    // push 00, code 0C unknown, SIN derived, SADD and NOP with a half word pending
     let half = [
         3,
         0,
@@ -64,7 +64,7 @@ fn main() {
         0,
         3,
         0,
-        129,
+        130,
         3,
         0,
         3,

@@ -58,12 +58,12 @@ status-is w r t e c h = ap (λ (x : ℕ). statusBy w x e c) (top-is w r t h)
 
 -- ---- an accepted command
 module _ (rule : Rule) where
-  accepted : (k : Command) (before : List ℕ) (w : Width) (r e : ℕ) (c : Bool) (below : List ℕ) → properOperands k before ≡ true → r < words w
+  pub accepted : (k : Command) (before : List ℕ) (w : Width) (r e : ℕ) (c : Bool) (below : List ℕ) → properOperands k before ≡ true → r < words w
       → outcomeOf rule k before ≡ ends w (word w r below) e c → Leaves rule k before w r e c below
   unfolding commandUnder carried
   accepted k before w r e c below p h o code status service is ready = rw (lt-leb 128 status ready, is, p, o, status-is w r below e c h)
 
-  refusing : (k : Command) (before : List ℕ) → properOperands k before ≡ false → Refuses rule k before Improper
+  pub refusing : (k : Command) (before : List ℕ) → properOperands k before ≡ false → Refuses rule k before Improper
   unfolding commandUnder carried
   refusing k before p code status service is ready = rw (lt-leb 128 status ready, is, p)
 
@@ -331,7 +331,7 @@ module _ (rule : Rule) where
 
 -- ---- the conversions
 -- a stack of the 32-bit words A, B, C and what lies below
-abbrev three : ℕ → ℕ → ℕ → List ℕ → List ℕ
+abbrev pub three : ℕ → ℕ → ℕ → List ℕ → List ℕ
 three a b c ds = word Double a (word Double b (word Double c ds))
 
 module _ (f : ℕ → Rounded) (a b c : ℕ) (A : a < words Double) (ds : List ℕ) where
@@ -366,7 +366,7 @@ unfolding widens
 widened-to f a b c d e A fs r F = ap (λ (x : ℕ). widens (five a b c d e fs) (f x)) (top-is Single a (word Single b (word Single c (word Single d (word Single e fs)))) A) ∙ ap (widens (five a b c d e fs)) F
 
 -- a result without error, by its word
-no-error : (r : Rounded) → r .error ≡ 0 → r ≡ record { word = r .word; error = 0 }
+pub no-error : (r : Rounded) → r .error ≡ 0 → r ≡ record { word = r .word; error = 0 }
 no-error r e = ap (λ (x : ℕ). record { word = r .word; error = x }) e
 
 module _ (rule : Rule) where

@@ -10,6 +10,7 @@ pub mod Whole
 pub mod Exactness
 pub mod Hosted
 pub mod Benched
+pub mod Rooted
 pub mod Chained
 pub mod ChainExamples
 pub mod Driven

@@ -93,7 +93,7 @@ otherDecisions =
     ∷ record { events = []; code = 0x9a; refusal = 0; stack = bytesOf 4 0x02c90fda ++ zeros 12; status = 0x00 }
     ∷ turnedAway 0x0c (0x55 ∷ []) 1
     ∷ turnedAway 0x8c (0x55 ∷ []) 1
-    ∷ turnedAway 0x01 (0x55 ∷ []) 2
+    ∷ turnedAway 0x02 (0x55 ∷ []) 2
     ∷ turnedAway 0x00 (0x55 ∷ []) 3
     ∷ record {
       events = pushesOf 2 0x8000 ++ (pushesOf 2 0x8001 ++ (command 0x6c ∷ []));

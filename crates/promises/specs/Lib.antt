@@ -9,6 +9,7 @@ pub mod WholeWords
 pub mod Exact
 pub mod Host
 pub mod Bench
+pub mod Roots
 pub mod Chains
 pub mod Cores
 pub mod WrongCores

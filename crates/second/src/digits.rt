@@ -1,5 +1,5 @@
 // Whole numbers as 320 binary digits, the digit of weight 2^i at place i: exact sums, differences,
-// products and quotients, a digit at a time.
+// products, quotients and roots, a digit at a time.
 
 // The places of a number.
 pub const PLACES: usize = 320;
@@ -110,4 +110,24 @@ pub fn quotient(b: u32, a: u32, at: usize) -> [u8; 320] {
         place = std::num::wrapping_sub_usize(place, 1);
     }
     digits
+}
+
+// The first 24 digits of the root of x below 2^192, from place 95 down: a digit is 1 where the square of
+// the digits so far, with it, is not above x.
+pub fn root(x: [u8; 320]) -> [u8; 320] {
+    let mut place: usize = 96;
+    let mut found: u32 = 0;
+    while 0 < place {
+        place -= 1;
+        let tried = found * 2 + 1;
+        found = if below(x, product(tried, tried, place * 2)) {
+            tried - 1
+        } else {
+            tried
+        };
+        if 8388608 <= found {
+            break;
+        }
+    }
+    number(found, place)
 }

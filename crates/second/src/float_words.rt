@@ -102,6 +102,15 @@ pub fn div(b: u32, a: u32) -> Made {
     cut(is_negative(b) != is_negative(a), x, 176)
 }
 
+// The root of a value times 2^128 has unit 64. A negative word stays.
+pub fn sqrt(a: u32) -> Made {
+    if is_negative(a) {
+        return made(a, 4);
+    }
+    let x = digits::number(mantissa(a), raised(a) + 40);
+    cut(false, digits::root(x), 64)
+}
+
 // A whole number and its sign as a float word.
 fn float(negative: bool, magnitude: u32) -> Made {
     cut(negative, digits::number(magnitude, 88), 88)

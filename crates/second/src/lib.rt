@@ -1,4 +1,4 @@
-// A second opinion on the chip, written from document 01 and the data sheets alone: plain and slow,
+// A second opinion on the chip, written from documents 01 and 02 and the data sheets alone: plain and slow,
 // by other means than the crates that it is compared with. Every function is proved safe and ending;
 // none promises a result.
 

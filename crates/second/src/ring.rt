@@ -150,6 +150,15 @@ fn converted(c: Chip, r: Made) -> Work {
     replaced(cleared(c, true), true, r)
 }
 
+// A made its root, and D lost; a negative A leaves the whole stack.
+fn rooted(c: Chip) -> Work {
+    let r = float_words::sqrt(word(c, true, 0));
+    if r.error != 0 {
+        return done(c, true, r.error, false);
+    }
+    converted(c, r)
+}
+
 // The top cell made two: the cells F, G, H are lost.
 fn float_of_cell(c: Chip) -> Work {
     let r = float_words::flts(cell(c, 0));
@@ -211,7 +220,9 @@ fn stack_work(c: Chip, wide: bool, op: u8) -> Work {
 fn float_work(c: Chip, op: u8) -> Work {
     let b = word(c, true, 1);
     let a = word(c, true, 0);
-    if op == 0x10 {
+    if op == 0x01 {
+        rooted(c)
+    } else if op == 0x10 {
         two_to_one(c, true, float_words::add(b, a), true)
     } else if op == 0x11 {
         two_to_one(c, true, float_words::sub(b, a), true)
@@ -253,9 +264,9 @@ fn judged(code: u8) -> u8 {
 }
 
 fn judged_float(op: u8) -> u8 {
-    if op >= 0x01 && op <= 0x0B {
+    if op >= 0x02 && op <= 0x0B {
         2
-    } else if op == 0 || op >= 0x10 && op <= 0x13 || op == 0x15 {
+    } else if op <= 0x01 || op >= 0x10 && op <= 0x13 || op == 0x15 {
         0
     } else if op >= 0x17 && op <= 0x1A || op >= 0x1C {
         0
@@ -265,13 +276,13 @@ fn judged_float(op: u8) -> u8 {
 }
 
 // Whether a float command meets an operand that is not proper: A and B for the four operations,
-// A for the two fixings.
+// A for the root and the two fixings.
 fn meets_improper(c: Chip, op: u8) -> bool {
     let a = float_words::is_proper(word(c, true, 0));
     let b = float_words::is_proper(word(c, true, 1));
     if op >= 0x10 && op <= 0x13 {
         !a || !b
-    } else if op == 0x1E || op == 0x1F {
+    } else if op == 0x01 || op == 0x1E || op == 0x1F {
         !a
     } else {
         false

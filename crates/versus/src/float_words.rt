@@ -1,4 +1,4 @@
-// Float words: operations 0 to 3 take two proper words, 4 and 5 one, 6 to 9 any word, in the order
+// Float words: operations 0 to 3 take two proper words, 4, 5 and 10 one, 6 to 9 any word, in the order
 // of the names; PROP is the test for a proper word.
 ghost use mathlib.Core.Path.{_≡_};
 ghost use mathlib.Core.Bool.{true};
@@ -42,7 +42,8 @@ fn proper_answer(op: u32, b: u32, a: u32) -> Made
         2 => rounded(float::fmul(b, a)),
         3 => rounded(float::fdiv(b, a)),
         4 => rounded(float::fixd(a)),
-        _ => rounded(float::fixs(a)),
+        5 => rounded(float::fixs(a)),
+        _ => rounded(float::sqrt(a)),
     }
 }
 
@@ -80,7 +81,8 @@ fn second_answer(op: u32, p: Pair) -> Made {
         6 => second::float_words::fltd(a),
         7 => second::float_words::flts(a),
         8 => made(second::float_words::chsf(a), 0),
-        _ => made(second::float_words::is_proper(a) as u32, 0),
+        9 => made(second::float_words::is_proper(a) as u32, 0),
+        _ => second::float_words::sqrt(a),
     }
 }
 
@@ -158,10 +160,10 @@ fn drawn_pair(i: u32) -> Pair {
     }
 }
 
-// A single word: for FIXD and FIXS the five fractions at every exponent, for FLTS every word.
+// A single word: for FIXD, FIXS and SQRT the five fractions at every exponent, for FLTS every word.
 fn edge_word(op: u32, i: u32) -> u32 {
     match op {
-        4 | 5 => words::float(
+        4 | 5 | 10 => words::float(
             i / 640 % 2 == 1,
             i % 128 * 8388608 + words::fraction(i / 128),
         ),
@@ -170,7 +172,27 @@ fn edge_word(op: u32, i: u32) -> u32 {
     }
 }
 
-// A single drawn word: for FIXD and FIXS of magnitude 2^-9 up to 2^40.
+// The square of a number of 12 digits.
+fn squared(k: u32) -> u32
+    requires { ⌜ k < 4096 ⌝ }
+    ensures { λ r. ⌜ r < 16777216 ⌝ }
+{
+    k * k
+}
+
+// The squares of the numbers of 12 digits, at 63 exponents in turn, and the words beside them.
+fn square_word(i: u32) -> u32 {
+    let q = squared(2048 + i % 2048);
+    let even = i % 63 * 2;
+    let rank = if 8388608 <= q {
+        even * 8388608 + (q - 8388608)
+    } else {
+        even * 8388608 + q * 2
+    };
+    words::float(false, near(rank, i / 2048 % 3))
+}
+
+// A single drawn word: for FIXD and FIXS of magnitude 2^-9 up to 2^40, for SQRT one in eight negative.
 fn drawn_word(op: u32, i: u32) -> u32 {
     let at = i % 8192 * 3;
     let x = words::drawn(at);
@@ -179,6 +201,7 @@ fn drawn_word(op: u32, i: u32) -> u32 {
             2147483648 <= x,
             (56 + x % 48) * 8388608 + words::drawn(at + 1) % 8388608,
         ),
+        10 => words::float(x % 8 == 0, words::drawn(at + 1)),
         _ => words::sized(i, x, words::drawn(at + 1)),
     }
 }
@@ -187,10 +210,10 @@ fn pair(op: u32, part: u32, i: u32) -> Pair {
     if 4 <= op {
         return Pair {
             b: 0,
-            a: if part == EDGES {
-                edge_word(op, i)
-            } else {
-                drawn_word(op, i)
+            a: match part {
+                0 => edge_word(op, i),
+                2 => square_word(i),
+                _ => drawn_word(op, i),
             },
         };
     }
@@ -215,9 +238,11 @@ fn count(op: u32, part: u32) -> u32 {
         }
     } else if part == DRAWN {
         4096
+    } else if part == NEIGHBOURS {
+        6144
     } else {
         match op {
-            4 | 5 => 1280,
+            4 | 5 | 10 => 1280,
             7 => 65536,
             _ => 198,
         }
@@ -234,12 +259,15 @@ fn compared(op: u32, part: u32) -> Tally {
 }
 
 pub fn groups() {
-    let names = b"FADDFSUBFMULFDIVFIXDFIXSFLTDFLTSCHSFPROP";
-    for op in 0..10u32 {
+    let names = b"FADDFSUBFMULFDIVFIXDFIXSFLTDFLTSCHSFPROPSQRT";
+    for op in 0..11u32 {
         tally::line(names, op, b" edges", compared(op, EDGES));
         if op < 4 {
             tally::line(names, op, b" distances", compared(op, DISTANCES));
             tally::line(names, op, b" neighbours", compared(op, NEIGHBOURS));
+        }
+        if op == 10 {
+            tally::line(names, op, b" squares", compared(op, NEIGHBOURS));
         }
         tally::line(names, op, b" drawn", compared(op, DRAWN));
     }

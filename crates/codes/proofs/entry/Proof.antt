@@ -13,7 +13,7 @@ use Rattle.codes.proofs.entry.Tie as tie
 -- the entries of the codes without bit 7, and again of those with it
 abbrev half : List ℕ
 half =
-    16 ∷ 15 ∷ 15 ∷ 15 ∷ 15 ∷ 15 ∷ 15 ∷ 15 ∷ 15 ∷ 15 ∷ 15 ∷ 15 ∷ 0 ∷ 0 ∷ 0 ∷ 0
+    16 ∷ 31 ∷ 15 ∷ 15 ∷ 15 ∷ 15 ∷ 15 ∷ 15 ∷ 15 ∷ 15 ∷ 15 ∷ 15 ∷ 0 ∷ 0 ∷ 0 ∷ 0
     ∷ 11 ∷ 12 ∷ 13 ∷ 14 ∷ 0 ∷ 23 ∷ 0 ∷ 25 ∷ 27 ∷ 29 ∷ 30 ∷ 0 ∷ 20 ∷ 19 ∷ 18 ∷ 17
     ∷ 0 ∷ 0 ∷ 0 ∷ 0 ∷ 0 ∷ 0 ∷ 0 ∷ 0 ∷ 0 ∷ 0 ∷ 0 ∷ 0 ∷ 6 ∷ 7 ∷ 8 ∷ 10
     ∷ 0 ∷ 0 ∷ 0 ∷ 0 ∷ 22 ∷ 0 ∷ 9 ∷ 25 ∷ 27 ∷ 29 ∷ 0 ∷ 0 ∷ 0 ∷ 0 ∷ 0 ∷ 0

@@ -1,4 +1,4 @@
--- `codes::numbered` meets its contract: each key is the place of its arm's kind in `kinds`, and what is none of the keys 1 to 30 is 0 or past the end. Assumes nothing.
+-- `codes::numbered` meets its contract: each key is the place of its arm's kind in `kinds`, and what is none of the keys 1 to 31 is 0 or past the end. Assumes nothing.
 use mathlib.Core.Path.{_≡_, sym}
 use mathlib.Core.Logic.{_⊎_, inl, inr, ⊎-elim}
 use Prim.Native.Nat.{ℕ, zero, suc, _<_}
@@ -22,9 +22,9 @@ outside n (suc k) h = ⊎-elim inl (λ (p : k < n). inr (further p)) (outside n 
     further : k < n → suc k < n
     further p = omega (arith, h .1)
 
-unnamed : (n : ℕ) → NoneOf n 30 → Unknown ≡ named n
+unnamed : (n : ℕ) → NoneOf n 31 → Unknown ≡ named n
 unfolding named
-unnamed n h = ⊎-elim (λ (z : n ≡ 0). rw z) (λ (p : 30 < n). sym (List·getD-eq-default kinds Unknown {n = n} p)) (outside n 30 h)
+unnamed n h = ⊎-elim (λ (z : n ≡ 0). rw z) (λ (p : 31 < n). sym (List·getD-eq-default kinds Unknown {n = n} p)) (outside n 31 h)
 
 pub numbered-spec : {M : Type 1} → statement M
 unfolding named
@@ -61,4 +61,5 @@ numbered-spec =
     (λ c. rw (c .match .keys28))
     (λ c. rw (c .match .keys29))
     (λ c. rw (c .match .keys30))
+    (λ c. rw (c .match .keys31))
     (λ c. unnamed (c .before .args .n) (c .match .rest)))

@@ -1,5 +1,5 @@
--- `chip::commands::operands_are_proper` meets its contract: B and A are looked at for the float operations, A for FIXS and FIXD. Assumes nothing.
-use Rattle.chip.proofs.Rows.{both-proper, one-proper}
+-- `chip::commands::operands_are_proper` meets its contract: B and A are looked at for the float operations, A for FIXS, FIXD and SQRT. Assumes nothing.
+use Rattle.chip.proofs.Rows.{both-proper, one-proper, root-proper}
 use borrow.Author.Needs.{needs}
 use Rattle.chip.proofs.commands.operands_are_proper.Statement.{statement}
 use Rattle.chip.proofs.commands.operands_are_proper.Tie as tie
@@ -9,6 +9,9 @@ returns c = both-proper (c .before .before .before .before .before .before .befo
 
 returns-2 : tie.Need-returns-2
 returns-2 c = one-proper (c .before .before .before .before .args .s) (c .before .before .enum-told2 .given .1) (c .is-proper3 .ensures) (c .before .top-word2 .ensures .0)
+
+returns-16 : tie.Need-returns-16
+returns-16 c = root-proper (c .before .before .before .before .args .s) (c .before .before .enum-told16 .given .1) (c .is-proper4 .ensures) (c .before .top-word3 .ensures .0)
 
 pub operands-are-proper-spec : {M : Type 1} → statement M
 operands-are-proper-spec =
@@ -36,6 +39,9 @@ operands-are-proper-spec =
     (λ c. search needs)
     (λ c. search needs)
     (λ c. search needs)
+    (λ c. search needs)
+    (λ c κs. search needs)
+    (λ c κs. search needs)
     returns
     returns-2
     (λ c. search needs)
@@ -50,4 +56,5 @@ operands-are-proper-spec =
     (λ c. search needs)
     (λ c. search needs)
     (λ c. search needs)
-    (λ c. search needs))
+    (λ c. search needs)
+    returns-16)

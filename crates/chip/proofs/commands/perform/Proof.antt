@@ -59,6 +59,13 @@ returns-14 c = rw (c .ended3 .ensures, c .before .after-xch .ensures, c .before 
 returns-15 : tie.Need-returns-15
 returns-15 c = row-of (c .before .before .before .before .args .s) (c .before .before .enum-told3 .given .1) (rw (c .ended4 .ensures, c .before .after-pupi .ensures))
 
+take-root-requires : tie.Need-take-root-requires
+take-root-requires c κs =
+    sym (ap (λ (k : Command). properOperands k (c .before .before .args .s)) (c .enum-told4 .given .1)) ∙ c .before .before .pre
+
+returns-16 : tie.Need-returns-16
+returns-16 c = row-of (c .before .before .before .args .s) (c .before .enum-told4 .given .1) (c .take-root .ensures)
+
 pub perform-spec : {M : Type 1} → statement M
 perform-spec =
     tie.close
@@ -96,6 +103,8 @@ perform-spec =
     (λ c. search needs)
     (λ c κs. search needs)
     (λ c κs. search needs)
+    (λ c. search needs)
+    take-root-requires
     returns
     returns-2
     returns-3
@@ -110,4 +119,5 @@ perform-spec =
     returns-12
     returns-13
     returns-14
-    returns-15)
+    returns-15
+    returns-16)
