@@ -48,6 +48,13 @@ pub float-row : (op : FloatOp) (s : List ℕ) {t : List ℕ} {b a : ℕ} {r : Ro
 unfolding floats
 float-row op s eb ea er et eo = rw (eo, et, er, eb, ea)
 
+-- a row of two shapes, by whether there is an error
+without-error : (x y : Outcome) (e : ℕ) → e ≡ 0 → x ≡ cond (eqb e 0) x y
+without-error x y e z = rw (eq-eqb e 0 z)
+
+with-error : (x y : Outcome) (e : ℕ) → (e ≡ 0 → ⊥) → y ≡ cond (eqb e 0) x y
+with-error x y e nz = rw (ne-eqb e 0 nz)
+
 module _ (s : List ℕ) {t : List ℕ} {a : ℕ} {r : Rounded} {o : Outcome} where
   pub fltd-row : a ≡ wordA Double s → r ≡ fltd baseRule a → t ≡ converted s (r .word) → o ≡ ends Double t (r .error) false → o ≡ outcomeOf baseRule (Flt Double) s
   unfolding converts
@@ -65,29 +72,23 @@ module _ (s : List ℕ) {t : List ℕ} {a : ℕ} {r : Rounded} {o : Outcome} whe
   unfolding narrows
   fixs-row ea er z et eo =
       eo ∙ ap (λ (l : List ℕ). ends Single l 0 false) et
-      ∙ sym (ap (λ (x : Bool). cond x (ends Single (narrowed s (r .word)) 0 false) (ends Double (converted s (r .word)) (r .error) false)) (eq-eqb (r .error) 0 z))
-      ∙ ap (narrows s) (er ∙ ap fixs ea)
+      ∙ without-error _ _ (r .error) z ∙ ap (narrows s) (er ∙ ap fixs ea)
 
   pub over-row : a ≡ wordA Double s → r ≡ fixs a → (r .error ≡ 0 → ⊥) → t ≡ converted s (r .word) → o ≡ ends Double t (r .error) false → o ≡ outcomeOf baseRule (Fix Single) s
   unfolding narrows
   over-row ea er nz et eo =
       eo ∙ ap (λ (l : List ℕ). ends Double l (r .error) false) et
-      ∙ sym (ap (λ (x : Bool). cond x (ends Single (narrowed s (r .word)) 0 false) (ends Double (converted s (r .word)) (r .error) false)) (ne-eqb (r .error) 0 nz))
-      ∙ ap (narrows s) (er ∙ ap fixs ea)
+      ∙ with-error _ _ (r .error) nz ∙ ap (narrows s) (er ∙ ap fixs ea)
 
   pub root-row : a ≡ wordA Double s → r ≡ sqrt baseRule a → r .error ≡ 0 → t ≡ converted s (r .word) → o ≡ ends Double t 0 false → o ≡ outcomeOf baseRule Sqrt s
   unfolding roots
   root-row ea er z et eo =
       eo ∙ ap (λ (l : List ℕ). ends Double l 0 false) et
-      ∙ sym (ap (λ (x : Bool). cond x (ends Double (converted s (r .word)) 0 false) (ends Double s (r .error) false)) (eq-eqb (r .error) 0 z))
-      ∙ ap (roots s) (er ∙ ap (sqrt baseRule) ea)
+      ∙ without-error _ _ (r .error) z ∙ ap (roots s) (er ∙ ap (sqrt baseRule) ea)
 
 pub no-root-row : (s : List ℕ) {a : ℕ} {r : Rounded} {o : Outcome} → a ≡ wordA Double s → r ≡ sqrt baseRule a → (r .error ≡ 0 → ⊥) → o ≡ ends Double s (r .error) false → o ≡ outcomeOf baseRule Sqrt s
 unfolding roots
-no-root-row s {r = r} ea er nz eo =
-    eo
-    ∙ sym (ap (λ (x : Bool). cond x (ends Double (converted s (r .word)) 0 false) (ends Double s (r .error) false)) (ne-eqb (r .error) 0 nz))
-    ∙ ap (roots s) (er ∙ ap (sqrt baseRule) ea)
+no-root-row s {r = r} ea er nz eo = eo ∙ with-error _ _ (r .error) nz ∙ ap (roots s) (er ∙ ap (sqrt baseRule) ea)
 
 pub chsf-row : (s : List ℕ) {t : List ℕ} {a x : ℕ} {o : Outcome} → a ≡ wordA Double s → x ≡ chsf a → t ≡ replaced 4 s x → o ≡ ends Double t 0 false → o ≡ outcomeOf baseRule Chsf s
 chsf-row s ea ex et eo = rw (eo, et, ex, ea)
@@ -96,11 +97,9 @@ chsf-row s ea ex et eo = rw (eo, et, ex, ea)
 pub both-proper : (s : List ℕ) {k : Command} {op : FloatOp} {r p q : Bool} {x y : ℕ} → k ≡ Float op → r ≡ (p && q) → p ≡ proper x → q ≡ proper y → x ≡ wordB Double s → y ≡ wordA Double s → r ≡ properOperands k s
 both-proper s ek er ep eq ex ey = rw (ek, er, ep, eq, ex, ey)
 
-pub one-proper : (s : List ℕ) {k : Command} {w : Width} {q : Bool} {y : ℕ} → k ≡ Fix w → q ≡ proper y → y ≡ wordA Double s → q ≡ properOperands k s
-one-proper s ek eq ey = rw (ek, eq, ey)
-
-pub root-proper : (s : List ℕ) {k : Command} {q : Bool} {y : ℕ} → k ≡ Sqrt → q ≡ proper y → y ≡ wordA Double s → q ≡ properOperands k s
-root-proper s ek eq ey = rw (ek, eq, ey)
+-- a command that asks it of A alone
+pub one-proper : (s : List ℕ) (l : Command) {k : Command} {q : Bool} {y : ℕ} → properOperands l s ≡ proper (wordA Double s) → k ≡ l → q ≡ proper y → y ≡ wordA Double s → q ≡ properOperands k s
+one-proper s l el ek eq ey = rw (ek, el, eq, ey)
 
 -- both of two tests that together are true
 pub both-of : (p q : Bool) → (p && q) ≡ true → (p ≡ true) × (q ≡ true)
