@@ -16,16 +16,14 @@ misused() {
 work=$(mktemp -d) || fail "there is no folder for temporary files"
 trap 'rm -rf "$work"' EXIT
 trap 'exit 1' HUP INT TERM
-. "$top/tests/kit.sh"
 
 # A run takes 12,288 bytes (document 01). One more byte tells that an input is longer, and no more is read.
 most=12289
 
-# ready NAME MINUTES: proves and builds the program NAME, where the crates changed since; sets program
+# ready NAME: proves and builds the program NAME, where the crates changed since; sets program, which start then runs
 ready() {
+    . "$top/tests/kit.sh"
     program=$top/target/bin/$1
-    ! current "$program" || return 0
-    echo "${0##*/}: $1 is proved and built first, which takes $2; after that only where a crate changed" >&2
     build "$program" rt check "$1" || exit 1
 }
 

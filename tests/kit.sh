@@ -40,6 +40,7 @@ build() {
         echo "${0##*/}: ${built##*/} is not built, and $top/target cannot be written: build it in a copy that can" >&2
         return 1
     fi
+    echo "${0##*/}: ${built##*/} is proved and built first, which may take ten minutes; after that only where a crate changed" >&2
     before=$(contents)
     rm -f "$made" "$made.done"
     { (cd "$top" && "$@") 2>&1 && : >"$made.done"; } | while IFS= read -r said; do
@@ -69,9 +70,9 @@ compile() {
         -isystem "$top/tests/c/bare" -I "$top/include" "$@" -c "$source" -o "$object"
 }
 link() {
-    program=$1
+    linked=$1
     shift
-    "$lld" -pie --dynamic-linker /lib64/ld-linux-x86-64.so.2 -o "$program" "$parts/Scrt1.o" "$parts/crti.o" \
+    "$lld" -pie --dynamic-linker /lib64/ld-linux-x86-64.so.2 -o "$linked" "$parts/Scrt1.o" "$parts/crti.o" \
         "$parts/crtbeginS.o" "$@" "$parts/libc.so.6" "$parts/libc_nonshared.a" "$parts/libgcc.a" \
         "$parts/crtendS.o" "$parts/crtn.o"
 }
