@@ -2,6 +2,13 @@
  * The skeleton of a card: a bus cycle comes in, the core does it, the data byte and the service line go out, and the
  * state lies in memory that keeps its bytes without power. It is C99, calls the library and nothing else, and waits
  * for nothing; the pins, PAUSE, END and the timing are the builder's. README.md, 'Build a card', says what to add.
+ *
+ *     card_power_up(memory);
+ *     for (;;) {
+ *         wait for a cycle: CS with RD or WR low, RESET high, or SVACK low; hold PAUSE low;
+ *         struct card_answer answer = card_cycle(memory, cycle, DB7 to DB0);
+ *         in a read cycle drive DB7 to DB0 with answer.data; drive SVREQ with answer.service; let PAUSE go;
+ *     }
  */
 #ifndef CARD_H
 #define CARD_H
