@@ -1,7 +1,7 @@
-# What ./list and the programs beside it share. To be read by a script that has set `top`, the repository's folder.
-# A program ends with 0 if all that it had to say was written, with 1 if not, with 2 if it was called wrongly; then
-# the reason stands on standard error, in a line that begins with the program's name.
-# Sets work, a folder that goes when the script ends; defines fail, misused, ready, record_bytes, written.
+# What ./list and the programs beside it share. To be read by a script that has set `top`, the repository's folder, and
+# defines `usage`. A program ends with 0 if all that it had to say was written, with 1 if not, and with 2 if it was
+# called wrongly; the reason then stands on standard error, in a line that begins with the program's name.
+# Sets work, a folder that goes when the script ends; defines fail, misused, ready, record_bytes, ran, written.
 
 fail() {
     echo "${0##*/}: $1" >&2
@@ -9,7 +9,8 @@ fail() {
 }
 
 misused() {
-    echo "${0##*/}: $1; ${0##*/} --help tells more" >&2
+    echo "${0##*/}: $1" >&2
+    usage >&2
     exit 2
 }
 
@@ -108,6 +109,17 @@ hex_bytes() {
         return 1
     fi
     cat "$work/bytes"
+}
+
+# ran FILE LAST ARGUMENT..: runs the program that is ready on $work/input, its output to FILE, whose last line begins with LAST
+ran() {
+    to=$1 last=$2
+    shift 2
+    start "$program" "$@" <"$work/input" >"$to" || fail "${program##*/} ended with $?"
+    case $(tail -n 1 "$to"):$(tail -c 1 "$to") in
+    "$last"*:) ;;
+    *) fail "what ${program##*/} wrote was cut: is the disk full?" ;;
+    esac
 }
 
 # written FILE: writes FILE to standard output, whole

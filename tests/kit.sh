@@ -56,10 +56,10 @@ build() {
     echo "$before $(sha256sum <"$built")" >"$made"
 }
 
-# make_library: proves the library and writes the archive, unless that is current; sets library
+# make_library [NAME]: proves the library, pundaliket if none is named, and writes its archive, unless that is current; sets library
 make_library() {
-    library=$top/target/staticlib/libpundaliket.a
-    build "$library" rt staticlib pundaliket
+    library=$top/target/staticlib/lib${1:-pundaliket}.a
+    build "$library" rt staticlib "${1:-pundaliket}"
 }
 
 # compile FILE.c OBJECT [FLAG..], and link PROGRAM OBJECT..: for release, with no header of the machine's own
