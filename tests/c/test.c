@@ -514,8 +514,10 @@ static void room_for_replies(void)
         size_t whole = n / 5 * 5;
         for (size_t i = 0; i < whole; i += 5)
             memcpy(file + i, "\3\0\2\0\20", 5);
-        if (n % 5 == 4)
-            memcpy(file + whole, "\2\0\4\0", 4), whole += 4;
+        if (n % 5 == 4) {
+            memcpy(file + whole, "\2\0\4\0", 4);
+            whole += 4;
+        }
         lend(&state, 0, PUNDALIKET_STATE_BYTES, zeros);
         lend(&report, 0, PUNDALIKET_REPORT_BYTES, NULL);
         lend(&replies, 0, most[n], NULL);
