@@ -3,13 +3,11 @@
  * need, the stack that a call needs, and, against the plain C of plain.c, events over all codes,
  * drawn, damaged and cut files, and conversions.
  * Prints what differs and the stack used, then 'N checks, M failed'; ends with 1 if M is not 0. */
+#include <stdio.h>
+#include <string.h>
+
 #include "../../include/pundaliket.h"
 #include "plain.h"
-
-int printf(const char *format, ...);
-void *memcpy(void *to, const void *from, size_t n);
-void *memset(void *to, int byte, size_t n);
-int memcmp(const void *a, const void *b, size_t n);
 
 static unsigned checks, failed;
 
