@@ -1,13 +1,14 @@
 /*
- * Pundaliket: the data path of the Am9511A arithmetic chip, as a library for the card's firmware.
+ * Pundaliket: the data path of the Am9511A arithmetic chip, as a library for the card's firmware. C99 and C++17.
  *
- * `rt staticlib pundaliket` writes target/staticlib/libpundaliket.a. The archive links into x86-64
- * programs, needs `memcpy` and nothing else, keeps no state between calls and takes no memory.
+ * `rt staticlib pundaliket` writes target/staticlib/libpundaliket.a. The archive links into x86-64 programs. It keeps
+ * no state between calls, takes no memory and exports the functions declared here and nothing else.
+ * It asks of the program: memset.
  *
- * A slice is lent as a pointer and the number of bytes behind it. The caller's duties are C's own:
- * that many bytes are there, they may be written where the parameter is not const, and the slices
- * of one call do not overlap. (An empty slice still takes a pointer that is not null.) Everything
- * else is checked: each call answers every input, with the numbers of document 01.
+ * A slice is lent as a pointer and the number of bytes behind it. The caller's duties are C's own: that many bytes are
+ * there, they may be written where the parameter is not const, and the slices of one call do not overlap. (An empty
+ * slice still takes a pointer that is not null.) Everything else is checked: each call answers every input, with the
+ * numbers of documents 01 and 02 (README.md says what these are).
  */
 #ifndef PUNDALIKET_H
 #define PUNDALIKET_H
@@ -48,13 +49,87 @@ enum {
     PUNDALIKET_ACKNOWLEDGE = 6 /* nothing */
 };
 
-/* Sizes in bytes. */
+/*
+ * Sizes in bytes. With room for PUNDALIKET_MOST_REPLIES bytes of replies 8 cannot come from a run: a record of 5 bytes
+ * is answered with at most 21, one of 4 with at most 6, so a file of n bytes needs 21 * (n / 5), and 6 more where n % 5
+ * is 4. PUNDALIKET_STACK_BYTES is the stack that a call needs below its caller's frame: more by half, at least, than the
+ * most that was measured, by calls of each kind on a painted stack. tests/c/test.c measures it anew each time it runs.
+ */
 enum {
-    PUNDALIKET_STATE_BYTES = 19,   /* stack, top first (16), pending 0 or 1, status, service 0 or 1; 19 zeros: reset */
-    PUNDALIKET_REPORT_BYTES = 9,   /* refusal, bytes of whole records taken, bytes of replies written */
-    PUNDALIKET_FLOAT_BYTES = 4,    /* what a conversion writes */
-    PUNDALIKET_MOST_INPUT = 12288  /* the longest input */
+    PUNDALIKET_STATE_BYTES = 19,     /* stack, top first (16), pending 0 or 1, status, service 0 or 1; 19 zeros: reset */
+    PUNDALIKET_REPORT_BYTES = 9,     /* refusal, bytes of whole records taken, bytes of replies written */
+    PUNDALIKET_FLOAT_BYTES = 4,      /* what a conversion writes */
+    PUNDALIKET_MOST_INPUT = 12288,   /* the longest input */
+    PUNDALIKET_MOST_REPLIES = 51597, /* replies to the longest input */
+    PUNDALIKET_STACK_BYTES = 2048    /* stack of a call */
 };
+
+/* Where each part of a state begins. */
+enum {
+    PUNDALIKET_AT_STACK = 0,    /* 16 bytes, top first; a word's most significant byte is nearest the top */
+    PUNDALIKET_AT_PENDING = 16, /* 1 while a half word is pending: an odd number of bytes pushed and popped since reset */
+    PUNDALIKET_AT_STATUS = 17,  /* the status byte, as below */
+    PUNDALIKET_AT_SERVICE = 18  /* the service line, SVREQ */
+};
+
+/* The status byte. Each accepted command sets it afresh; bit 7, busy, is always 0. */
+enum {
+    PUNDALIKET_STATUS_SIGN = 0x40,           /* top bit of the new TOS */
+    PUNDALIKET_STATUS_ZERO = 0x20,           /* the new TOS is all zero bits */
+    PUNDALIKET_STATUS_ERRORS = 0x1E,         /* all four error bits */
+    PUNDALIKET_STATUS_DIVIDE_BY_ZERO = 0x10, /* error 1000 */
+    PUNDALIKET_STATUS_NEGATIVE_ROOT = 0x08,  /* error 0100: SQRT of a word below zero */
+    PUNDALIKET_STATUS_UNDERFLOW = 0x04,      /* error 0010: the exponent stored is 128 too large */
+    PUNDALIKET_STATUS_OVERFLOW = 0x02,       /* error 0001; of FADD to FDIV: the exponent stored is 128 too small */
+    PUNDALIKET_STATUS_CARRY = 0x01           /* carry out of SADD, DADD; borrow of SSUB, DSUB */
+};
+
+/* The command codes. S: 16-bit words, D: 32-bit words, F: float words. B is the next on stack, A the top. */
+enum {
+    PUNDALIKET_CODE_SERVICE = 0x80, /* added to a code: the service line is high after the command, else low */
+    PUNDALIKET_CODE_NOP = 0x00,  /* clears the status */
+    PUNDALIKET_CODE_SQRT = 0x01, /* root of A */
+    PUNDALIKET_CODE_FADD = 0x10, /* B + A */
+    PUNDALIKET_CODE_FSUB = 0x11, /* B - A */
+    PUNDALIKET_CODE_FMUL = 0x12, /* B x A */
+    PUNDALIKET_CODE_FDIV = 0x13, /* B / A */
+    PUNDALIKET_CODE_CHSF = 0x15, /* -A */
+    PUNDALIKET_CODE_PTOF = 0x17, /* A copied on top */
+    PUNDALIKET_CODE_POPF = 0x18, /* A to the bottom */
+    PUNDALIKET_CODE_XCHF = 0x19, /* A and B change places */
+    PUNDALIKET_CODE_PUPI = 0x1A, /* pi pushed */
+    PUNDALIKET_CODE_FLTD = 0x1C, /* 32-bit A to float */
+    PUNDALIKET_CODE_FLTS = 0x1D, /* 16-bit A to float */
+    PUNDALIKET_CODE_FIXD = 0x1E, /* float A to 32 bits */
+    PUNDALIKET_CODE_FIXS = 0x1F, /* float A to 16 bits */
+    PUNDALIKET_CODE_DADD = 0x2C,
+    PUNDALIKET_CODE_DSUB = 0x2D,
+    PUNDALIKET_CODE_DMUL = 0x2E, /* low half of B x A */
+    PUNDALIKET_CODE_DDIV = 0x2F,
+    PUNDALIKET_CODE_CHSD = 0x34,
+    PUNDALIKET_CODE_DMUU = 0x36, /* upper half of B x A */
+    PUNDALIKET_CODE_PTOD = 0x37,
+    PUNDALIKET_CODE_POPD = 0x38,
+    PUNDALIKET_CODE_XCHD = 0x39,
+    PUNDALIKET_CODE_SADD = 0x6C,
+    PUNDALIKET_CODE_SSUB = 0x6D,
+    PUNDALIKET_CODE_SMUL = 0x6E,
+    PUNDALIKET_CODE_SDIV = 0x6F,
+    PUNDALIKET_CODE_CHSS = 0x74,
+    PUNDALIKET_CODE_SMUU = 0x76,
+    PUNDALIKET_CODE_PTOS = 0x77,
+    PUNDALIKET_CODE_POPS = 0x78,
+    PUNDALIKET_CODE_XCHS = 0x79
+};
+
+/*
+ * A float word: sign, then a two's complement exponent e from -64 to 63, then a mantissa m of 24 bits. Its value is
+ * m * 2^(e-24). It is proper if it is all zeros or its mantissa's top bit is set: 1.0 is 01800000, -2.5 is 82A00000.
+ */
+#define PUNDALIKET_FLOAT_SIGN 0x80000000u
+#define PUNDALIKET_FLOAT_EXPONENT 0x7F000000u
+#define PUNDALIKET_FLOAT_MANTISSA 0x00FFFFFFu
+#define PUNDALIKET_FLOAT_TOP_BIT 0x00800000u
 
 /*
  * Runs a file of bus records. Returns the refusal that ended the run, 0 at the file's end.

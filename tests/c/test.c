@@ -1,14 +1,13 @@
 /* A C program over include/pundaliket.h, linked with the library. It checks 01's example, each
- * refusal of 01's table, roots, that no byte beyond a lent slice is written, and, against the plain
- * C of plain.c, events over all codes, drawn, damaged and cut files, and conversions.
- * Prints what differs, then 'N checks, M failed'; ends with 1 if M is not 0. */
+ * refusal of 01's table, roots, that no byte beyond a lent slice is written, the room that replies
+ * need, the stack that a call needs, and, against the plain C of plain.c, events over all codes,
+ * drawn, damaged and cut files, and conversions.
+ * Prints what differs and the stack used, then 'N checks, M failed'; ends with 1 if M is not 0. */
+#include <stdio.h>
+#include <string.h>
+
 #include "../../include/pundaliket.h"
 #include "plain.h"
-
-int printf(const char *format, ...);
-void *memcpy(void *to, const void *from, size_t n);
-void *memset(void *to, int byte, size_t n);
-int memcmp(const void *a, const void *b, size_t n);
 
 static unsigned checks, failed;
 
@@ -326,7 +325,7 @@ static void events_of_each_kind(void)
     expect_event("event of kind 2^32 - 1", s, 0xFFFFFFFF, 1, 5 * 256, s);
 }
 
-/* ---- SQRT, the first ask of 02: what must come is written out here, the roots by whole numbers of any length */
+/* ---- SQRT, request 1 of 02: what must come is written out here, the roots by whole numbers of any length */
 
 static const uint8_t root_codes[] = { 0x01, 0x81 };
 
@@ -492,6 +491,97 @@ static void all_conversions(void)
             check(conversions_agree(k & 7, drawn_word(), n), "conversion, slice of", (unsigned)n);
 }
 
+/* ---- the room that the header names: with it 8 cannot come, with less it can */
+
+static void room_for_replies(void)
+{
+    static uint8_t file[PUNDALIKET_MOST_INPUT];
+    static uint32_t most[PUNDALIKET_MOST_INPUT + 1];
+    /* of the records of 4 bytes a status has the longest reply, 6, of those of 5 a pop of 16, 21; of those of 6 to 20, all pushes, any, 5 */
+    for (size_t n = 0; n <= PUNDALIKET_MOST_INPUT; n++) {
+        if (n > 0)
+            most[n] = most[n - 1];
+        if (n >= 4 && most[n - 4] + 6 > most[n])
+            most[n] = most[n - 4] + 6;
+        if (n >= 5 && most[n - 5] + 21 > most[n])
+            most[n] = most[n - 5] + 21;
+        check(most[n] == 21 * (n / 5) + (n % 5 == 4 ? 6 : 0), "replies to a file of", (unsigned)n);
+    }
+    check(most[PUNDALIKET_MOST_INPUT] == PUNDALIKET_MOST_REPLIES, "replies to the longest file", most[PUNDALIKET_MOST_INPUT]);
+    for (size_t n = PUNDALIKET_MOST_INPUT; n > PUNDALIKET_MOST_INPUT - 8; n--) {
+        size_t whole = n / 5 * 5;
+        for (size_t i = 0; i < whole; i += 5)
+            memcpy(file + i, "\3\0\2\0\20", 5);
+        if (n % 5 == 4) {
+            memcpy(file + whole, "\2\0\4\0", 4);
+            whole += 4;
+        }
+        lend(&state, 0, PUNDALIKET_STATE_BYTES, zeros);
+        lend(&report, 0, PUNDALIKET_REPORT_BYTES, NULL);
+        lend(&replies, 0, most[n], NULL);
+        check(pundaliket_run(state.at, state.length, file, whole, replies.at, most[n], report.at, report.length) == 0, "room enough", (unsigned)n);
+        check(pundaliket_run(state.at, state.length, file, whole, replies.at, most[n] - 1, report.at, report.length) == 8, "room short by a byte", (unsigned)n);
+    }
+}
+
+/* ---- the stack that a call needs: each is made on a stack of its own, painted before; what is no longer paint was used.
+ * It runs last, when the loader has found memset, whose own few bytes are counted in. */
+
+enum { STACK = 16384, PAINT = 0x5A };
+
+static uint8_t painted[STACK] __attribute__((aligned(64)));
+static size_t deepest;
+
+/* what the next call is lent */
+static uint8_t lent_state[PUNDALIKET_STATE_BYTES], lent_file[2048], lent_replies[8192], lent_report[PUNDALIKET_REPORT_BYTES], lent_out[4];
+static size_t lent_length;
+static uint32_t lent_number;
+static uint8_t lent_byte;
+
+static void call_run(void)
+{
+    pundaliket_run(lent_state, sizeof lent_state, lent_file, lent_length, lent_replies, sizeof lent_replies, lent_report, sizeof lent_report);
+}
+static void call_event(void) { pundaliket_event(lent_state, sizeof lent_state, lent_number, lent_byte); }
+static void call_word_to_f32(void) { pundaliket_word_to_f32(lent_number, lent_out, sizeof lent_out); }
+static void call_f32_to_word(void) { pundaliket_f32_to_word(lent_number, lent_out, sizeof lent_out); }
+
+static void on_painted_stack(void (*call)(void))
+{
+    memset(painted, PAINT, sizeof painted);
+    __asm__ volatile("movq %%rsp, %%rbx\n\tmovq %0, %%rsp\n\tcall *%1\n\tmovq %%rbx, %%rsp"
+                     :
+                     : "r"(painted + sizeof painted), "r"(call)
+                     : "rax", "rbx", "rcx", "rdx", "rsi", "rdi", "r8", "r9", "r10", "r11", "xmm0", "xmm1", "xmm2", "xmm3", "xmm4", "xmm5",
+                       "xmm6", "xmm7", "xmm8", "xmm9", "xmm10", "xmm11", "xmm12", "xmm13", "xmm14", "xmm15", "memory", "cc");
+    size_t free = 0;
+    while (free < sizeof painted && painted[free] == PAINT)
+        free++;
+    if (sizeof painted - free > deepest)
+        deepest = sizeof painted - free;
+}
+
+static void stack_of_a_call(void)
+{
+    for (unsigned i = 0; i < 4096; i++) {
+        draw_state(lent_state);
+        lent_number = i % 16 ? 3 : i / 16 % 8;
+        lent_byte = (uint8_t)i;
+        on_painted_stack(call_event);
+    }
+    for (unsigned i = 0; i < 512; i++) {
+        draw_state(lent_state);
+        for (lent_length = 0; lent_length < 2000;)
+            lent_length += draw_record(lent_file + lent_length);
+        on_painted_stack(call_run);
+        lent_number = drawn_word();
+        on_painted_stack(call_word_to_f32);
+        on_painted_stack(call_f32_to_word);
+    }
+    printf("stack: %u of %u bytes\n", (unsigned)deepest, (unsigned)PUNDALIKET_STACK_BYTES);
+    check(deepest + deepest / 2 <= PUNDALIKET_STACK_BYTES, "stack of a call, and half as much again", (unsigned)deepest);
+}
+
 int main(void)
 {
     example_of_01();
@@ -503,6 +593,8 @@ int main(void)
     all_events();
     drawn_files();
     all_conversions();
+    room_for_replies();
+    stack_of_a_call();
     printf("%u checks, %u failed\n", checks, failed);
     return failed != 0;
 }
