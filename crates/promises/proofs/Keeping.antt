@@ -21,10 +21,12 @@ use Rattle.chip.specs.State.{busy}
 use Rattle.chip.specs.Commands.{baseRule, properOperands}
 use Rattle.chip.specs.Step.{refused, unlessBusy, pushOf, popOf, readOf, resetOf, acknowledgeOf, carried, answerOf, commandUnder, commandOf}
 use Rattle.host.specs.declared.Reply.{Reply}
+use Rattle.files.proofs.Tests.{either-lt, either-eq}
+use Rattle.files.proofs.Append.{nothing}
+use Rattle.files.proofs.Through.{tally, up-to-stop, stops-there}
+use Rattle.files.proofs.Cut.{cut-anywhere}
 use Rattle.records.specs.Run.{Outcome, ended, runOf}
-use Rattle.records.proofs.Tests.{either-lt, either-eq}
-use Rattle.records.proofs.Append.{nothing}
-use Rattle.records.proofs.Through.{tally, ended-well, up-to-stop, stops-there, cut-anywhere}
+use Rattle.records.proofs.Prefix.{lawful}
 use Rattle.pundaliket.specs.Bytes.{isState, stateOf, flagOf, bytesOf, reportOf}
 use Rattle.pundaliket.specs.Calls.{Called, ranOf, callOf, signalOf, signalBy, eventOf, joinedOf, Sent, sentOf}
 use Rattle.pundaliket.proofs.Calling.{false-true, bad-state, too-long, good, is-good}
@@ -80,7 +82,7 @@ state-returns l h =
 
 pub empty-input : EmptyInput
 empty-input state replies report a b =
-    good state [] replies report a b (omega arith) ∙ rw (nothing (stateOf state) (length replies), state-returns state b)
+    good state [] replies report a b (omega arith) ∙ rw (nothing lawful (stateOf state) (length replies), state-returns state b)
 
 pub out-kept : OutKept
 unfolding sentOf
@@ -117,7 +119,7 @@ replies-stay state input replies report =
     (λ c a. (ap length (a .2), λ i h. ap (λ (l : List ℕ). getD l i 0) (a .2)))
     (λ n b d.
     let o = runOf (stateOf state) input (length replies) in
-    let t = tally (stateOf state) input (length replies) in
+    let t = tally lawful (stateOf state) input (length replies) in
     let w = o .written in
     let f = t .in-file in
     let few = t .few in
@@ -138,20 +140,20 @@ replies-stay state input replies report =
 
 pub stops-at : StopsThere
 stops-at s l room z =
-    let r = tally s l room .range z in
-    (r .0, r .1, stops-there s l room z)
+    let r = tally lawful s l room .range z in
+    (r .0, r .1, stops-there lawful s l room z)
 
 pub bad-file : BadFile
 bad-file state input replies report a b d =
     let s = stateOf state in
     let room = length replies in
     let o = runOf s input room in
-    let t = tally s input room in
+    let t = tally lawful s input room in
     let f = t .in-file in
     let n = length-take-le (o .taken) input f in
     let exact = le4-exact (o .taken) (omega arith) in
     rw (good state input replies report a b d, exact)
-    (good state (take (o .taken) input) replies report a b (omega arith) ∙ ap (λ (p : Outcome). ranOf p replies) (up-to-stop s input room))
+    (good state (take (o .taken) input) replies report a b (omega arith) ∙ ap (λ (p : Outcome). ranOf p replies) (up-to-stop lawful s input room))
 
 -- ---- a file cut after any byte
 
@@ -163,7 +165,7 @@ cut-file state input replies report =
     (λ a b d z k most.
     let s = stateOf state in
     let room = length replies in
-    let r = cut-anywhere s input room z k most in
+    let r = cut-anywhere lawful s input room z k most in
     let n = r .0 in
     let c = r .1 in
     let up = c .upto in

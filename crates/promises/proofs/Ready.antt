@@ -24,12 +24,13 @@ use Rattle.chip.specs.Commands.{baseRule, properOperands}
 use Rattle.chip.specs.Step.{done, refused, pushOf, popOf, readOf, resetOf, acknowledgeOf, carried, answerOf as commandBy, commandUnder, commandOf}
 use Rattle.chip.proofs.Kept.{command-keeps}
 use Rattle.chip.proofs.Accepted.{leaves}
+use Rattle.files.proofs.Through.{through}
 use Rattle.records.specs.declared.head.Event.{Event}
 use Rattle.records.specs.declared.head.Event.the-variants.{Push, Pop, Command, Status, Reset, Acknowledge}
 use Rattle.records.specs.Record.{payloadOf, answeredOf, Carried, Holds, before, pushAll, popAll, answerOf, turnOf}
 use Rattle.records.specs.Run.{Outcome, runOf}
 use Rattle.records.proofs.Steps.{steps}
-use Rattle.records.proofs.Through.{through}
+use Rattle.records.proofs.Prefix.{lawful}
 
 -- every element of a list of bytes is a byte
 pub byte-at : (l : List ℕ) → Bytes l → (i : ℕ) → getD l i 0 < 256
@@ -123,5 +124,5 @@ turn-ready s l room r h =
 
 pub run-ready : (s : State) (l : List ℕ) (room : ℕ) → Ready s → Bytes l → Ready (runOf s l room .state)
 run-ready =
-    through (λ s l room o. Ready s → Bytes l → Ready (o .state)) (λ s room r h. r) (λ s l room p z r h. r)
+    through lawful (λ s l room o. Ready s → Bytes l → Ready (o .state)) (λ s room r h. r) (λ s l room p z r h. r)
     (λ s l room p z more r h. more (turn-ready s l room r h) (bytes-drop (turnOf s l room .size) l h))

@@ -19,19 +19,19 @@ use Rattle.stack.proofs.Words.{bytes-drop}
 use Rattle.chip.specs.State.{busy, moved, resetState, acknowledged}
 use Rattle.chip.specs.Turns.{afterPushes, afterPops}
 use Rattle.chip.specs.Step.{done, pushOf, popOf, readOf, resetOf, acknowledgeOf, commandOf}
+use Rattle.files.proofs.Tests.{either-lt}
+use Rattle.files.proofs.Append.{room-after, nothing, first-stops, first-taken, taken-in, appended}
+use Rattle.files.proofs.Through.{through, tally}
 use Rattle.records.specs.declared.head.Event.{Event}
 use Rattle.records.specs.declared.head.Event.the-variants.{Push, Pop, Command, Status, Reset, Acknowledge}
 use Rattle.records.specs.declared.head.Head.{Head}
 use Rattle.records.specs.declared.head.Head.the-variants.{Whole, Stop}
 use Rattle.records.specs.Record.{kindOf, payloadOf, answeredOf, headNumber, headOf, Carried, Holds, before, pushAll, popAll, answerOf, dataOf, replyOf, stopped, worked, turnOf}
 use Rattle.records.specs.Run.{Outcome, ended, after, runOf}
-use Rattle.records.proofs.Tests.{either-lt}
 use Rattle.records.proofs.Heads.{head-is}
 use Rattle.records.proofs.Blocks.{length-popped}
 use Rattle.records.proofs.Steps.{steps, moves}
-use Rattle.records.proofs.Prefix.{holds-too, within}
-use Rattle.records.proofs.Append.{nothing, first-stops, first-taken, taken-in, appended}
-use Rattle.records.proofs.Through.{through, tally, room-after}
+use Rattle.records.proofs.Prefix.{holds-too, within, lawful}
 use Rattle.pundaliket.specs.Bytes.{stateOf, reportOf, le4}
 use Rattle.pundaliket.specs.Calls.{ranOf, callOf}
 use Rattle.pundaliket.proofs.Calling.{good}
@@ -46,8 +46,8 @@ in-turn s (r ∷ rs) rest room h =
     let o = runOf s r room in
     let left = room - length (o .written) in
     ap (λ (l : List ℕ). runOf s l room) (append-assoc r (joined rs) rest)
-    ∙ appended s r (joined rs ++ rest) room (h .1)
-    ∙ ap (λ (n : ℕ). after n (o .written) (runOf (o .state) (joined rs ++ rest) left)) (tally s r room .all (h .1))
+    ∙ appended lawful s r (joined rs ++ rest) room (h .1)
+    ∙ ap (λ (n : ℕ). after n (o .written) (runOf (o .state) (joined rs ++ rest) left)) (tally lawful s r room .all (h .1))
     ∙ ap (after (length r) (o .written)) (in-turn (o .state) rs rest left (h .2))
 
 -- ---- every file is split
@@ -73,12 +73,12 @@ alone s l room p z =
     let m : 0 < t .size = moves s l room z in
     let n : length r ≡ t .size = length-take-le (t .size) l (within s l room z) in
     let d : drop (t .size) r ≡ [] = ap (λ (k : ℕ). drop k r) (sym n) ∙ drop-length r in
-    taken-in s l room t refl p r z (sym (take-take (t .size) (t .size) l (omega arith))) (omega arith) (omega arith)
-    ∙ rw (d, nothing (t .state) (room - length (t .reply)), add-zero (t .size), append-nil (t .reply))
+    taken-in lawful s l room t refl p r z (sym (take-take (t .size) (t .size) l (omega arith))) (omega arith) (omega arith)
+    ∙ rw (d, nothing lawful (t .state) (room - length (t .reply)), add-zero (t .size), append-nil (t .reply))
 
 pub counted : Counted
 counted =
-    through Split
+    through lawful Split
     (λ s room. record {
       records = [];
       rest = [];
@@ -99,7 +99,7 @@ counted =
       taken = refl;
       written = refl;
       complete = λ y. absurd (z y);
-      stopped = λ y. rw (sub-zero room) (first-stops s l room _ refl p z);
+      stopped = λ y. rw (sub-zero room) (first-stops lawful s l room _ refl p z);
     })
     (λ s l room p z h.
     let t = turnOf s l room in
@@ -133,7 +133,7 @@ le4-exact n h =
 pub counts-exact : CountsExact
 counts-exact state input replies report a b d =
     let o = runOf (stateOf state) input (length replies) in
-    let t = tally (stateOf state) input (length replies) in
+    let t = tally lawful (stateOf state) input (length replies) in
     let i = t .in-file in
     let f = t .few in
     rw (good state input replies report a b d) (le4-exact (o .taken) (omega arith), le4-exact (length (o .written)) (omega arith))
@@ -154,8 +154,8 @@ module _ (s : State) (r : List ℕ) (room : ℕ) (e : Event) (h : Holds r e) (n 
   one-turn g =
       let d : drop (4 + payloadOf e) r ≡ [] = drop-of-length-le r {i = 4 + payloadOf e} (omega arith) in
       let t = worked s e (answerOf s (drop 4 r) e) in
-      first-taken s r room t (the-turn g) some refl
-      ∙ rw (d, nothing (t .state) (room - length (t .reply)), add-zero (4 + payloadOf e), append-nil (t .reply))
+      first-taken lawful s r room t (the-turn g) some refl
+      ∙ rw (d, nothing lawful (t .state) (room - length (t .reply)), add-zero (4 + payloadOf e), append-nil (t .reply))
 
   stop-turn : room < 5 + answeredOf e → turnOf s r room ≡ stopped NoRoom s
   unfolding turnOf
@@ -163,7 +163,7 @@ module _ (s : State) (r : List ℕ) (room : ℕ) (e : Event) (h : Holds r e) (n 
 
   -- its reply has no room
   no-turn : room < 5 + answeredOf e → runOf s r room ≡ ended 8 s
-  no-turn g = first-stops s r room (stopped NoRoom s) (stop-turn g) some (λ y. omega arith)
+  no-turn g = first-stops lawful s r room (stopped NoRoom s) (stop-turn g) some (λ y. omega arith)
 
 pub no-room-record : NoRoomRecord
 no-room-record s r room one g = no-turn s r room (one .event) (one .held) (one .size) g
@@ -178,7 +178,7 @@ bad-head s l room some z = by (headOf l) refl z
   where
     by : (h : Head) → headOf l ≡ h → (headNumber h ≡ 0 → ⊥) → runOf s l room ≡ ended (headNumber h) s
     by (Whole e) is n = absurd (n refl)
-    by (Stop r) is n = first-stops s l room (stopped r s) (stopped-by s l room r is) some n
+    by (Stop r) is n = first-stops lawful s l room (stopped r s) (stopped-by s l room r is) some n
 
 -- ---- what the chip answers while it is not busy
 

@@ -12,8 +12,9 @@ use Rattle.terms.specs.Refusal.{numberOf}
 use Rattle.chip.specs.declared.State.{State}
 use Rattle.chip.specs.declared.Answer.{Answer}
 use Rattle.host.specs.declared.Reply.{Reply}
-use Rattle.records.specs.Run.{Outcome, Runs, runOf}
-use Rattle.records.proofs.Tests.{either-eq}
+use Rattle.files.specs.Run.{Runs}
+use Rattle.files.proofs.Tests.{either-eq}
+use Rattle.records.specs.Run.{Outcome, runOf}
 use Rattle.pundaliket.specs.Bytes.{isState, stateOf, bytesOf, reportOf, le4}
 use Rattle.pundaliket.specs.Calls.{ranOf, away, callOf, Calls, eventOf, joinedOf, signalBy, signalOf, Signals, sentOf, Sends}
 

@@ -10,9 +10,10 @@ use Rattle.terms.specs.declared.Refusal.{Refusal}
 use Rattle.terms.specs.Refusal.{numberOf}
 use Rattle.chip.specs.declared.State.{State}
 use Rattle.chip.specs.declared.Answer.{Answer}
+use Rattle.files.specs.Run.{Turns}
 use Rattle.records.specs.declared.head.Event.{Event}
 use Rattle.records.specs.declared.head.Event.the-variants.{Push, Pop, Command, Status, Reset, Acknowledge}
-use Rattle.records.specs.Record.{le2, kindOf, payloadOf, answeredOf, dataOf, replyOf, stopped, worked, Turns}
+use Rattle.records.specs.Record.{le2, kindOf, payloadOf, answeredOf, dataOf, replyOf, stopped, worked}
 use Rattle.records.proofs.Blocks.{length-popped}
 
 -- a small number has no second byte
