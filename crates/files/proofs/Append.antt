@@ -1,13 +1,13 @@
 -- A run goes on from where a run of the first bytes ended: the first record and the rest, and by induction the append law. Assumes nothing.
 use mathlib.Core.Path.{_≡_, refl, sym, ap, subst, _∙_}
-use mathlib.Core.List.{List, [], _∷_, _++_}
+use mathlib.Core.List.{List, [], _∷_, _++_, append-nil}
 use Prim.Native.Nat.{ℕ, zero, suc, _+_, _-_, _≤_, _<_}
 use native.Mathlib.Omega.{arith}
-use native.Mathlib.Nat.{not-suc-le-zero, sub-zero}
+use native.Mathlib.Nat.{not-suc-le-zero, add-zero, sub-zero}
 use lib.ListN.{length, take, drop, length-drop, length-append}
-use lib.Seq.{take-append-le, drop-append-le}
+use lib.Seq.{take-append-le, drop-append-le, length-take-le, take-take, drop-length}
 use borrow.Author.Tests.{eq-eqb, ne-eqb}
-use Rattle.files.specs.Run.{Turned, Step, Outcome, ended, after, run, runBy}
+use Rattle.files.specs.Run.{Turned, Step, Outcome, ended, took, after, run, runBy}
 use Rattle.files.specs.Lawful.{Lawful}
 use Rattle.files.proofs.Tests.{either-eq}
 use Rattle.files.proofs.Running.{beyond, unroll, after-none, after-after}
@@ -55,6 +55,18 @@ module _ {S : Type 0} {most : ℕ} {step : Step S} (ok : Lawful most step) where
     taken-in m e same fits more =
         let k : step s m room ≡ t = again m e same fits in
         unroll ok s m room more ∙ rw (k, eq-eqb (t .refusal) 0 e)
+
+  -- the bytes of a first record that is taken, as a file of their own
+  pub alone : (s : S) (l : List ℕ) (room : ℕ) → 0 < length l → step s l room .refusal ≡ 0
+      → runBy step s (take (step s l room .size) l) room ≡ took (step s l room .state) (step s l room .size) (step s l room .reply)
+  alone s l room p z =
+      let t = step s l room in
+      let r = take (t .size) l in
+      let m : 0 < t .size = ok .moves s l room z in
+      let n : length r ≡ t .size = length-take-le (t .size) l (ok .within s l room z) in
+      let d : drop (t .size) r ≡ [] = ap (λ (k : ℕ). drop k r) (sym n) ∙ drop-length r in
+      taken-in s l room t refl p r z (sym (take-take (t .size) (t .size) l (omega arith))) (omega arith) (omega arith)
+      ∙ rw (d, nothing (t .state) (room - length (t .reply)), add-zero (t .size), append-nil (t .reply))
 
   -- an outcome after a record, gone on from
   on-after : (n : ℕ) (w : List ℕ) (o : Outcome S) (rest : List ℕ) (room : ℕ) → after n w (onward step o rest (room - length w)) ≡ onward step (after n w o) rest room

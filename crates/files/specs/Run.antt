@@ -32,6 +32,10 @@ pub record Outcome (S : Type 0) : Type 0 where
 abbrev pub ended : {S : Type 0} → ℕ → S → Outcome S
 ended r s = record { refusal = r; state = s; taken = 0; written = [] }
 
+-- a file of one record that is taken
+abbrev pub took : {S : Type 0} → S → ℕ → List ℕ → Outcome S
+took s size reply = record { refusal = 0; state = s; taken = size; written = reply }
+
 -- an outcome, with n bytes taken and replies written before it
 abbrev pub after : {S : Type 0} → ℕ → List ℕ → Outcome S → Outcome S
 after n w o = record { refusal = o .refusal; state = o .state; taken = n + o .taken; written = w ++ o .written }

@@ -13,13 +13,14 @@ use Rattle.chip.specs.declared.State.{State}
 use Rattle.chip.specs.declared.Answer.{Answer}
 use Rattle.terms.specs.declared.Refusal.the-variants.{BadState}
 use Rattle.stack.specs.Stack.{Bytes, topByte}
-use Rattle.stack.proofs.Words.{bytes-take}
+use Rattle.stack.proofs.Words.{bytes-take, byte-at}
 use Rattle.codes.specs.declared.Kind.{Kind}
 use Rattle.codes.specs.declared.Kind.the-variants.{Known, Derived, Unknown}
 use Rattle.codes.specs.Codes.{sr, kindOf}
 use Rattle.chip.specs.State.{busy}
 use Rattle.chip.specs.Commands.{baseRule, properOperands}
 use Rattle.chip.specs.Step.{refused, unlessBusy, pushOf, popOf, readOf, resetOf, acknowledgeOf, carried, answerOf, commandUnder, commandOf}
+use Rattle.chip.proofs.Ready.{Ready, push-fair, pop-fair, read-fair, reset-fair, acknowledge-fair, command-fair}
 use Rattle.host.specs.declared.Reply.{Reply}
 use Rattle.files.proofs.Tests.{either-lt, either-eq}
 use Rattle.files.proofs.Append.{nothing}
@@ -27,13 +28,13 @@ use Rattle.files.proofs.Through.{tally, up-to-stop, stops-there}
 use Rattle.files.proofs.Cut.{cut-anywhere}
 use Rattle.records.specs.Run.{Outcome, ended, runOf}
 use Rattle.records.proofs.Prefix.{lawful}
+use Rattle.records.proofs.Ready.{run-ready}
 use Rattle.pundaliket.specs.Bytes.{isState, stateOf, flagOf, bytesOf, reportOf}
 use Rattle.pundaliket.specs.Calls.{Called, ranOf, callOf, signalOf, signalBy, eventOf, joinedOf, Sent, sentOf}
 use Rattle.pundaliket.proofs.Calling.{false-true, bad-state, too-long, good, is-good}
 use Rattle.promises.specs.Records.{countAt}
 use Rattle.promises.specs.Kept.{NoReport, NoState, LongInput, Stands, GoodStates, StateReturns, EmptyInput, EventKept, OutKept, StateStays, StateStaysEvent, RepliesStay, StopsThere, BadFile, CutCall, CutFile}
 use Rattle.promises.proofs.Recorded.{le4-exact}
-use Rattle.promises.proofs.Ready.{byte-at, Ready, push-fair, pop-fair, read-fair, reset-fair, acknowledge-fair, command-fair, run-ready}
 
 -- ---- a call that is turned away
 

@@ -5,3 +5,5 @@ pub mod Writes
 pub mod Turning
 pub mod Steps
 pub mod Prefix
+pub mod Single
+pub mod Ready

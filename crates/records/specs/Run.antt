@@ -13,6 +13,10 @@ Outcome = files.Outcome State
 abbrev pub ended : ℕ → State → Outcome
 ended r s = files.ended r s
 
+-- a file of one record that is taken
+abbrev pub took : State → ℕ → List ℕ → Outcome
+took s size reply = files.took s size reply
+
 -- an outcome, with n bytes taken and replies written before it
 abbrev pub after : ℕ → List ℕ → Outcome → Outcome
 after n w o = files.after n w o
