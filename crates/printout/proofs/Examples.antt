@@ -9,7 +9,7 @@ use Rattle.chip.specs.Commands.{keepsA}
 use Rattle.chip.specs.Step.{pushOf, popOf, readOf, carried, commandUnder}
 use Rattle.files.specs.Run.{run, runBy}
 use Rattle.records.specs.Record.{headOf, turnOf}
-use Rattle.pundaliket.specs.Bytes.{isState}
+use Rattle.stored.specs.Bytes.{isState}
 use Rattle.pundaliket.specs.Calls.{callOf}
 use Rattle.listing.specs.Text.{spelled}
 use Rattle.listing.specs.Listing.{whole, linesUpTo}

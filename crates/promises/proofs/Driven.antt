@@ -28,7 +28,7 @@ use Rattle.chip.proofs.Kept.{Keeps, push-keeps, pop-keeps, command-keeps, read-
 use Rattle.chip.proofs.Accepted.{accepted}
 use Rattle.chip.proofs.Ready.{Ready as Good, push-fair, pop-fair, read-fair, reset-fair, acknowledge-fair, command-fair}
 use Rattle.chip.proofs.OnTop.{four}
-use Rattle.pundaliket.specs.Bytes.{isState, stateOf, flagOf, bytesOf as stateBytes}
+use Rattle.stored.specs.Bytes.{isState, stateOf, flagOf, bytesOf as stateBytes}
 use Rattle.pundaliket.specs.Calls.{Signal, signalBy, signalOf, eventOf, joinedOf}
 use Rattle.promises.specs.Events.{Event, push, pop, command, read, reset, acknowledge, answerTo, after, answered, pushesOf}
 use Rattle.promises.specs.Chains.{leavesClear, quiet, Step, Add, Subtract, Multiply, Divide, TakeFrom, Change, given, eventsOf, commandsIn, chainOf, Constants, wordOf, Run, Starts, resultOf, Quiet}

@@ -8,6 +8,7 @@ use lib.Dec.{eqb, lit≤}
 use lib.ListN.{length, take, drop, getD, length-append, length-drop, take-append-drop, drop-of-length-le}
 use lib.Seq.{length-take-le, drop-cons, getD-drop, getD-append-add}
 use borrow.Author.Tests.{eq-eqb, ne-eqb}
+use Rattle.little.proofs.Exact.{le4-exact}
 use Rattle.terms.specs.Refusal.{numberOf}
 use Rattle.chip.specs.declared.State.{State}
 use Rattle.chip.specs.declared.Answer.{Answer}
@@ -29,12 +30,12 @@ use Rattle.files.proofs.Cut.{cut-anywhere}
 use Rattle.records.specs.Run.{Outcome, ended, runOf}
 use Rattle.records.proofs.Prefix.{lawful}
 use Rattle.records.proofs.Ready.{run-ready}
-use Rattle.pundaliket.specs.Bytes.{isState, stateOf, flagOf, bytesOf, reportOf}
+use Rattle.stored.specs.Bytes.{isState, stateOf, flagOf, bytesOf}
+use Rattle.stored.proofs.States.{is-good}
 use Rattle.pundaliket.specs.Calls.{Called, ranOf, callOf, signalOf, signalBy, eventOf, joinedOf, Sent, sentOf}
-use Rattle.pundaliket.proofs.Calling.{false-true, bad-state, too-long, good, is-good}
+use Rattle.pundaliket.proofs.Calling.{false-true, bad-state, too-long, good}
 use Rattle.promises.specs.Records.{countAt}
 use Rattle.promises.specs.Kept.{NoReport, NoState, LongInput, Stands, GoodStates, StateReturns, EmptyInput, EventKept, OutKept, StateStays, StateStaysEvent, RepliesStay, StopsThere, BadFile, CutCall, CutFile}
-use Rattle.promises.proofs.Recorded.{le4-exact}
 
 -- ---- a call that is turned away
 

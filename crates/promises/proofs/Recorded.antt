@@ -1,12 +1,13 @@
 -- The append law over a list of records, every file split at its whole records, the counts, and one record of each kind. Assumes nothing.
 use mathlib.Core.Path.{_≡_, refl, sym, ap, _∙_}
 use mathlib.Core.List.{List, [], _∷_, _++_, append-assoc}
-use Prim.Native.Nat.{ℕ, _+_, _*_, _-_, _/_, _%_, _<_}
+use Prim.Native.Nat.{ℕ, _+_, _-_, _<_}
 use native.Mathlib.Omega.{arith}
 use native.Mathlib.Nat.{sub-zero}
 use lib.ListN.{length, take, drop, length-append, take-append-drop}
 use lib.Seq.{length-take-le, take-take}
 use borrow.Author.Tests.{leb-false}
+use Rattle.little.proofs.Exact.{le4-exact}
 use Rattle.terms.specs.Refusal.{numberOf}
 use Rattle.stack.specs.Stack.{Bytes}
 use Rattle.stack.proofs.Words.{bytes-drop}
@@ -24,7 +25,7 @@ use Rattle.records.proofs.Steps.{steps}
 use Rattle.records.proofs.Prefix.{holds-too, within, lawful}
 use Rattle.records.proofs.Single.{one-turn, no-turn, stopped-by, push-alone, pop-alone, command-alone, status-alone, reset-alone, acknowledge-alone}
 use Rattle.records.proofs.Ready.{event-fair, run-ready}
-use Rattle.pundaliket.specs.Bytes.{stateOf}
+use Rattle.stored.specs.Bytes.{stateOf}
 use Rattle.pundaliket.proofs.Calling.{good}
 use Rattle.promises.specs.Records.{IsRecord, joined, EachTaken, repliesOf, InTurn, EachSmall, InReply, Split, Counted, CountsExact, PushRecord, PopRecord, CommandRecord, StatusRecord, ResetRecord, AcknowledgeRecord, NoRoomRecord, BadHead}
 
@@ -99,14 +100,6 @@ counted =
     })
 
 -- ---- the report's counts
-
--- four bytes give back a number below 2 ^ 32
-pub le4-exact : (n : ℕ) → n < 4294967296 → n % 256 + 256 * (n / 256 % 256 + 256 * (n / 65536 % 256 + 256 * (n / 16777216 % 256))) ≡ n
-le4-exact n h =
-    let a : n / 65536 ≡ n / 256 / 256 = omega arith in
-    let b : n / 16777216 ≡ n / 65536 / 256 = omega arith in
-    let c : n / 16777216 % 256 ≡ n / 16777216 = omega arith in
-    omega arith
 
 pub counts-exact : CountsExact
 counts-exact state input replies report a b d =

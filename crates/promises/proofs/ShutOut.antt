@@ -8,6 +8,7 @@ use native.Mathlib.Omega.{arith}
 use borrow.Author.Tests.{ltb-true}
 use lib.Dec.{ltb, lit<, lit≤}
 use lib.ListN.{length, take, getD}
+use Rattle.little.specs.Little.{le4}
 use Rattle.float.specs.Convert.{chsf}
 use Rattle.stack.specs.Stack.{Bytes, zeros}
 use Rattle.chip.specs.Step.{pushOf, resetOf}
@@ -15,7 +16,7 @@ use Rattle.host.specs.Host.{hostOf, takenOf}
 use Rattle.files.specs.Run.{run, runBy}
 use Rattle.records.specs.declared.head.Event.the-variants.{Push}
 use Rattle.records.specs.Record.{headOf, turnOf}
-use Rattle.pundaliket.specs.Bytes.{isState, le4}
+use Rattle.stored.specs.Bytes.{isState}
 use Rattle.pundaliket.specs.Calls.{callOf, signalOf, sentOf}
 use Rattle.pundaliket.proofs.Calling.{bad-state, too-long}
 use Rattle.promises.specs.Chains.{Change}

@@ -15,7 +15,7 @@ use Rattle.chip.specs.Turns.{afterPushes, afterPops, bytesPopped}
 use Rattle.records.specs.declared.head.Event.{Event}
 use Rattle.records.specs.Record.{payloadOf, answeredOf, headNumber, headOf, Holds}
 use Rattle.records.specs.Run.{Outcome, ended, took, after, runOf}
-use Rattle.pundaliket.specs.Bytes.{isState, stateOf}
+use Rattle.stored.specs.Bytes.{isState, stateOf}
 use Rattle.pundaliket.specs.Calls.{callOf}
 
 -- ---- records in turn

@@ -1,10 +1,11 @@
 -- Record files: what the head of a record says, what its event answers, and its reply. Definitions only. Assumes nothing.
-use Prim.Native.Nat.{ℕ, zero, suc, _+_, _*_, _-_, _/_, _%_, _≤_, _<_}
+use Prim.Native.Nat.{ℕ, zero, suc, _+_, _-_, _≤_}
 use mathlib.Core.Path.{_≡_}
 use mathlib.Core.List.{List, [], _∷_, _++_}
 use mathlib.Core.Bool.{cond}
 use lib.Dec.{ltb, eqb}
 use lib.ListN.{length, take, drop, getD}
+pub use Rattle.little.specs.Little.{wordAt, le2}
 use Rattle.terms.specs.declared.Refusal.{Refusal}
 use Rattle.terms.specs.declared.Refusal.the-variants.{Done, NoSuchKind, CutShort, BadLength, NoRoom}
 use Rattle.terms.specs.Refusal.{numberOf}
@@ -18,14 +19,6 @@ use Rattle.records.specs.declared.head.Event.{Event}
 use Rattle.records.specs.declared.head.Event.the-variants.{Push, Pop, Command, Status, Reset, Acknowledge}
 use Rattle.records.specs.declared.head.Head.{Head}
 use Rattle.records.specs.declared.head.Head.the-variants.{Whole, Stop}
-
--- the two-byte number at a place, little-endian
-abbrev pub wordAt : List ℕ → ℕ → ℕ
-wordAt l i = getD l i 0 + getD l (i + 1) 0 * 256
-
--- a number as two bytes, little-endian
-abbrev pub le2 : ℕ → List ℕ
-le2 n = n % 256 ∷ n / 256 ∷ []
 
 -- ---- an event: 01's number of its kind, the bytes of its payload, the bytes of data in its reply
 abbrev pub kindOf : Event → ℕ

@@ -6,7 +6,7 @@ use Rattle.pundaliket.proofs.send.Statement.{statement}
 use Rattle.pundaliket.proofs.send.Tie as tie
 use Rattle.pundaliket.proofs.send.Reads as reads
 use Rattle.pundaliket.proofs.send.Lts as lts
-use Rattle.pundaliket.proofs.bytes.put_word.Reads as put-word-reads
+use Rattle.little.proofs.put_word.Reads as put-word-reads
 use Rattle.terms.proofs.number.Reads as number-reads
 
 -- src/lib.rt:121:16

@@ -1,17 +1,11 @@
--- The bytes of a state and of a report as code lays them: stores at every place, and a copy of the stack beside three stores. Assumes nothing.
+-- The bytes of a state as code lays them: a copy of the stack beside three stores. Assumes nothing.
 use mathlib.Core.Path.{_≡_, sym, ap, _∙_}
 use mathlib.Core.List.{List, [], _∷_, _++_, append-nil}
 use Prim.Native.Nat.{ℕ, suc, _+_, _<_}
 use native.Mathlib.Omega.{arith}
-use native.Mathlib.Nat.{zero-add}
 use native.Mathlib.Numerals.{add-one}
 use lib.ListN.{length, take, drop, getD, set, replicate, drop-of-length-le}
 use lib.Seq.{take-all, take-suc, drop-cons, append-snoc, set-at, length-take-le, drop-at, sets, sets-eq}
-
--- stores at every place of a list
-pub filled : (vs l : List ℕ) → length l ≡ length vs → sets l 0 vs ≡ vs
-filled vs l h =
-    sets-eq vs l 0 (omega arith) ∙ rw (zero-add (length vs), drop-of-length-le l {i = length vs} (omega arith), append-nil vs)
 
 -- the first i elements of a list, copied over the front of another
 abbrev pub copied : List ℕ → List ℕ → ℕ → List ℕ

@@ -3,10 +3,7 @@ use chip::State;
 ghost use mathlib.Core.Path.{_≡_};
 ghost use lib.ListN.{length};
 ghost use Rattle.terms.specs.Limits.{stateBytes, reportBytes};
-ghost use Rattle.pundaliket.specs.Bytes.{isState, stateOf, flagOf, bytesOf, reportOf, wordBytes, le4};
-
-// The bytes of a slice that takes a word or an f32.
-pub const WORD_BYTES: usize = 4;
+ghost use Rattle.stored.specs.Bytes.{isState, stateOf, flagOf, bytesOf, reportOf};
 
 // Whether the bytes stand for a state: 19 of them, both flags 0 or 1, busy clear.
 pub fn is_state(state: &[u8]) -> bool
@@ -86,15 +83,4 @@ pub fn fill_report(report: &mut [u8], refusal: u8, taken: usize, written: usize)
     report[6] = (written / 256 % 256) as u8;
     report[7] = (written / 65536 % 256) as u8;
     report[8] = (written / 16777216 % 256) as u8;
-}
-
-// The four bytes of 32 bits, little-endian.
-pub fn put_word(out: &mut [u8], bits: u32)
-    requires { ⌜ length (now out) ≡ wordBytes ⌝ }
-    ensures { λ _. ⌜ now (out .exit) ≡ le4 bits ⌝ }
-{
-    out[0] = (bits % 256) as u8;
-    out[1] = (bits / 256 % 256) as u8;
-    out[2] = (bits / 65536 % 256) as u8;
-    out[3] = (bits / 16777216 % 256) as u8;
 }

@@ -1,4 +1,4 @@
--- `pundaliket::bytes::store` meets its contract: three stores, and the loop copies the stack before them. Assumes nothing.
+-- `stored::store` meets its contract: three stores, and the loop copies the stack before them. Assumes nothing.
 use mathlib.Core.Path.{_≡_, refl, sym, ap, _∙_}
 use mathlib.Core.List.{List, [], _∷_, _++_}
 use Prim.Native.Nat.{ℕ, _+_, _-_, _≤_}
@@ -6,13 +6,13 @@ use native.Mathlib.Omega.{arith}
 use lib.ListN.{length, getD, length-set}
 use lib.Seq.{sets, length-sets}
 use denote.Ref.{now}
-use Rattle.pundaliket.proofs.Laid.{copied, copied-on, packed}
+use Rattle.stored.proofs.Laid.{copied, copied-on, packed}
 use borrow.Author.Needs.{needs}
-use Rattle.pundaliket.proofs.bytes.store.Statement.{statement}
-use Rattle.pundaliket.proofs.bytes.store.Tie as tie
-use Rattle.pundaliket.proofs.bytes.store.Reads as reads
-use Rattle.pundaliket.proofs.bytes.store.Lts as lts
-use Rattle.pundaliket.proofs.bytes.flag.Reads as flag-reads
+use Rattle.stored.proofs.store.Statement.{statement}
+use Rattle.stored.proofs.store.Tie as tie
+use Rattle.stored.proofs.store.Reads as reads
+use Rattle.stored.proofs.store.Lts as lts
+use Rattle.stored.proofs.flag.Reads as flag-reads
 
 abbrev Inv-loop : tie.InvT-loop
 Inv-loop state₀ stack i₀ state i = (i ≤ 16) × (state ≡ copied state₀ stack i) × (length state ≡ length state₀)
@@ -24,49 +24,38 @@ abbrev μ-loop : tie.MeasureT-loop
 abbrev last : tie.After-flag2 Inv-loop μ-loop → List ℕ
 last c = c .before .flag .result ∷ c .before .before .before .args .s .status ∷ c .flag2 .result ∷ []
 
--- src/bytes.rt:61:17
 flag-requires : tie.Need-flag-requires Inv-loop μ-loop
 flag-requires c κs = search needs
 
--- src/bytes.rt:61:5
 slice-write-state : tie.Need-slice-write-state Inv-loop μ-loop
 slice-write-state c = search needs
 
--- src/bytes.rt:62:5
 slice-write-state-2 : tie.Need-slice-write-state-2 Inv-loop μ-loop
 slice-write-state-2 c = search needs
 
--- src/bytes.rt:63:17
 flag-requires-2 : tie.Need-flag-requires-2 Inv-loop μ-loop
 flag-requires-2 c κs = search needs
 
--- src/bytes.rt:63:5
 slice-write-state-3 : tie.Need-slice-write-state-3 Inv-loop μ-loop
 slice-write-state-3 c = search needs
 
--- src/bytes.rt:66:5
 loop-holds : tie.Need-loop-holds Inv-loop μ-loop
 loop-holds c = (search needs, refl, refl)
 
--- src/bytes.rt:67:20
 array-read-state : tie.Need-array-read-state Inv-loop μ-loop
 array-read-state c = search needs
 
--- src/bytes.rt:67:9
 slice-write-state-4 : tie.Need-slice-write-state-4 Inv-loop μ-loop
 slice-write-state-4 c =
     let h = length-sets (now (c .before .before .before .before .before .before .args .state)) 16 (last (c .before .before .before)) in
     omega (arith, c .before .before .before .before .before .before .pre)
 
--- src/bytes.rt:68:9
 add-i : tie.Need-add-i Inv-loop μ-loop
 add-i c = search needs
 
--- src/bytes.rt:66:5
 loop-less : tie.Need-loop-less Inv-loop μ-loop
 loop-less c = search needs
 
--- src/bytes.rt:66:5
 loop-again : tie.Need-loop-again Inv-loop μ-loop
 loop-again c =
     let l = c .before .loop in
@@ -76,11 +65,9 @@ loop-again c =
     let k : length (a .s .stack) ≡ 16 = search needs in
     (search needs, rw (l .inv .1) (copied-on d (a .s .stack) (l .i) (omega arith) (omega arith)), length-set (l .state) (l .i) _ ∙ l .inv .2)
 
--- src/bytes.rt:57:1
 same-length : tie.Need-same-length Inv-loop μ-loop
 same-length c = c .before .loop .inv .2 ∙ length-sets (now (c .before .before .before .before .before .before .args .state)) 16 (last (c .before .before .before))
 
--- src/bytes.rt:57:1
 returns : tie.Need-returns Inv-loop μ-loop
 returns c =
     let l = c .before .loop in

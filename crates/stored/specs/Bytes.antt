@@ -1,9 +1,10 @@
 -- The state as 19 bytes and the report as 9. Definitions only. Assumes nothing.
-use Prim.Native.Nat.{ℕ, _/_, _%_}
+use Prim.Native.Nat.{ℕ}
 use mathlib.Core.Bool.{Bool, true, false, cond}
 use mathlib.Core.List.{List, [], _∷_, _++_}
 use lib.Dec.{eqb, ltb}
 use lib.ListN.{length, take, getD}
+use Rattle.little.specs.Little.{le4}
 use Rattle.terms.specs.Limits.{stackBytes, stateBytes}
 use Rattle.chip.specs.declared.State.{State}
 
@@ -30,14 +31,6 @@ flagOf set = cond set 1 0
 -- the 19 bytes of a state
 abbrev pub bytesOf : State → List ℕ
 bytesOf s = s .stack ++ (flagOf (s .pending) ∷ s .status ∷ flagOf (s .service) ∷ [])
-
--- the bytes of a slice that takes a word or an f32
-abbrev pub wordBytes : ℕ
-wordBytes = 4
-
--- a number as four bytes, little-endian
-abbrev pub le4 : ℕ → List ℕ
-le4 n = n % 256 ∷ n / 256 % 256 ∷ n / 65536 % 256 ∷ n / 16777216 % 256 ∷ []
 
 -- the report: refusal, bytes of whole records taken, bytes of replies written
 abbrev pub reportOf : ℕ → ℕ → ℕ → List ℕ
