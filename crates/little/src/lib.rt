@@ -6,13 +6,13 @@ ghost use Rattle.little.specs.Little.{wordBytes, le4};
 // The bytes of a slice that takes a word or an f32.
 pub const WORD_BYTES: usize = 4;
 
-// The four bytes of 32 bits.
-pub fn put_word(out: &mut [u8], bits: u32)
+// The low 32 bits of a number, in four bytes.
+pub fn put_word(out: &mut [u8], n: usize)
     requires { ⌜ length (now out) ≡ wordBytes ⌝ }
-    ensures { λ _. ⌜ now (out .exit) ≡ le4 bits ⌝ }
+    ensures { λ _. ⌜ now (out .exit) ≡ le4 n ⌝ }
 {
-    out[0] = (bits % 256) as u8;
-    out[1] = (bits / 256 % 256) as u8;
-    out[2] = (bits / 65536 % 256) as u8;
-    out[3] = (bits / 16777216 % 256) as u8;
+    out[0] = (n % 256) as u8;
+    out[1] = (n / 256 % 256) as u8;
+    out[2] = (n / 65536 % 256) as u8;
+    out[3] = (n / 16777216 % 256) as u8;
 }

@@ -123,7 +123,7 @@ fn send(reply: Reply, out: &mut [u8]) -> u32
     if code != 0 {
         return code as u32;
     }
-    put_word(out, reply.bits);
+    put_word(out, reply.bits as usize);
     0
 }
 

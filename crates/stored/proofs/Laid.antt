@@ -1,11 +1,13 @@
--- The bytes of a state as code lays them: a copy of the stack beside three stores. Assumes nothing.
+-- The bytes of a state and of a report as code lays them: a copy of the stack beside three stores; one store and four bytes for each count. Assumes nothing.
 use mathlib.Core.Path.{_≡_, sym, ap, _∙_}
 use mathlib.Core.List.{List, [], _∷_, _++_, append-nil}
-use Prim.Native.Nat.{ℕ, suc, _+_, _<_}
+use Prim.Native.Nat.{ℕ, suc, _+_, _≤_, _<_}
 use native.Mathlib.Omega.{arith}
 use native.Mathlib.Numerals.{add-one}
-use lib.ListN.{length, take, drop, getD, set, replicate, drop-of-length-le}
+use lib.ListN.{length, take, drop, getD, set, replicate, length-append, length-drop, drop-of-length-le}
 use lib.Seq.{take-all, take-suc, drop-cons, append-snoc, set-at, length-take-le, drop-at, sets, sets-eq}
+use Rattle.little.specs.Little.{le4}
+use Rattle.stored.specs.Bytes.{reportOf}
 
 -- the first i elements of a list, copied over the front of another
 abbrev pub copied : List ℕ → List ℕ → ℕ → List ℕ
@@ -34,3 +36,22 @@ packed stack state l p q v i hs h c n =
     ∙ ap (λ (j : ℕ). copied (sets state 16 vs) stack j) n
     ∙ ap (λ (k : List ℕ). k ++ drop 16 (sets state 16 vs)) (take-all 16 stack (omega arith))
     ∙ ap (λ (k : List ℕ). stack ++ k) e
+
+-- four bytes from a place, written over
+abbrev pub over : ℕ → List ℕ → List ℕ → List ℕ
+over a l four = take a l ++ (four ++ drop 4 (drop a l))
+
+pub length-over : (a : ℕ) (l four : List ℕ) → a + 4 ≤ length l → length four ≡ 4 → length (over a l four) ≡ length l
+length-over a l four h e =
+    let t = length-take-le a l (omega arith) in
+    let d = length-drop a l in
+    let m = length-drop 4 (drop a l) in
+    rw (length-append, length-append) (omega arith)
+
+-- the refusal, then each count
+pub reported : (l t w : List ℕ) (refusal taken written : ℕ) → length l ≡ 9 → t ≡ le4 taken → w ≡ le4 written
+    → over 5 (over 1 (set l 0 refusal) t) w ≡ reportOf refusal taken written
+reported [] t w refusal taken written h a b = let y : ⊥ = omega arith in absurd y
+reported (x ∷ l) t w refusal taken written h a b =
+    let d = length-drop 4 l in
+    rw (a, b) (ap (λ (k : List ℕ). refusal ∷ (le4 taken ++ (le4 written ++ k))) (drop-of-length-le (drop 4 l) {i = 4} (omega arith)))

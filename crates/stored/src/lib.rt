@@ -1,5 +1,6 @@
 // The state as 19 bytes and the report as 9: the one place where their layout is known.
 use chip::State;
+use little::put_word;
 ghost use mathlib.Core.Path.{_≡_};
 ghost use lib.ListN.{length};
 ghost use Rattle.terms.specs.Limits.{stateBytes, reportBytes};
@@ -75,12 +76,6 @@ pub fn fill_report(report: &mut [u8], refusal: u8, taken: usize, written: usize)
     ensures { λ _. ⌜ now (report .exit) ≡ reportOf refusal taken written ⌝ }
 {
     report[0] = refusal;
-    report[1] = (taken % 256) as u8;
-    report[2] = (taken / 256 % 256) as u8;
-    report[3] = (taken / 65536 % 256) as u8;
-    report[4] = (taken / 16777216 % 256) as u8;
-    report[5] = (written % 256) as u8;
-    report[6] = (written / 256 % 256) as u8;
-    report[7] = (written / 65536 % 256) as u8;
-    report[8] = (written / 16777216 % 256) as u8;
+    put_word(&mut report[1..5], taken);
+    put_word(&mut report[5..9], written);
 }

@@ -36,7 +36,7 @@ same-length : tie.Need-same-length
 same-length c = search needs
 
 returns : tie.Need-returns
-returns c = filled (le4 (c .args .bits)) (now (c .args .out)) (c .pre)
+returns c = filled (le4 (c .args .n)) (now (c .args .out)) (c .pre)
 
 pub put-word-spec : {M : Type 1} → statement M
 put-word-spec =
