@@ -6,3 +6,5 @@ pub mod Kept
 pub mod Outcomes
 pub mod Accepted
 pub mod Turns
+pub mod Ready
+pub mod OnTop

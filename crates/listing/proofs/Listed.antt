@@ -2,13 +2,15 @@
 use mathlib.Core.Path.{_≡_, refl, sym, ap, _∙_}
 use mathlib.Core.List.{List, [], _∷_, _++_, append-assoc, append-nil}
 use mathlib.Core.Bool.{Bool, true, false, cond}
-use Prim.Native.Nat.{ℕ, zero, suc, _+_, _*_, _-_, _/_, _%_, _≤_, _<_, min}
+use Prim.Native.Nat.{ℕ, zero, suc, _+_, _*_, _-_, _≤_, _<_, min}
 use native.Mathlib.Omega.{arith}
-use native.Mathlib.Nat.{not-suc-le-zero, div-add-mod'}
+use native.Mathlib.Nat.{not-suc-le-zero}
 use lib.ListN.{length, take, drop, getD, length-append, length-take, length-drop, drop-of-length-le}
 use lib.Seq.{length-take-le, drop-drop, take-all, getD-drop, take-append-seam, drop-append-seam}
+use Rattle.little.specs.Little.{wordAt}
+use Rattle.little.proofs.Exact.{two-bytes}
 use Rattle.listing.specs.Text.{Adds}
-use Rattle.listing.specs.Listing.{lineOf, replyBytes, replyKind, replyRefusal, replyData, replySize, replyLine, wordAt, whole, wholeSize, Front, linesUpTo, linesOf, listingOf, countAt, printedOf}
+use Rattle.listing.specs.Listing.{lineOf, replyBytes, replyKind, replyRefusal, replyData, replySize, replyLine, whole, wholeSize, Front, linesUpTo, linesOf, listingOf, countAt, printedOf}
 use Rattle.listing.proofs.Adding.{take-least}
 use Rattle.listing.proofs.Decimal.{short}
 use Rattle.listing.proofs.Lines.{line-length, data-length}
@@ -153,9 +155,6 @@ as-printed replies report n written refusal taken h a w r t =
     ∙ ap (λ (k : ℕ). listingOf (take (countAt report 5) replies) (getD report 0 0) k) t
 
 -- the two bytes of a number, read back
-two-bytes : (n : ℕ) → n % 256 + n / 256 * 256 ≡ n
-two-bytes n = omega (arith, div-add-mod' n 256)
-
 -- a reply as 01 lays it out has its own line, with the record's kind, and the lines go on after it
 pub reply-listed : (number kind refusal : ℕ) (bytes rest : List ℕ)
     → linesOf number (replyBytes kind refusal bytes ++ rest) ≡ lineOf number kind refusal bytes ++ linesOf (number + 1) rest

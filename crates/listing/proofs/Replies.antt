@@ -7,7 +7,8 @@ use native.Mathlib.Omega.{arith}
 use lib.Dec.{leb}
 use lib.ListN.{length}
 use borrow.Author.Tests.{le-leb, lt-leb, leb-true}
-use Rattle.listing.specs.Listing.{replySize, wordAt, whole, wholeSize, Front}
+use Rattle.little.specs.Little.{wordAt}
+use Rattle.listing.specs.Listing.{replySize, whole, wholeSize, Front}
 
 -- each test that fails leaves none
 pub too-short : (l : List ℕ) → length l < 5 → 0 ≡ wholeSize l

@@ -1,10 +1,11 @@
 -- Document 01, 'The listing program': the text printed for the replies of a run. Definitions only. Assumes nothing.
-use Prim.Native.Nat.{ℕ, zero, suc, _+_, _*_, _-_, _/_, _%_, _≤_}
+use Prim.Native.Nat.{ℕ, zero, suc, _+_, _*_, _-_, _≤_}
 use mathlib.Core.Path.{_≡_}
 use mathlib.Core.Bool.{Bool, false, cond}
 use mathlib.Core.List.{List, [], _∷_, _++_}
 use lib.Dec.{leb}
 use lib.ListN.{length, take, drop, getD}
+use Rattle.little.specs.Little.{wordAt, le2}
 use Rattle.listing.specs.Text.{decimal, hex}
 
 -- the bytes of replies that the program lends
@@ -38,14 +39,9 @@ lineOf number kind refusal bytes = decimal number ++ (field kind ++ (field refus
 abbrev pub endOf : ℕ → ℕ → List ℕ
 endOf refusal taken = endWord ++ (field refusal ++ (field taken ++ (newline ∷ [])))
 
--- the two-byte number at a place, little-endian
-abbrev pub wordAt : List ℕ → ℕ → ℕ
-wordAt l i = getD l i 0 + getD l (i + 1) 0 * 256
-
 -- a reply: two bytes of length, which counts what follows, two of kind + 128, the refusal, the data
 abbrev pub replyBytes : ℕ → ℕ → List ℕ → List ℕ
-replyBytes kind refusal bytes =
-    (3 + length bytes) % 256 ∷ (3 + length bytes) / 256 ∷ (kind + 128) % 256 ∷ (kind + 128) / 256 ∷ refusal ∷ bytes
+replyBytes kind refusal bytes = le2 (3 + length bytes) ++ (le2 (kind + 128) ++ (refusal ∷ bytes))
 
 -- and what is read of one at the front
 abbrev pub replyKind : List ℕ → ℕ

@@ -7,9 +7,9 @@ use Rattle.fixed.specs.Fixed.{low, add}
 use Rattle.chip.specs.Status.{statusOf}
 use Rattle.chip.specs.Commands.{keepsA}
 use Rattle.chip.specs.Step.{pushOf, popOf, readOf, carried, commandUnder}
+use Rattle.files.specs.Run.{run, runBy}
 use Rattle.records.specs.Record.{headOf, turnOf}
-use Rattle.records.specs.Run.{run, runOf}
-use Rattle.pundaliket.specs.Bytes.{isState}
+use Rattle.stored.specs.Bytes.{isState}
 use Rattle.pundaliket.specs.Calls.{callOf}
 use Rattle.listing.specs.Text.{spelled}
 use Rattle.listing.specs.Listing.{whole, linesUpTo}
@@ -30,5 +30,5 @@ exampleText =
     ∷ 101 ∷ 110 ∷ 100 ∷ 32 ∷ 48 ∷ 32 ∷ 50 ∷ 50 ∷ 10 ∷ []
 
 pub example-printed : printoutOf exampleInput ≡ exampleText
-unfolding kindOf low add statusOf keepsA pushOf popOf readOf carried commandUnder headOf turnOf run runOf isState callOf spelled whole linesUpTo
+unfolding kindOf low add statusOf keepsA pushOf popOf readOf carried commandUnder headOf turnOf run runBy isState callOf spelled whole linesUpTo
 example-printed = refl

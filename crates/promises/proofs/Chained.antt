@@ -14,9 +14,10 @@ use lib.ListN.{take}
 use Rattle.stack.specs.Stack.{tos, bytesOf}
 use Rattle.chip.specs.declared.State.{State}
 use Rattle.chip.specs.Commands.{baseRule}
+use Rattle.chip.proofs.OnTop.{four}
 use Rattle.promises.specs.Events.{Event, after, answered, pushesOf}
 use Rattle.promises.specs.Chains.{quiet, eventsOf, commandsIn, chainOf, Step, Add, Subtract, Multiply, Divide, TakeFrom, Change, Constants, isReversing, reversing, workOf, wordOf, Run, Starts, eventsIn, endOf, resultOf, Quiet, Chains, Demand3}
-use Rattle.promises.proofs.Events.{Tops, four, work-result, step-does, pushes-do, after-append, answered-append, quiet-append}
+use Rattle.promises.proofs.Events.{Tops, work-result, step-does, pushes-do, after-append, answered-append, quiet-append}
 
 -- no step of a chain on a word meets an error
 abbrev NoErrors : Rule → ℕ → List Step → Type 0

@@ -26,13 +26,14 @@ use Rattle.chip.specs.Commands.{baseRule}
 use Rattle.chip.specs.Step.{done, refused, pushOf, commandOf}
 use Rattle.chip.proofs.Kept.{Keeps, push-keeps, pop-keeps, command-keeps, read-keeps, reset-keeps, acknowledge-keeps}
 use Rattle.chip.proofs.Accepted.{accepted}
-use Rattle.pundaliket.specs.Bytes.{isState, stateOf, flagOf, bytesOf as stateBytes}
+use Rattle.chip.proofs.Ready.{Ready as Good, push-fair, pop-fair, read-fair, reset-fair, acknowledge-fair, command-fair}
+use Rattle.chip.proofs.OnTop.{four}
+use Rattle.stored.specs.Bytes.{isState, stateOf, flagOf, bytesOf as stateBytes}
 use Rattle.pundaliket.specs.Calls.{Signal, signalBy, signalOf, eventOf, joinedOf}
 use Rattle.promises.specs.Events.{Event, push, pop, command, read, reset, acknowledge, answerTo, after, answered, pushesOf}
 use Rattle.promises.specs.Chains.{leavesClear, quiet, Step, Add, Subtract, Multiply, Divide, TakeFrom, Change, given, eventsOf, commandsIn, chainOf, Constants, wordOf, Run, Starts, resultOf, Quiet}
 use Rattle.promises.specs.Cores.{Core, Meets, kindNumber, byteOf, driven, returned, answersOf, Sendable, allZero, clearAfter, drivenQuietly, Begins, runOf, wordLeft, Cores}
-use Rattle.promises.proofs.Events.{both, four}
-use Rattle.promises.proofs.Ready.{Ready as Good, push-fair, pop-fair, read-fair, reset-fair, acknowledge-fair, command-fair}
+use Rattle.promises.proofs.Events.{both}
 use Rattle.promises.proofs.Keeping.{state-returns, bytes-stand, state-ready}
 use Rattle.promises.proofs.Chained.{demand-3, on-top}
 

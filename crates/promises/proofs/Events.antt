@@ -13,10 +13,9 @@ use Rattle.float.specs.declared.Rounded.{Rounded}
 use Rattle.float.specs.Word.{FloatWord}
 use Rattle.float.specs.Cut.{Rule}
 use Rattle.float.specs.Float.{Result}
-use Rattle.float.specs.Convert.{chsf}
 use Rattle.float.proofs.Results.{add-result, sub-result, mul-result, div-result}
 use Rattle.float.proofs.SignChange.{chsf-word}
-use Rattle.stack.specs.Stack.{numberFrom, bytesOf, zeros}
+use Rattle.stack.specs.Stack.{bytesOf}
 use Rattle.codes.specs.declared.FloatOp.{FloatOp}
 use Rattle.codes.specs.declared.FloatOp.the-variants.{Add as FAdd, Sub as FSub, Mul as FMul, Div as FDiv}
 use Rattle.codes.specs.declared.Command.the-variants.{Float, Chsf, Xch}
@@ -25,19 +24,12 @@ use Rattle.codes.specs.Codes.{sr, kindOf}
 use Rattle.chip.specs.declared.State.{State}
 use Rattle.chip.specs.declared.Answer.{Answer}
 use Rattle.chip.specs.Status.{statusOf, errorOf}
-use Rattle.chip.specs.Commands.{floatOf, floats}
-use Rattle.chip.specs.Step.{done, pushOf, carried, commandUnder}
+use Rattle.chip.specs.Commands.{floatOf}
+use Rattle.chip.specs.Step.{done, pushOf, commandUnder}
 use Rattle.chip.proofs.Outcomes.{status-lt, status-error}
+use Rattle.chip.proofs.OnTop.{idle, floated, exchanged-words, sign-changed}
 use Rattle.promises.specs.Events.{Event, command, answerTo, after, answered, pushesOf}
 use Rattle.promises.specs.Chains.{leavesClear, quiet, eventsOf, Step, Add, Subtract, Multiply, Divide, TakeFrom, Change, Constant, workOf, Ready}
-
--- ---- a word's four bytes are the word
-pub four : (w : ℕ) → w < 4294967296 → numberFrom 0 (bytesOf 4 w) ≡ w
-four w h = omega arith
-
--- a state with nothing pending
-abbrev pub idle : List ℕ → ℕ → Bool → State
-idle l u v = record { stack = l; pending = false; status = u; service = v }
 
 -- what is left of a stack below four bytes pushed, and of what lies below its top word
 abbrev pub under : List ℕ → List ℕ
@@ -50,25 +42,6 @@ one-push : (l : List ℕ) (p : Bool) (u : ℕ) (v : Bool) (b : ℕ) → u < 128
     → pushOf (record { stack = l; pending = p; status = u; service = v }) b ≡ done 0 (record { stack = b ∷ take 15 l; pending = not p; status = u; service = v })
 unfolding pushOf
 one-push l p u v b h = rw (lt-leb 128 u h)
-
--- ---- the three commands of chains, on a state that has two words or one on top
-module _ (rule : Rule) where
-  pub floated : (op : FloatOp) (code b a : ℕ) (t : List ℕ) (u : ℕ) (v : Bool) → kindOf (code % 128) ≡ Known (Float op) → u < 128 → FloatWord b → FloatWord a
-      → commandUnder rule (idle (bytesOf 4 a ++ (bytesOf 4 b ++ t)) u v) code
-      ≡ done 0 (idle (bytesOf 4 ((floatOf rule op b a) .word) ++ (t ++ zeros 4)) (statusOf Double (bytesOf 4 ((floatOf rule op b a) .word) ++ (t ++ zeros 4)) ((floatOf rule op b a) .error) false) (sr code))
-  unfolding commandUnder carried floats
-  floated op code b a t u v k h B A = rw (lt-leb 128 u h, k, four b (B .fits), four a (A .fits), B .is-proper, A .is-proper)
-
-  pub exchanged-words : (code b a : ℕ) (t : List ℕ) (u : ℕ) (v : Bool) → kindOf (code % 128) ≡ Known (Xch Double) → u < 128
-      → commandUnder rule (idle (bytesOf 4 a ++ (bytesOf 4 b ++ t)) u v) code
-      ≡ done 0 (idle (bytesOf 4 b ++ (bytesOf 4 a ++ t)) (statusOf Double (bytesOf 4 b ++ (bytesOf 4 a ++ t)) 0 false) (sr code))
-  unfolding commandUnder carried
-  exchanged-words code b a t u v k h = rw (lt-leb 128 u h, k)
-
-  pub sign-changed : (code a : ℕ) (t : List ℕ) (u : ℕ) (v : Bool) → kindOf (code % 128) ≡ Known Chsf → u < 128 → FloatWord a
-      → commandUnder rule (idle (bytesOf 4 a ++ t) u v) code ≡ done 0 (idle (bytesOf 4 (chsf a) ++ t) (statusOf Double (bytesOf 4 (chsf a) ++ t) 0 false) (sr code))
-  unfolding commandUnder carried
-  sign-changed code a t u v k h A = rw (lt-leb 128 u h, k, four a (A .fits))
 
 -- ---- runs of events
 pub both : (p q : Bool) → (p && q) ≡ true → (p ≡ true) × (q ≡ true)

@@ -8,30 +8,34 @@ use lib.Dec.{eqb, lit≤}
 use lib.ListN.{length, take, drop, getD, length-append, length-drop, take-append-drop, drop-of-length-le}
 use lib.Seq.{length-take-le, drop-cons, getD-drop, getD-append-add}
 use borrow.Author.Tests.{eq-eqb, ne-eqb}
+use Rattle.little.proofs.Exact.{le4-exact}
 use Rattle.terms.specs.Refusal.{numberOf}
 use Rattle.chip.specs.declared.State.{State}
 use Rattle.chip.specs.declared.Answer.{Answer}
 use Rattle.terms.specs.declared.Refusal.the-variants.{BadState}
 use Rattle.stack.specs.Stack.{Bytes, topByte}
-use Rattle.stack.proofs.Words.{bytes-take}
+use Rattle.stack.proofs.Words.{bytes-take, byte-at}
 use Rattle.codes.specs.declared.Kind.{Kind}
 use Rattle.codes.specs.declared.Kind.the-variants.{Known, Derived, Unknown}
 use Rattle.codes.specs.Codes.{sr, kindOf}
 use Rattle.chip.specs.State.{busy}
 use Rattle.chip.specs.Commands.{baseRule, properOperands}
 use Rattle.chip.specs.Step.{refused, unlessBusy, pushOf, popOf, readOf, resetOf, acknowledgeOf, carried, answerOf, commandUnder, commandOf}
+use Rattle.chip.proofs.Ready.{Ready, push-fair, pop-fair, read-fair, reset-fair, acknowledge-fair, command-fair}
 use Rattle.host.specs.declared.Reply.{Reply}
+use Rattle.files.proofs.Tests.{either-lt, either-eq}
+use Rattle.files.proofs.Append.{nothing}
+use Rattle.files.proofs.Through.{tally, up-to-stop, stops-there}
+use Rattle.files.proofs.Cut.{cut-anywhere}
 use Rattle.records.specs.Run.{Outcome, ended, runOf}
-use Rattle.records.proofs.Tests.{either-lt, either-eq}
-use Rattle.records.proofs.Append.{nothing}
-use Rattle.records.proofs.Through.{tally, ended-well, up-to-stop, stops-there, cut-anywhere}
-use Rattle.pundaliket.specs.Bytes.{isState, stateOf, flagOf, bytesOf, reportOf}
+use Rattle.records.proofs.Prefix.{lawful}
+use Rattle.records.proofs.Ready.{run-ready}
+use Rattle.stored.specs.Bytes.{isState, stateOf, flagOf, bytesOf}
+use Rattle.stored.proofs.States.{is-good}
 use Rattle.pundaliket.specs.Calls.{Called, ranOf, callOf, signalOf, signalBy, eventOf, joinedOf, Sent, sentOf}
-use Rattle.pundaliket.proofs.Calling.{false-true, bad-state, too-long, good, is-good}
+use Rattle.pundaliket.proofs.Calling.{false-true, bad-state, too-long, good}
 use Rattle.promises.specs.Records.{countAt}
 use Rattle.promises.specs.Kept.{NoReport, NoState, LongInput, Stands, GoodStates, StateReturns, EmptyInput, EventKept, OutKept, StateStays, StateStaysEvent, RepliesStay, StopsThere, BadFile, CutCall, CutFile}
-use Rattle.promises.proofs.Recorded.{le4-exact}
-use Rattle.promises.proofs.Ready.{byte-at, Ready, push-fair, pop-fair, read-fair, reset-fair, acknowledge-fair, command-fair, run-ready}
 
 -- ---- a call that is turned away
 
@@ -80,7 +84,7 @@ state-returns l h =
 
 pub empty-input : EmptyInput
 empty-input state replies report a b =
-    good state [] replies report a b (omega arith) ∙ rw (nothing (stateOf state) (length replies), state-returns state b)
+    good state [] replies report a b (omega arith) ∙ rw (nothing lawful (stateOf state) (length replies), state-returns state b)
 
 pub out-kept : OutKept
 unfolding sentOf
@@ -117,7 +121,7 @@ replies-stay state input replies report =
     (λ c a. (ap length (a .2), λ i h. ap (λ (l : List ℕ). getD l i 0) (a .2)))
     (λ n b d.
     let o = runOf (stateOf state) input (length replies) in
-    let t = tally (stateOf state) input (length replies) in
+    let t = tally lawful (stateOf state) input (length replies) in
     let w = o .written in
     let f = t .in-file in
     let few = t .few in
@@ -138,20 +142,20 @@ replies-stay state input replies report =
 
 pub stops-at : StopsThere
 stops-at s l room z =
-    let r = tally s l room .range z in
-    (r .0, r .1, stops-there s l room z)
+    let r = tally lawful s l room .range z in
+    (r .0, r .1, stops-there lawful s l room z)
 
 pub bad-file : BadFile
 bad-file state input replies report a b d =
     let s = stateOf state in
     let room = length replies in
     let o = runOf s input room in
-    let t = tally s input room in
+    let t = tally lawful s input room in
     let f = t .in-file in
     let n = length-take-le (o .taken) input f in
     let exact = le4-exact (o .taken) (omega arith) in
     rw (good state input replies report a b d, exact)
-    (good state (take (o .taken) input) replies report a b (omega arith) ∙ ap (λ (p : Outcome). ranOf p replies) (up-to-stop s input room))
+    (good state (take (o .taken) input) replies report a b (omega arith) ∙ ap (λ (p : Outcome). ranOf p replies) (up-to-stop lawful s input room))
 
 -- ---- a file cut after any byte
 
@@ -163,7 +167,7 @@ cut-file state input replies report =
     (λ a b d z k most.
     let s = stateOf state in
     let room = length replies in
-    let r = cut-anywhere s input room z k most in
+    let r = cut-anywhere lawful s input room z k most in
     let n = r .0 in
     let c = r .1 in
     let up = c .upto in

@@ -1,7 +1,6 @@
 -- The statements' proofs.
 pub mod Coinciding
 pub mod Refusing
-pub mod Ready
 pub mod Recorded
 pub mod Keeping
 pub mod Commanded

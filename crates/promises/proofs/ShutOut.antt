@@ -8,14 +8,15 @@ use native.Mathlib.Omega.{arith}
 use borrow.Author.Tests.{ltb-true}
 use lib.Dec.{ltb, lit<, lit≤}
 use lib.ListN.{length, take, getD}
+use Rattle.little.specs.Little.{le4}
 use Rattle.float.specs.Convert.{chsf}
 use Rattle.stack.specs.Stack.{Bytes, zeros}
 use Rattle.chip.specs.Step.{pushOf, resetOf}
 use Rattle.host.specs.Host.{hostOf, takenOf}
+use Rattle.files.specs.Run.{run, runBy}
 use Rattle.records.specs.declared.head.Event.the-variants.{Push}
 use Rattle.records.specs.Record.{headOf, turnOf}
-use Rattle.records.specs.Run.{run, runOf as fileRun}
-use Rattle.pundaliket.specs.Bytes.{isState, le4}
+use Rattle.stored.specs.Bytes.{isState}
 use Rattle.pundaliket.specs.Calls.{callOf, signalOf, sentOf}
 use Rattle.pundaliket.proofs.Calling.{bad-state, too-long}
 use Rattle.promises.specs.Chains.{Change}
@@ -76,7 +77,7 @@ module _ (c : Core) (M : Meets c) where
 
 -- ---- what the definitions give
 tells : (c : Core) → Meets c → Tells c
-unfolding callOf signalOf sentOf isState fileRun run turnOf headOf hostOf takenOf pushOf resetOf
+unfolding callOf signalOf sentOf isState runBy run turnOf headOf hostOf takenOf pushOf resetOf
 tells c M = record {
   run-0 = M .run fresh [] [] nine fresh-bytes tt tt nine-bytes .result-is;
   run-14 = M .run fresh [] [] [] fresh-bytes tt tt tt .result-is;

@@ -14,7 +14,7 @@ use Rattle.chip.specs.declared.State.{State}
 use Rattle.chip.specs.Status.{errorOf}
 use Rattle.chip.specs.Commands.{baseRule}
 use Rattle.host.specs.Host.{hostOf, takenOf, hostReply, takenReply}
-use Rattle.pundaliket.specs.Bytes.{isState, stateOf, bytesOf as stateBytes}
+use Rattle.stored.specs.Bytes.{isState, stateOf, bytesOf as stateBytes}
 use Rattle.pundaliket.specs.Calls.{Called, Signal, Sent, callOf, Calls, signalOf, Signals, sentOf, Sends, joinedOf}
 use Rattle.promises.specs.Events.{Event, push, pop, command, read, reset, acknowledge, answerTo, after, pushesOf}
 use Rattle.promises.specs.Chains.{Step, Constants, chainOf, reversing, wordOf}

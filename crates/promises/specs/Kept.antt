@@ -11,7 +11,7 @@ use Rattle.chip.specs.declared.State.{State}
 use Rattle.host.specs.declared.Reply.{Reply}
 use Rattle.records.specs.Record.{turnOf}
 use Rattle.records.specs.Run.{runOf}
-use Rattle.pundaliket.specs.Bytes.{isState, stateOf, bytesOf}
+use Rattle.stored.specs.Bytes.{isState, stateOf, bytesOf}
 use Rattle.pundaliket.specs.Calls.{Called, callOf, signalOf, sentOf}
 use Rattle.promises.specs.Records.{countAt}
 

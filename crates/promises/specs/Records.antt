@@ -14,8 +14,8 @@ use Rattle.chip.specs.Step.{commandOf}
 use Rattle.chip.specs.Turns.{afterPushes, afterPops, bytesPopped}
 use Rattle.records.specs.declared.head.Event.{Event}
 use Rattle.records.specs.Record.{payloadOf, answeredOf, headNumber, headOf, Holds}
-use Rattle.records.specs.Run.{Outcome, ended, after, runOf}
-use Rattle.pundaliket.specs.Bytes.{isState, stateOf}
+use Rattle.records.specs.Run.{Outcome, ended, took, after, runOf}
+use Rattle.stored.specs.Bytes.{isState, stateOf}
 use Rattle.pundaliket.specs.Calls.{callOf}
 
 -- ---- records in turn
@@ -101,10 +101,6 @@ CountsExact =
     × (countAt (callOf state input replies report .report) 5 ≡ length (runOf (stateOf state) input (length replies) .written))
 
 -- ---- one whole record, by 01's table of kinds
-
--- a file of one record that is taken
-abbrev pub took : State → ℕ → List ℕ → Outcome
-took s size reply = record { refusal = 0; state = s; taken = size; written = reply }
 
 abbrev pub PushRecord : Type 0
 PushRecord =

@@ -9,7 +9,7 @@ use lib.ListN.{length, take}
 use Rattle.terms.specs.Limits.{mostInput, reportBytes}
 use Rattle.stack.specs.Stack.{Bytes, zeros}
 use Rattle.records.specs.Run.{runOf as fileRun}
-use Rattle.pundaliket.specs.Bytes.{isState, stateOf}
+use Rattle.stored.specs.Bytes.{isState, stateOf}
 use Rattle.promises.specs.Cores.{Core, Meets, described, driven, Begins, runOf}
 use Rattle.promises.specs.Chains.{Step, Change, Constants}
 use Rattle.promises.specs.Records.{IsRecord, Split, total, lengths, repliesOf, countAt}

@@ -4,17 +4,18 @@ use mathlib.Core.Bool.{Bool, true, false, not}
 use mathlib.Core.List.{List}
 use Prim.Native.Nat.{ℕ, _≤_, _<_}
 use native.Mathlib.Omega.{arith}
-use lib.ListN.{length, getD}
+use lib.ListN.{length}
 use borrow.Author.Tests.{lt-ltb, le-ltb, eq-eqb, ne-eqb}
+use Rattle.little.specs.Little.{le4}
 use Rattle.terms.specs.declared.Refusal.{Refusal}
 use Rattle.terms.specs.declared.Refusal.the-variants.{NoRoom, InputTooLong, BadState}
 use Rattle.terms.specs.Refusal.{numberOf}
 use Rattle.chip.specs.declared.State.{State}
 use Rattle.chip.specs.declared.Answer.{Answer}
 use Rattle.host.specs.declared.Reply.{Reply}
-use Rattle.records.specs.Run.{Outcome, Runs, runOf}
-use Rattle.records.proofs.Tests.{either-eq}
-use Rattle.pundaliket.specs.Bytes.{isState, stateOf, bytesOf, reportOf, le4}
+use Rattle.files.specs.Run.{Runs}
+use Rattle.records.specs.Run.{Outcome, runOf}
+use Rattle.stored.specs.Bytes.{isState, stateOf, bytesOf, reportOf}
 use Rattle.pundaliket.specs.Calls.{ranOf, away, callOf, Calls, eventOf, joinedOf, signalBy, signalOf, Signals, sentOf, Sends}
 
 pub false-true : false ≡ true → ⊥
@@ -28,28 +29,6 @@ failed false y e n = sym e
 pub passed : (x y : Bool) → x ≡ y → not x ≡ false → y ≡ true
 passed true y e n = sym e
 passed false y e n = absurd (false-true (sym n))
-
-module _ (l : List ℕ) where
-  -- the tests of a state's bytes
-  pub bad-length : (length l ≡ 19 → ⊥) → false ≡ isState l
-  unfolding isState
-  bad-length a = simp ne-eqb
-
-  pub bad-pending : length l ≡ 19 → 1 < getD l 16 0 → false ≡ isState l
-  unfolding isState
-  bad-pending a b = simp (eq-eqb, lt-ltb)
-
-  pub is-busy : length l ≡ 19 → getD l 16 0 ≤ 1 → 127 < getD l 17 0 → false ≡ isState l
-  unfolding isState
-  is-busy a b d = simp (eq-eqb, lt-ltb, le-ltb)
-
-  pub bad-service : length l ≡ 19 → getD l 16 0 ≤ 1 → getD l 17 0 ≤ 127 → 1 < getD l 18 0 → false ≡ isState l
-  unfolding isState
-  bad-service a b d e = simp (eq-eqb, lt-ltb, le-ltb)
-
-  pub is-good : length l ≡ 19 → getD l 16 0 ≤ 1 → getD l 17 0 ≤ 127 → getD l 18 0 ≤ 1 → true ≡ isState l
-  unfolding isState
-  is-good a b d e = simp (eq-eqb, le-ltb)
 
 -- a run of the code, with its state and report laid out
 pub called : (o : Outcome) (refusal : ℕ) (s : State) (taken written : ℕ) (input replies left state report : List ℕ)
@@ -84,11 +63,6 @@ module _ (state input replies report : List ℕ) where
       → callOf state input replies report ≡ ranOf (runOf (stateOf state) input (length replies)) replies
   unfolding callOf
   good a b d = rw (eq-eqb (length report) 9 a, b, le-ltb 12288 (length input) d)
-
--- the length of a state
-pub state-length : (l : List ℕ) → isState l ≡ true → length l ≡ 19
-unfolding isState
-state-length l h = either-eq (λ (b : Bool). b ≡ true → length l ≡ 19) (length l) 19 _ _ (λ e z. e) (λ n z. absurd (false-true z)) h
 
 -- a single event: turned away, refused, done
 module _ (state : List ℕ) (kind byte : ℕ) where

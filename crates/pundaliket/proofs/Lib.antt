@@ -1,3 +1,2 @@
 -- The laws of the calls, beside the proofs of the functions.
-pub mod Laid
 pub mod Calling

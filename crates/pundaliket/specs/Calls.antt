@@ -5,6 +5,7 @@ use mathlib.Core.Bool.{cond}
 use mathlib.Core.List.{List, _++_}
 use lib.Dec.{eqb, ltb}
 use lib.ListN.{length, drop}
+use Rattle.little.specs.Little.{wordBytes, le4}
 use Rattle.terms.specs.declared.Refusal.{Refusal}
 use Rattle.terms.specs.declared.Refusal.the-variants.{NoSuchKind, NoRoom, InputTooLong, BadState, BadReport}
 use Rattle.terms.specs.Refusal.{numberOf}
@@ -14,7 +15,7 @@ use Rattle.chip.specs.declared.Answer.{Answer}
 use Rattle.chip.specs.Step.{pushOf, popOf, readOf, resetOf, acknowledgeOf, commandOf}
 use Rattle.host.specs.declared.Reply.{Reply}
 use Rattle.records.specs.Run.{Outcome, runOf}
-use Rattle.pundaliket.specs.Bytes.{isState, stateOf, bytesOf, reportOf, wordBytes, le4}
+use Rattle.stored.specs.Bytes.{isState, stateOf, bytesOf, reportOf}
 
 -- ---- the run
 

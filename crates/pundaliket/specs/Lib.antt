@@ -1,3 +1,2 @@
 -- The book of the exported calls.
-pub mod Bytes
 pub mod Calls

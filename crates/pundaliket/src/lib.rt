@@ -1,16 +1,14 @@
 // The calls that the rack controller's firmware makes, on byte slices that it lends. Every
 // call refuses by 01's number, asks nothing of its caller, and says what each slice holds after.
-pub mod bytes;
-
-use bytes::fill_report;
-use bytes::is_state;
-use bytes::load;
-use bytes::put_word;
-use bytes::store;
 use chip::Answer;
 use chip::State;
 use host::Reply;
+use little::put_word;
 use records::run::run_all;
+use stored::fill_report;
+use stored::is_state;
+use stored::load;
+use stored::store;
 use terms::Refusal;
 use terms::number;
 ghost use mathlib.Core.Path.{_≡_};
@@ -20,7 +18,7 @@ ghost use Rattle.host.specs.Host.{hostOf, takenOf, hostReply, takenReply};
 ghost use Rattle.records.specs.Run.{runOf};
 ghost use Rattle.terms.specs.Refusal.{numberOf};
 ghost use Rattle.terms.specs.Limits.{stateBytes, reportBytes};
-ghost use Rattle.pundaliket.specs.Bytes.{stateOf, reportOf};
+ghost use Rattle.stored.specs.Bytes.{stateOf, reportOf};
 ghost use Rattle.pundaliket.specs.Calls.{Calls, callOf, ranOf, eventOf, signalOf, Signals, sentOf, Sends};
 
 // The report of a call that is turned away: the refusal and two counts of 0.
@@ -117,7 +115,7 @@ pub extern "C" fn pundaliket_event(state: &mut [u8], kind: u32, byte: u8) -> u32
 fn send(reply: Reply, out: &mut [u8]) -> u32
     ensures { λ r. ⌜ Sends (sentOf reply (now (out .entry))) r (now (out .exit)) ⌝ }
 {
-    if out.len() != bytes::WORD_BYTES {
+    if out.len() != little::WORD_BYTES {
         return number(Refusal::NoRoom) as u32;
     }
     let refusal = reply.refusal;
@@ -125,7 +123,7 @@ fn send(reply: Reply, out: &mut [u8]) -> u32
     if code != 0 {
         return code as u32;
     }
-    put_word(out, reply.bits);
+    put_word(out, reply.bits as usize);
     0
 }
 

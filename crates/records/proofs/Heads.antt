@@ -10,12 +10,13 @@ use borrow.Author.Tests.{lt-ltb, le-ltb, eq-eqb, ne-eqb}
 use Rattle.terms.specs.declared.Refusal.{Refusal}
 use Rattle.terms.specs.declared.Refusal.the-variants.{NoSuchKind, CutShort, BadLength}
 use Rattle.terms.specs.Refusal.{numberOf}
+use Rattle.terms.specs.Limits.{mostPayload, leastLength, mostLength}
+use Rattle.files.proofs.Tests.{either-lt, either-eq}
 use Rattle.records.specs.declared.head.Event.{Event}
 use Rattle.records.specs.declared.head.Event.the-variants.{Push, Pop, Command, Status, Reset, Acknowledge}
 use Rattle.records.specs.declared.head.Head.{Head}
 use Rattle.records.specs.declared.head.Head.the-variants.{Whole, Stop}
 use Rattle.records.specs.Record.{wordAt, kindOf, payloadOf, answeredOf, exactly, pushRow, popRow, rowOf, headOf, Carried, Holds}
-use Rattle.records.proofs.Tests.{either-lt, either-eq}
 
 module _ (l : List ℕ) where
   -- fewer than two bytes
@@ -24,21 +25,21 @@ module _ (l : List ℕ) where
   short a = simp lt-ltb
 
   -- a length out of range
-  pub low : 2 ≤ length l → wordAt l 0 < 2 → headOf l ≡ Stop BadLength
+  pub low : 2 ≤ length l → wordAt l 0 < leastLength → headOf l ≡ Stop BadLength
   unfolding headOf
   low a b = simp (lt-ltb, le-ltb)
 
-  pub high : 2 ≤ length l → 2 ≤ wordAt l 0 → 18 < wordAt l 0 → headOf l ≡ Stop BadLength
+  pub high : 2 ≤ length l → leastLength ≤ wordAt l 0 → mostLength < wordAt l 0 → headOf l ≡ Stop BadLength
   unfolding headOf
   high a b d = simp (lt-ltb, le-ltb)
 
   -- bytes missing
-  pub cut : 2 ≤ length l → 2 ≤ wordAt l 0 → wordAt l 0 ≤ 18 → length l - 2 < wordAt l 0 → headOf l ≡ Stop CutShort
+  pub cut : 2 ≤ length l → leastLength ≤ wordAt l 0 → wordAt l 0 ≤ mostLength → length l - 2 < wordAt l 0 → headOf l ≡ Stop CutShort
   unfolding headOf
   cut a b d e = simp (lt-ltb, le-ltb)
 
   -- all bytes there
-  pub whole : 2 ≤ length l → 2 ≤ wordAt l 0 → wordAt l 0 ≤ 18 → wordAt l 0 ≤ length l - 2
+  pub whole : 2 ≤ length l → leastLength ≤ wordAt l 0 → wordAt l 0 ≤ mostLength → wordAt l 0 ≤ length l - 2
       → headOf l ≡ rowOf (wordAt l 2) (wordAt l 0 - 2) (getD l 4 0)
   unfolding headOf
   whole a b d e = simp le-ltb
@@ -60,7 +61,7 @@ module _ (P : Head → Type 0) (stop : (r : Refusal) → Stops r → P (Stop r))
       either-eq P kind 1 _ _ (λ k. either-lt P n 1 _ _ (λ h. bad) (λ h. w (Push n) k refl h)) (λ a.
       either-eq P kind 2 _ _
       (λ k. either-eq P n 1 _ _
-      (λ h. either-lt P first 1 _ _ (λ i. bad) (λ i. either-lt P 16 first _ _ (λ j. bad) (λ j. w (Pop first) k h (refl, i, j))))
+      (λ h. either-lt P first 1 _ _ (λ i. bad) (λ i. either-lt P mostPayload first _ _ (λ j. bad) (λ j. w (Pop first) k h (refl, i, j))))
       (λ h. bad)) (λ b.
       either-eq P kind 3 _ _ (λ k. exact 1 (Command first) (λ h. w (Command first) k h refl)) (λ d.
       either-eq P kind 4 _ _ (λ k. exact 0 Status (λ h. w Status k h tt)) (λ e.
@@ -72,8 +73,8 @@ pub heads : (P : Head → Type 0) → ((r : Refusal) → Stops r → P (Stop r))
 unfolding headOf
 heads P stop l w =
     either-lt P (length l) 2 _ _ (λ a. stop CutShort (lit≤ tt, lit≤ tt)) (λ a.
-    either-lt P (wordAt l 0) 2 _ _ (λ b. stop BadLength (lit≤ tt, lit≤ tt)) (λ b.
-    either-lt P 18 (wordAt l 0) _ _ (λ d. stop BadLength (lit≤ tt, lit≤ tt)) (λ d.
+    either-lt P (wordAt l 0) leastLength _ _ (λ b. stop BadLength (lit≤ tt, lit≤ tt)) (λ b.
+    either-lt P mostLength (wordAt l 0) _ _ (λ d. stop BadLength (lit≤ tt, lit≤ tt)) (λ d.
     either-lt P (length l - 2) (wordAt l 0) _ _ (λ h. stop CutShort (lit≤ tt, lit≤ tt)) (λ h.
     rows P stop (wordAt l 0 - 2) (getD l 4 0) (wordAt l 2) (λ e k p q. w e (record {
       length-is = omega arith;
@@ -86,7 +87,7 @@ heads P stop l w =
 -- the row of an event that a record carries
 row-is : (e : Event) (first : ℕ) → Carried first e → rowOf (kindOf e) (payloadOf e) first ≡ Whole e
 row-is (Push n) first h = rw (le-ltb n 1 h)
-row-is (Pop n) first h = rw (sym (h .0), le-ltb n 1 (h .1), le-ltb 16 n (h .2))
+row-is (Pop n) first h = rw (sym (h .0), le-ltb n 1 (h .1), le-ltb mostPayload n (h .2))
 row-is (Command code) first h = rw (sym h)
 row-is Status first h = refl
 row-is Reset first h = refl
@@ -100,7 +101,7 @@ head-is l e h =
     ∙ rw (h .kind-is, n, add-sub-cancel-left 2 (payloadOf e)) (row-is e (getD l 4 0) (h .carried))
 
 -- the data of its reply are few
-pub few : (l : List ℕ) (e : Event) → Holds l e → answeredOf e ≤ 16
+pub few : (l : List ℕ) (e : Event) → Holds l e → answeredOf e ≤ mostPayload
 few l (Push n) h = lit≤ tt
 few l (Pop n) h = h .carried .2
 few l (Command code) h = lit≤ tt
@@ -118,7 +119,7 @@ pub holds : (l : List ℕ) (e : Event) → headOf l ≡ Whole e → Holds l e
 holds l e h = subst (Reads l) h (heads (Reads l) (λ r s. s) l (λ d p. p))
 
 -- what the code needs of it
-pub fine : (l : List ℕ) (e : Event) → headOf l ≡ Whole e → (4 + payloadOf e ≤ length l) × (answeredOf e ≤ 16)
+pub fine : (l : List ℕ) (e : Event) → headOf l ≡ Whole e → (4 + payloadOf e ≤ length l) × (answeredOf e ≤ mostPayload)
 fine l e h = (holds l e h .there, few l e (holds l e h))
 
 -- a head that is a refusal is 5, 6 or 7

@@ -1,17 +1,17 @@
 -- The ways of a record step: it stops with 5 to 8 and nothing done, or works the event that the record holds. Assumes nothing.
-use mathlib.Core.Path.{_≡_, refl}
-use mathlib.Core.List.{List, []}
+use mathlib.Core.Path.{_≡_}
+use mathlib.Core.List.{List}
 use Prim.Native.Nat.{ℕ, _+_, _≤_, _<_}
 use native.Mathlib.Omega.{arith}
 use lib.Dec.{lit≤}
-use lib.ListN.{length, take, drop}
+use lib.ListN.{take, drop}
 use Rattle.terms.specs.declared.Refusal.{Refusal}
 use Rattle.terms.specs.declared.Refusal.the-variants.{NoRoom}
 use Rattle.terms.specs.Refusal.{numberOf}
 use Rattle.chip.specs.declared.State.{State}
+use Rattle.files.proofs.Tests.{either-lt}
 use Rattle.records.specs.declared.head.Event.{Event}
 use Rattle.records.specs.Record.{payloadOf, answeredOf, answerOf, Holds, Turned, stopped, worked, turnBy, turnOf}
-use Rattle.records.proofs.Tests.{either-lt}
 use Rattle.records.proofs.Heads.{heads}
 
 -- what holds of a record that stops and of one that is worked holds of the step
@@ -30,14 +30,3 @@ Moves t = t .refusal ≡ 0 → 0 < t .size
 -- a record that is taken has at least one byte
 pub moves : (s : State) (l : List ℕ) (room : ℕ) → Moves (turnOf s l room)
 moves s l room = steps Moves s l room (λ r a b z. omega arith) (λ e h g z. omega arith)
-
--- a record that stops is no byte long here, has no reply, and leaves the state
-pub record Idle (s : State) (t : Turned) : Type 0 where
-  pub state-is : t .state ≡ s
-  pub size-is : t .size ≡ 0
-  pub reply-is : t .reply ≡ []
-
-pub idle : (s : State) (l : List ℕ) (room : ℕ) → (turnOf s l room .refusal ≡ 0 → ⊥) → Idle s (turnOf s l room)
-idle s l room =
-    steps (λ t. (t .refusal ≡ 0 → ⊥) → Idle s t) s l room
-    (λ r a b z. record { state-is = refl; size-is = refl; reply-is = refl }) (λ e h g z. absurd (z refl))

@@ -1,7 +1,7 @@
 -- A record step beside its definition: one that stops leaves all as it was, one that works leaves the reply at the front of the room. Assumes nothing.
 use mathlib.Core.Path.{_≡_, refl, sym, ap, _∙_}
 use mathlib.Core.List.{List, [], _∷_, _++_}
-use Prim.Native.Nat.{ℕ, _+_, _/_, _%_, _≤_, _<_, zero-le}
+use Prim.Native.Nat.{ℕ, _+_, _≤_, _<_, zero-le}
 use native.Mathlib.Omega.{arith}
 use native.Mathlib.Nat.{add-sub-cancel-left}
 use lib.ListN.{length, take, drop}
@@ -10,17 +10,11 @@ use Rattle.terms.specs.declared.Refusal.{Refusal}
 use Rattle.terms.specs.Refusal.{numberOf}
 use Rattle.chip.specs.declared.State.{State}
 use Rattle.chip.specs.declared.Answer.{Answer}
+use Rattle.files.specs.Run.{Turns}
 use Rattle.records.specs.declared.head.Event.{Event}
 use Rattle.records.specs.declared.head.Event.the-variants.{Push, Pop, Command, Status, Reset, Acknowledge}
-use Rattle.records.specs.Record.{le2, kindOf, payloadOf, answeredOf, dataOf, replyOf, stopped, worked, Turns}
+use Rattle.records.specs.Record.{le2, kindOf, payloadOf, answeredOf, dataOf, replyOf, stopped, worked}
 use Rattle.records.proofs.Blocks.{length-popped}
-
--- a small number has no second byte
-pub le2-small : (n : ℕ) → n < 256 → n ∷ 0 ∷ [] ≡ le2 n
-le2-small n h =
-    let a : n ≡ n % 256 = omega arith in
-    let b : 0 ≡ n / 256 = omega arith in
-    rw (← a, ← b)
 
 -- the data of a reply are as many as its event says
 pub length-dataOf : (s : State) (e : Event) → length (dataOf s e) ≡ answeredOf e

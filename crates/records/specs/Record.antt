@@ -1,10 +1,11 @@
 -- Record files: what the head of a record says, what its event answers, and its reply. Definitions only. Assumes nothing.
-use Prim.Native.Nat.{ℕ, zero, suc, _+_, _*_, _-_, _/_, _%_, _≤_, _<_}
+use Prim.Native.Nat.{ℕ, zero, suc, _+_, _-_, _≤_}
 use mathlib.Core.Path.{_≡_}
 use mathlib.Core.List.{List, [], _∷_, _++_}
 use mathlib.Core.Bool.{cond}
 use lib.Dec.{ltb, eqb}
 use lib.ListN.{length, take, drop, getD}
+pub use Rattle.little.specs.Little.{wordAt, le2}
 use Rattle.terms.specs.declared.Refusal.{Refusal}
 use Rattle.terms.specs.declared.Refusal.the-variants.{Done, NoSuchKind, CutShort, BadLength, NoRoom}
 use Rattle.terms.specs.Refusal.{numberOf}
@@ -13,18 +14,11 @@ use Rattle.chip.specs.declared.State.{State}
 use Rattle.chip.specs.declared.Answer.{Answer}
 use Rattle.chip.specs.Step.{pushOf, popOf, readOf, resetOf, acknowledgeOf, commandOf}
 use Rattle.chip.specs.Turns.{bytesPopped}
+use Rattle.files.specs.Run as files
 use Rattle.records.specs.declared.head.Event.{Event}
 use Rattle.records.specs.declared.head.Event.the-variants.{Push, Pop, Command, Status, Reset, Acknowledge}
 use Rattle.records.specs.declared.head.Head.{Head}
 use Rattle.records.specs.declared.head.Head.the-variants.{Whole, Stop}
-
--- the two-byte number at a place, little-endian
-abbrev pub wordAt : List ℕ → ℕ → ℕ
-wordAt l i = getD l i 0 + getD l (i + 1) 0 * 256
-
--- a number as two bytes, little-endian
-abbrev pub le2 : ℕ → List ℕ
-le2 n = n % 256 ∷ n / 256 ∷ []
 
 -- ---- an event: 01's number of its kind, the bytes of its payload, the bytes of data in its reply
 abbrev pub kindOf : Event → ℕ
@@ -62,11 +56,11 @@ headNumber (Stop r) = numberOf r
 abbrev pub exactly : ℕ → ℕ → Event → Head
 exactly wanted n e = cond (eqb n wanted) (Whole e) (Stop BadLength)
 
--- a push of no bytes is 7; one of more than 16 is over the length already
+-- a push of no bytes is 7; one of too many is over the length already
 abbrev pub pushRow : ℕ → Head
 pushRow n = cond (ltb n 1) (Stop BadLength) (Whole (Push n))
 
--- a pop whose payload is not one byte, or whose count is not 1 to 16, is 7
+-- a pop whose payload is not one byte, or whose count is 0 or over the most, is 7
 abbrev pub popRow : ℕ → ℕ → Head
 popRow n count =
     cond (eqb n 1)
@@ -93,7 +87,7 @@ headOf l =
     (cond (ltb (length l - 2) (wordAt l 0)) (Stop CutShort)
     (rowOf (wordAt l 2) (wordAt l 0 - 2) (getD l 4 0)))))
 
--- the event of a record whose first payload byte is this: 1 to 16 bytes are pushed or popped, a code is that byte
+-- the event of a record whose first payload byte is this: at least one byte is pushed or popped, and not too many; a code is that byte
 abbrev pub Carried : ℕ → Event → Type 0
 Carried first (Push n) = 1 ≤ n
 Carried first (Pop n) = (n ≡ first) × (1 ≤ n) × (n ≤ mostPayload)
@@ -151,15 +145,12 @@ replyOf kind refusal bytes = le2 (3 + length bytes) ++ (le2 (kind + 128) ++ (ref
 -- ---- what becomes of the record at the front of a file
 
 -- the refusal that stops the run, or 0; the state; the bytes of the record; its reply
-pub record Turned : Type 0 where
-  pub refusal : ℕ
-  pub state : State
-  pub size : ℕ
-  pub reply : List ℕ
+abbrev pub Turned : Type 0
+Turned = files.Turned State
 
 -- nothing of the record is done
 abbrev pub stopped : Refusal → State → Turned
-stopped r s = record { refusal = numberOf r; state = s; size = 0; reply = [] }
+stopped r s = files.idle (numberOf r) s
 
 -- the chip's answer makes the state and the reply
 abbrev pub worked : State → Event → Answer → Turned
@@ -179,14 +170,3 @@ turnBy s l room (Whole e) =
 -- the record step
 unfoldable pub turnOf : State → List ℕ → ℕ → Turned
 turnOf s l room = turnBy s l room (headOf l)
-
--- a turn of the code beside a definition's: of a file and of room, as they were and as the room is left
-pub record Turns (t : Turned) (refusal : ℕ) (state : State) (size reply : ℕ) (file room left : List ℕ) : Type 0 where
-  pub refusal-is : refusal ≡ t .refusal
-  pub state-is : state ≡ t .state
-  pub size-is : size ≡ t .size
-  pub reply-is : reply ≡ length (t .reply)
-  pub left-is : left ≡ t .reply ++ drop (length (t .reply)) room
-  pub within : size ≤ length file
-  pub fits : reply ≤ length room
-  pub moves : refusal ≡ 0 → 0 < size

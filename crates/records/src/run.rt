@@ -16,8 +16,9 @@ ghost use Prim.Native.Nat.{_+_, _≤_, _<_};
 ghost use lib.ListN.{length, drop};
 ghost use Rattle.terms.specs.Refusal.{numberOf};
 ghost use Rattle.terms.specs.Limits.{mostPayload};
-ghost use Rattle.records.specs.Record.{le2, payloadOf, answeredOf, turnBy, turnOf, Turns};
-ghost use Rattle.records.specs.Run.{runOf, Runs};
+ghost use Rattle.files.specs.Run.{Turns, Runs};
+ghost use Rattle.records.specs.Record.{le2, payloadOf, answeredOf, turnBy, turnOf};
+ghost use Rattle.records.specs.Run.{runOf};
 
 // What became of a record: the refusal that stops the run or 0, the state, the bytes of the record and of its reply.
 pub struct Turn {

@@ -6,7 +6,7 @@ use native.Mathlib.Nat.{div-add-mod', div-lt-iff-lt-mul, mod-lt, mul-assoc, mul-
 use native.Mathlib.Numerals.{add-one}
 use native.Mathlib.Omega.{arith}
 use lib.Dec.{lit<}
-use lib.ListN.{length, take, drop, length-append, length-drop}
+use lib.ListN.{length, getD, take, drop, length-append, length-drop}
 use lib.Seq.{take-at, length-take-le}
 use Rattle.stack.specs.Stack.{numberFrom, bytesOf, zeros, Bytes, tos, nos}
 
@@ -32,6 +32,12 @@ pub bytes-drop : (n : ℕ) (l : List ℕ) → Bytes l → Bytes (drop n l)
 bytes-drop zero l p = p
 bytes-drop (suc n) [] p = tt
 bytes-drop (suc n) (b ∷ l) p = bytes-drop n l (p .1)
+
+-- every element of a list of bytes is a byte
+pub byte-at : (l : List ℕ) → Bytes l → (i : ℕ) → getD l i 0 < 256
+byte-at [] h i = lit< tt
+byte-at (x ∷ l) h zero = h .0
+byte-at (x ∷ l) h (suc i) = byte-at l (h .1) i
 
 pub bytes-of : (n r : ℕ) → Bytes (bytesOf n r)
 bytes-of zero r = tt

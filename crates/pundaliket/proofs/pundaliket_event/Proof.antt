@@ -3,15 +3,16 @@ use mathlib.Core.Path.{_≡_, sym, ap, _∙_}
 use denote.Ref.{now}
 use Rattle.chip.specs.declared.State.{State}
 use Rattle.pundaliket.specs.Calls.{eventOf}
-use Rattle.pundaliket.proofs.Calling.{failed, passed, no-state, no-event, an-event, state-length}
+use Rattle.stored.proofs.States.{state-length}
+use Rattle.pundaliket.proofs.Calling.{failed, passed, no-state, no-event, an-event}
 use borrow.Author.Needs.{needs}
 use Rattle.pundaliket.proofs.pundaliket_event.Statement.{statement}
 use Rattle.pundaliket.proofs.pundaliket_event.Tie as tie
 use Rattle.pundaliket.proofs.pundaliket_event.Reads as reads
 use Rattle.pundaliket.proofs.pundaliket_event.Lts as lts
-use Rattle.pundaliket.proofs.bytes.is_state.Reads as is-state-reads
-use Rattle.pundaliket.proofs.bytes.load.Reads as load-reads
-use Rattle.pundaliket.proofs.bytes.store.Reads as store-reads
+use Rattle.stored.proofs.is_state.Reads as is-state-reads
+use Rattle.stored.proofs.load.Reads as load-reads
+use Rattle.stored.proofs.store.Reads as store-reads
 use Rattle.pundaliket.proofs.event.Reads as event-reads
 use Rattle.pundaliket.proofs.joined.Reads as joined-reads
 use Rattle.terms.proofs.number.Reads as number-reads

@@ -3,13 +3,14 @@ use mathlib.Core.Path.{_≡_, sym, _∙_}
 use native.Mathlib.Omega.{arith}
 use denote.Ref.{now}
 use Rattle.terms.specs.declared.Refusal.the-variants.{BadState, InputTooLong}
-use Rattle.pundaliket.proofs.Calling.{failed, passed, turned-away, bad-report, bad-state, too-long, good, state-length}
+use Rattle.stored.proofs.States.{state-length}
+use Rattle.pundaliket.proofs.Calling.{failed, passed, turned-away, bad-report, bad-state, too-long, good}
 use borrow.Author.Needs.{needs}
 use Rattle.pundaliket.proofs.pundaliket_run.Statement.{statement}
 use Rattle.pundaliket.proofs.pundaliket_run.Tie as tie
 use Rattle.pundaliket.proofs.pundaliket_run.Reads as reads
 use Rattle.pundaliket.proofs.pundaliket_run.Lts as lts
-use Rattle.pundaliket.proofs.bytes.is_state.Reads as is-state-reads
+use Rattle.stored.proofs.is_state.Reads as is-state-reads
 use Rattle.pundaliket.proofs.run_good.Reads as run-good-reads
 use Rattle.pundaliket.proofs.turn_away.Reads as turn-away-reads
 use Rattle.terms.proofs.number.Reads as number-reads

@@ -5,9 +5,9 @@ use Rattle.pundaliket.proofs.run_good.Statement.{statement}
 use Rattle.pundaliket.proofs.run_good.Tie as tie
 use Rattle.pundaliket.proofs.run_good.Reads as reads
 use Rattle.pundaliket.proofs.run_good.Lts as lts
-use Rattle.pundaliket.proofs.bytes.fill_report.Reads as fill-report-reads
-use Rattle.pundaliket.proofs.bytes.load.Reads as load-reads
-use Rattle.pundaliket.proofs.bytes.store.Reads as store-reads
+use Rattle.stored.proofs.fill_report.Reads as fill-report-reads
+use Rattle.stored.proofs.load.Reads as load-reads
+use Rattle.stored.proofs.store.Reads as store-reads
 use Rattle.records.proofs.run.run_all.Reads as run-all-reads
 
 -- src/lib.rt:38:9

@@ -5,7 +5,7 @@ use Rattle.pundaliket.proofs.turn_away.Statement.{statement}
 use Rattle.pundaliket.proofs.turn_away.Tie as tie
 use Rattle.pundaliket.proofs.turn_away.Reads as reads
 use Rattle.pundaliket.proofs.turn_away.Lts as lts
-use Rattle.pundaliket.proofs.bytes.fill_report.Reads as fill-report-reads
+use Rattle.stored.proofs.fill_report.Reads as fill-report-reads
 use Rattle.terms.proofs.number.Reads as number-reads
 
 -- src/lib.rt:28:9

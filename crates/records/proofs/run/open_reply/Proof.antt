@@ -5,9 +5,9 @@ use Prim.Native.Nat.{ℕ, _+_}
 use native.Mathlib.Omega.{arith}
 use lib.ListN.{drop, length-set}
 use denote.Ref.{now}
+use Rattle.little.proofs.Exact.{le2-small}
 use Rattle.records.specs.Record.{le2}
 use Rattle.records.proofs.Writes.{front}
-use Rattle.records.proofs.Turning.{le2-small}
 use borrow.Author.Needs.{needs}
 use Rattle.records.proofs.run.open_reply.Statement.{statement}
 use Rattle.records.proofs.run.open_reply.Tie as tie

@@ -6,9 +6,11 @@ use native.Mathlib.Omega.{arith}
 use borrow.Author.Needs.{needs}
 use lib.ListN.{length, take, drop}
 use denote.Ref.{now}
-use Rattle.records.specs.Record.{Turns, turnOf}
+use Rattle.files.specs.Run.{Turns}
+use Rattle.files.proofs.Running.{Going, starts, goes-on, stops, ends, all-length}
+use Rattle.records.specs.Record.{turnOf}
 use Rattle.records.proofs.Writes.{all-rest, back}
-use Rattle.records.proofs.Running.{Going, starts, goes-on, stops, ends, all-length}
+use Rattle.records.proofs.Prefix.{lawful}
 use Rattle.records.proofs.run.run_all.Statement.{statement}
 use Rattle.records.proofs.run.run_all.Tie as tie
 use Rattle.records.proofs.run.run_all.Reads as reads
@@ -16,7 +18,7 @@ use Rattle.records.proofs.run.run_all.Lts as lts
 use Rattle.records.proofs.run.take_record.Reads as take-record-reads
 
 abbrev Inv-loop : tie.InvT-loop
-Inv-loop input replies₀ st₀ at₀ w₀ replies st at w = Going st₀ input replies₀ st at w replies
+Inv-loop input replies₀ st₀ at₀ w₀ replies st at w = Going turnOf st₀ input replies₀ st at w replies
 
 abbrev μ-loop : tie.MeasureT-loop
 μ-loop input replies₀ st₀ at₀ w₀ replies st at w = length input - at
@@ -35,7 +37,7 @@ turn c =
 
 -- src/lib.rt:200:5
 loop-holds : tie.Need-loop-holds Inv-loop μ-loop
-loop-holds c = starts (c .before .before .args .s) (now (c .before .before .args .input)) (now (c .before .before .args .replies))
+loop-holds c = starts lawful (c .before .before .args .s) (now (c .before .before .args .input)) (now (c .before .before .args .replies))
 
 -- src/lib.rt:201:33
 sub-take-record : tie.Need-sub-take-record Inv-loop μ-loop
@@ -73,7 +75,7 @@ same-length c =
     let a = l .before .before .before .args in
     let r = k .take-record .result in
     let left = k .take-record .last .1 .1 .0 in
-    ap length (back (l .loop .replies) (l .loop .w) left) ∙ all-length (a .s) (now (a .input)) (now (a .replies)) (l .loop .st) (l .loop .at) (l .loop .w) (l .loop .replies) (l .loop .inv) (k .before .before .before .loop-test .taken) (r .refusal) (r .state) (r .size) (r .reply) left (turn k) ∙ l .loop .inv .same
+    ap length (back (l .loop .replies) (l .loop .w) left) ∙ all-length lawful (a .s) (now (a .input)) (now (a .replies)) (l .loop .st) (l .loop .at) (l .loop .w) (l .loop .replies) (l .loop .inv) (k .before .before .before .loop-test .taken) (r .refusal) (r .state) (r .size) (r .reply) left (turn k) ∙ l .loop .inv .same
 
 -- src/lib.rt:205:13
 returns : tie.Need-returns Inv-loop μ-loop
@@ -83,7 +85,7 @@ returns c =
     let a = l .before .before .before .args in
     let r = k .take-record .result in
     let left = k .take-record .last .1 .1 .0 in
-    rw (back (l .loop .replies) (l .loop .w) left) (stops (a .s) (now (a .input)) (now (a .replies)) (l .loop .st) (l .loop .at) (l .loop .w) (l .loop .replies) (l .loop .inv) (k .before .before .before .loop-test .taken) (r .refusal) (r .state) (r .size) (r .reply) left (turn k) (c .if1 .taken))
+    rw (back (l .loop .replies) (l .loop .w) left) (stops lawful (a .s) (now (a .input)) (now (a .replies)) (l .loop .st) (l .loop .at) (l .loop .w) (l .loop .replies) (l .loop .inv) (k .before .before .before .loop-test .taken) (r .refusal) (r .state) (r .size) (r .reply) left (turn k) (c .if1 .taken))
 
 -- src/lib.rt:207:9
 add-at : tie.Need-add-at Inv-loop μ-loop
@@ -107,7 +109,7 @@ loop-again c =
     let a = l .before .before .before .args in
     let r = k .take-record .result in
     let left = k .take-record .last .1 .1 .0 in
-    rw (back (l .loop .replies) (l .loop .w) left) (goes-on (a .s) (now (a .input)) (now (a .replies)) (l .loop .st) (l .loop .at) (l .loop .w) (l .loop .replies) (l .loop .inv) (k .before .before .before .loop-test .taken) (r .refusal) (r .state) (r .size) (r .reply) left (turn k) (c .before .before .if1 .left))
+    rw (back (l .loop .replies) (l .loop .w) left) (goes-on lawful (a .s) (now (a .input)) (now (a .replies)) (l .loop .st) (l .loop .at) (l .loop .w) (l .loop .replies) (l .loop .inv) (k .before .before .before .loop-test .taken) (r .refusal) (r .state) (r .size) (r .reply) left (turn k) (c .before .before .if1 .left))
 
 -- src/lib.rt:194:1
 same-length-2 : tie.Need-same-length-2 Inv-loop μ-loop
@@ -118,7 +120,7 @@ returns-2 : tie.Need-returns-2 Inv-loop μ-loop
 returns-2 c =
     let l = c .before .loop in
     let a = c .before .before .before .before .args in
-    ends (a .s) (now (a .input)) (now (a .replies)) (l .st) (l .at) (l .w) (l .replies) (l .inv) (c .loop-test .left)
+    ends lawful (a .s) (now (a .input)) (now (a .replies)) (l .st) (l .at) (l .w) (l .replies) (l .inv) (c .loop-test .left)
 
 pub run-all-spec : {M : Type 1} → statement M
 run-all-spec =

@@ -1,0 +1,3 @@
+-- The laws of numbers as bytes.
+pub mod Laid
+pub mod Exact

@@ -1,0 +1,2 @@
+-- The book of numbers as bytes.
+pub mod Little

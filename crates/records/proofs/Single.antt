@@ -1,0 +1,132 @@
+-- A file of one whole record: its turn alone, state and reply from the chip's answer; and each kind on a state that is not busy. Assumes nothing.
+use mathlib.Core.Path.{_≡_, refl, ap, _∙_}
+use mathlib.Core.Bool.{false}
+use mathlib.Core.List.{List, [], _∷_, append-nil}
+use Prim.Native.Nat.{ℕ, zero, suc, _+_, _-_, _/_, _%_, _≤_, _<_}
+use native.Mathlib.Omega.{arith}
+use native.Mathlib.Nat.{add-zero}
+use borrow.Author.Tests.{lt-ltb, le-ltb, leb-false}
+use lib.Dec.{lit≤}
+use lib.ListN.{length, drop, length-drop, drop-of-length-le}
+use lib.Seq.{take-all}
+use Rattle.terms.specs.declared.Refusal.{Refusal}
+use Rattle.terms.specs.declared.Refusal.the-variants.{Done, NoRoom}
+use Rattle.terms.specs.Refusal.{numberOf}
+use Rattle.terms.specs.Limits.{mostPayload}
+use Rattle.chip.specs.declared.State.{State}
+use Rattle.chip.specs.declared.Answer.{Answer}
+use Rattle.chip.specs.State.{busy, resetState, acknowledged}
+use Rattle.chip.specs.Step.{done, pushOf, popOf, readOf, resetOf, acknowledgeOf, commandOf}
+use Rattle.chip.specs.Turns.{afterPushes, afterPops, bytesPopped}
+use Rattle.chip.proofs.Turns.{push-done, pop-done}
+use Rattle.files.proofs.Append.{nothing, first-stops, first-taken}
+use Rattle.records.specs.declared.head.Event.{Event}
+use Rattle.records.specs.declared.head.Event.the-variants.{Push, Pop, Command, Status, Reset, Acknowledge}
+use Rattle.records.specs.declared.head.Head.the-variants.{Stop}
+use Rattle.records.specs.Record.{kindOf, payloadOf, answeredOf, headOf, Carried, Holds, before, pushAll, popAll, answerOf, dataOf, replyOf, stopped, worked, turnOf}
+use Rattle.records.specs.Run.{ended, took, runOf}
+use Rattle.records.proofs.Heads.{head-is}
+use Rattle.records.proofs.Blocks.{length-popped}
+use Rattle.records.proofs.Prefix.{lawful}
+
+module _ (s : State) (r : List ℕ) (room : ℕ) (e : Event) (h : Holds r e) (n : length r ≡ 4 + payloadOf e) where
+  some : 0 < length r
+  some = omega arith
+
+  the-turn : 5 + answeredOf e ≤ room → turnOf s r room ≡ worked s e (answerOf s (drop 4 r) e)
+  unfolding turnOf
+  the-turn g = rw (head-is r e h, le-ltb room (5 + answeredOf e) g, take-all (payloadOf e) (drop 4 r) (simp length-drop (omega arith)))
+
+  -- it is taken: state and reply from the chip's answer
+  pub one-turn : 5 + answeredOf e ≤ room → runOf s r room
+      ≡ took (answerOf s (drop 4 r) e .state) (4 + payloadOf e) (replyOf (kindOf e) (numberOf (answerOf s (drop 4 r) e .refusal)) (dataOf s e))
+  one-turn g =
+      let d : drop (4 + payloadOf e) r ≡ [] = drop-of-length-le r {i = 4 + payloadOf e} (omega arith) in
+      let t = worked s e (answerOf s (drop 4 r) e) in
+      first-taken lawful s r room t (the-turn g) some refl
+      ∙ rw (d, nothing lawful (t .state) (room - length (t .reply)), add-zero (4 + payloadOf e), append-nil (t .reply))
+
+  stop-turn : room < 5 + answeredOf e → turnOf s r room ≡ stopped NoRoom s
+  unfolding turnOf
+  stop-turn g = rw (head-is r e h, lt-ltb room (5 + answeredOf e) g)
+
+  -- its reply has no room
+  pub no-turn : room < 5 + answeredOf e → runOf s r room ≡ ended (numberOf NoRoom) s
+  no-turn g = first-stops lawful s r room (stopped NoRoom s) (stop-turn g) some (λ y. omega arith)
+
+-- a head that is a refusal
+pub stopped-by : (s : State) (l : List ℕ) (room : ℕ) (r : Refusal) → headOf l ≡ Stop r → turnOf s l room ≡ stopped r s
+unfolding turnOf
+stopped-by s l room r e = rw e
+
+-- ---- what the chip answers while it is not busy
+
+read-is : (s : State) → busy s ≡ false → readOf s ≡ done (s .status) s
+unfolding readOf
+read-is s h = rw h
+
+reset-is : (s : State) → busy s ≡ false → resetOf s ≡ done 0 resetState
+unfolding resetOf
+reset-is s h = rw h
+
+acknowledge-is : (s : State) → busy s ≡ false → acknowledgeOf s ≡ done 0 (acknowledged s)
+unfolding acknowledgeOf
+acknowledge-is s h = rw h
+
+-- blocks: every byte is answered 0
+pushes : (p : List ℕ) (a : Answer) → busy (a .state) ≡ false → a .refusal ≡ Done → (pushAll a p .refusal ≡ Done) × (pushAll a p .state ≡ afterPushes (a .state) p)
+pushes [] a h d = (d, refl)
+pushes (b ∷ bs) a h d =
+    let e = push-done (a .state) b (leb-false 128 (a .state .status) h) in
+    pushes bs (pushOf (a .state) b) (ap (λ (x : Answer). busy (x .state)) e ∙ h) (ap (λ (x : Answer). x .refusal) e)
+
+pops : (n : ℕ) (a : Answer) → busy (a .state) ≡ false → a .refusal ≡ Done → (popAll n a .refusal ≡ Done) × (popAll n a .state ≡ afterPops n (a .state))
+pops zero a h d = (d, refl)
+pops (suc n) a h d =
+    let e = pop-done (a .state) (leb-false 128 (a .state .status) h) in
+    pops n (popOf (a .state)) (ap (λ (x : Answer). busy (x .state)) e ∙ h) (ap (λ (x : Answer). x .refusal) e)
+
+-- ---- one record of each kind
+
+pub push-alone : (s : State) (p : List ℕ) (room : ℕ) → busy s ≡ false → 1 ≤ length p → length p ≤ mostPayload → 5 ≤ room
+    → runOf s ((2 + length p) ∷ 0 ∷ 1 ∷ 0 ∷ p) room ≡ took (afterPushes s p) (4 + length p) (3 ∷ 0 ∷ 129 ∷ 0 ∷ 0 ∷ [])
+push-alone s p room calm least most fits =
+    let r : List ℕ = (2 + length p) ∷ 0 ∷ 1 ∷ 0 ∷ p in
+    let e = Push (length p) in
+    let h : Holds r e = record { length-is = omega arith; kind-is = refl; there = omega arith; small = most; carried = least } in
+    let q = pushes p (before s) calm refl in
+    one-turn s r room e h (omega arith) (omega arith) ∙ rw (q .0, q .1)
+
+pub pop-alone : (s : State) (n room : ℕ) → busy s ≡ false → 1 ≤ n → n ≤ mostPayload → 5 + n ≤ room
+    → runOf s (3 ∷ 0 ∷ 2 ∷ 0 ∷ n ∷ []) room ≡ took (afterPops n s) 5 ((3 + n) ∷ 0 ∷ 130 ∷ 0 ∷ 0 ∷ bytesPopped n s)
+pop-alone s n room calm least most fits =
+    let r : List ℕ = 3 ∷ 0 ∷ 2 ∷ 0 ∷ n ∷ [] in
+    let e = Pop n in
+    let h : Holds r e = record { length-is = refl; kind-is = refl; there = omega arith; small = lit≤ tt; carried = (refl, least, most) } in
+    let q = pops n (before s) calm refl in
+    let low : (3 + n) % 256 ≡ 3 + n = omega arith in
+    let high : (3 + n) / 256 ≡ 0 = omega arith in
+    one-turn s r room e h refl fits ∙ rw (q .0, q .1, length-popped n s, low, high)
+
+pub command-alone : (s : State) (code room : ℕ) → 5 ≤ room
+    → runOf s (3 ∷ 0 ∷ 3 ∷ 0 ∷ code ∷ []) room ≡ took (commandOf s code .state) 5 (3 ∷ 0 ∷ 131 ∷ 0 ∷ numberOf (commandOf s code .refusal) ∷ [])
+command-alone s code room fits =
+    let r : List ℕ = 3 ∷ 0 ∷ 3 ∷ 0 ∷ code ∷ [] in
+    let h : Holds r (Command code) = record { length-is = refl; kind-is = refl; there = omega arith; small = lit≤ tt; carried = refl } in
+    one-turn s r room (Command code) h refl fits
+
+-- the three kinds without a payload
+bare : (e : Event) (k : ℕ) → k ≡ kindOf e → payloadOf e ≡ 0 → Carried 0 e → Holds (2 ∷ 0 ∷ k ∷ 0 ∷ []) e
+bare e k a b c = record { length-is = omega arith; kind-is = omega arith; there = omega arith; small = omega arith; carried = c }
+
+pub status-alone : (s : State) (room : ℕ) → busy s ≡ false → 6 ≤ room → runOf s (2 ∷ 0 ∷ 4 ∷ 0 ∷ []) room ≡ took s 4 (4 ∷ 0 ∷ 132 ∷ 0 ∷ 0 ∷ s .status ∷ [])
+status-alone s room calm fits =
+    one-turn s (2 ∷ 0 ∷ 4 ∷ 0 ∷ []) room Status (bare Status 4 refl refl tt) refl fits ∙ rw (read-is s calm)
+
+pub reset-alone : (s : State) (room : ℕ) → busy s ≡ false → 5 ≤ room → runOf s (2 ∷ 0 ∷ 5 ∷ 0 ∷ []) room ≡ took resetState 4 (3 ∷ 0 ∷ 133 ∷ 0 ∷ 0 ∷ [])
+reset-alone s room calm fits =
+    one-turn s (2 ∷ 0 ∷ 5 ∷ 0 ∷ []) room Reset (bare Reset 5 refl refl tt) refl fits ∙ rw (reset-is s calm)
+
+pub acknowledge-alone : (s : State) (room : ℕ) → busy s ≡ false → 5 ≤ room → runOf s (2 ∷ 0 ∷ 6 ∷ 0 ∷ []) room ≡ took (acknowledged s) 4 (3 ∷ 0 ∷ 134 ∷ 0 ∷ 0 ∷ [])
+acknowledge-alone s room calm fits =
+    one-turn s (2 ∷ 0 ∷ 6 ∷ 0 ∷ []) room Acknowledge (bare Acknowledge 6 refl refl tt) refl fits ∙ rw (acknowledge-is s calm)

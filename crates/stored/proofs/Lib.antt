@@ -1,0 +1,3 @@
+-- The laws of what is stored.
+pub mod Laid
+pub mod States

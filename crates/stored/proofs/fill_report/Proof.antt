@@ -1,0 +1,79 @@
+-- `stored::fill_report` meets its contract: one store, and four bytes for each count. Assumes nothing.
+use mathlib.Core.Path.{_≡_, ap, _∙_}
+use native.Mathlib.Omega.{arith}
+use borrow.Author.Needs.{needs}
+use lib.ListN.{length, set, length-set}
+use denote.Ref.{now}
+use Rattle.stored.proofs.Laid.{over, length-over, reported}
+use Rattle.stored.proofs.fill_report.Statement.{statement}
+use Rattle.stored.proofs.fill_report.Tie as tie
+use Rattle.stored.proofs.fill_report.Reads as reads
+use Rattle.stored.proofs.fill_report.Lts as lts
+use Rattle.little.proofs.put_word.Reads as put-word-reads
+
+slice-write-report : tie.Need-slice-write-report
+slice-write-report c = search needs
+
+sub-put-word : tie.Need-sub-put-word
+sub-put-word c = search needs
+
+part-put-word-start : tie.Need-part-put-word-start
+part-put-word-start c = search needs
+
+part-put-word-end : tie.Need-part-put-word-end
+part-put-word-end c = simp length-set (omega (arith, c .before .pre))
+
+put-word-requires : tie.Need-put-word-requires
+put-word-requires c κs = search needs
+
+sub-put-word-2 : tie.Need-sub-put-word-2
+sub-put-word-2 c = search needs
+
+part-put-word-start-2 : tie.Need-part-put-word-start-2
+part-put-word-start-2 c = search needs
+
+part-put-word-end-2 : tie.Need-part-put-word-end-2
+part-put-word-end-2 c =
+    let s = c .before .before .before .before .before in
+    let k = c .before .before .put-word in
+    let l = set (now (s .args .report)) 0 (s .args .refusal) in
+    let n : length l ≡ 9 = length-set (now (s .args .report)) 0 (s .args .refusal) ∙ s .pre in
+    let m = length-over 1 l (k .last .0) (omega arith) (ap length (k .ensures)) in
+    omega arith
+
+put-word-requires-2 : tie.Need-put-word-requires-2
+put-word-requires-2 c κs = search needs
+
+same-length : tie.Need-same-length
+same-length c =
+    let s = c .before .before .before .before .before .before .before .before .before in
+    let k = c .before .before .before .before .before .before .put-word in
+    let j = c .before .before .put-word2 in
+    let l = set (now (s .args .report)) 0 (s .args .refusal) in
+    let n : length l ≡ 9 = length-set (now (s .args .report)) 0 (s .args .refusal) ∙ s .pre in
+    let m = length-over 1 l (k .last .0) (omega arith) (ap length (k .ensures)) in
+    length-over 5 (over 1 l (k .last .0)) (j .last .0) (omega arith) (ap length (j .ensures))
+    ∙ m
+    ∙ length-set (now (s .args .report)) 0 (s .args .refusal)
+
+returns : tie.Need-returns
+returns c =
+    let s = c .before .before .before .before .before .before .before .before .before in
+    let k = c .before .before .before .before .before .before .put-word in
+    reported (now (s .args .report)) (k .last .0) (c .before .before .put-word2 .last .0) (s .args .refusal) (s .args .taken) (s .args .written) (s .pre) (k .ensures) (c .before .before .put-word2 .ensures)
+
+pub fill-report-spec : {M : Type 1} → statement M
+fill-report-spec =
+    tie.close
+    (tie.spec
+    slice-write-report
+    sub-put-word
+    part-put-word-start
+    part-put-word-end
+    put-word-requires
+    sub-put-word-2
+    part-put-word-start-2
+    part-put-word-end-2
+    put-word-requires-2
+    same-length
+    returns)
