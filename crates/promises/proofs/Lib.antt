@@ -14,4 +14,10 @@ pub mod Rooted
 pub mod Chained
 pub mod ChainExamples
 pub mod Driven
+pub mod Fronted
+pub mod RunCalled
+pub mod SmallCalled
+pub mod Parity
+pub mod FiledEvents
+pub mod Complements
 pub mod ShutOut
