@@ -92,10 +92,10 @@ out-kept reply out =
 
 -- either it is turned away with a refusal and leaves state and replies, or it is a run
 module _ (state input replies report : List ℕ) where
-  abbrev Away : Called → Type 0
+  abbrev pub Away : Called → Type 0
   Away c = (0 < c .result) × (c .state ≡ state) × (c .replies ≡ replies)
 
-  calls : (P : Called → Type 0) → ((c : Called) → Away c → P c)
+  pub calls : (P : Called → Type 0) → ((c : Called) → Away c → P c)
       → (length report ≡ 9 → isState state ≡ true → length input ≤ 12288 → P (ranOf (runOf (stateOf state) input (length replies)) replies))
       → P (callOf state input replies report)
   unfolding callOf

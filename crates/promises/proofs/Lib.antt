@@ -18,6 +18,7 @@ pub mod Fronted
 pub mod RunCalled
 pub mod SmallCalled
 pub mod Parity
+pub mod LastEnds
 pub mod FiledEvents
 pub mod Complements
 pub mod ShutOut
