@@ -1,9 +1,9 @@
 -- The file of events leaves what the events leave: each record does what its event does, the append law joins them, and the event call's contract gives the
 -- same states and answers. Assumes nothing.
 use mathlib.Core.Path.{_≡_, refl, sym, ap, ap₂, subst, subst₂, _∙_}
-use mathlib.Core.Bool.{Bool, true, false, _&&_}
+use mathlib.Core.Bool.{Bool, true, false}
 use mathlib.Core.List.{List, [], _∷_, _++_}
-use Prim.Native.Nat.{ℕ, _+_, _*_, _-_, _/_, _%_, _≤_, _<_}
+use Prim.Native.Nat.{ℕ, _-_, _/_, _%_, _≤_, _<_}
 use native.Mathlib.Omega.{arith}
 use borrow.Author.Tests.{lt-leb, eqb-true}
 use lib.Dec.{eqb, lit<}
@@ -20,14 +20,14 @@ use Rattle.chip.specs.Step.{pushOf, popOf, readOf, resetOf, acknowledgeOf, comm
 use Rattle.chip.proofs.Turns.{pop-done}
 use Rattle.records.specs.Run.{Outcome, after as joinedTo, runOf as fileRun}
 use Rattle.records.proofs.Append.{nothing, onward, appended}
-use Rattle.pundaliket.specs.Bytes.{stateOf, bytesOf as stateBytes}
+use Rattle.pundaliket.specs.Bytes.{stateOf}
 use Rattle.pundaliket.specs.Calls.{Called, ranOf, callOf, joinedOf}
 use Rattle.pundaliket.proofs.Calling.{good}
 use Rattle.promises.specs.Events.{Event, push, pop, command, read, reset, acknowledge, answerTo, after}
 use Rattle.promises.specs.Records.{took, countAt}
-use Rattle.promises.specs.Chains.{Step, Constants}
+use Rattle.promises.specs.Chains.{Step}
 use Rattle.promises.specs.Cores.{Core, Meets, byteOf, Sendable, driven, returned, answersOf, allZero, kindNumber, runOf, wordLeft}
-use Rattle.promises.specs.EventFiles.{recordOf, fileOf, replyTo, repliesTo, FileOfEvents, Lent, EventFiles, chainFile, zerosFor, ChainFiles, Demand3Files}
+use Rattle.promises.specs.EventFiles.{recordOf, fileOf, replyTo, repliesTo, FileOfEvents, Lent, EventFiles, chainFile, zerosFor, Demand3Files}
 use Rattle.promises.proofs.Events.{both}
 use Rattle.promises.proofs.Ready.{byte-at, Ready}
 use Rattle.promises.proofs.Recorded.{counts-exact, push-record, pop-record, command-record, status-record, reset-record, acknowledge-record}

@@ -1,10 +1,10 @@
 -- The number of a bad record from its bytes: each test of the head goes the way that the bytes say, and a head that stops ends the run at once. Assumes nothing.
-use mathlib.Core.Path.{_≡_, refl, sym, ap, ap₂, _∙_}
+use mathlib.Core.Path.{_≡_, refl, ap, ap₂, _∙_}
 use mathlib.Core.Logic.{_⊎_, ⊎-elim}
 use mathlib.Core.List.{List, [], _∷_}
 use Prim.Native.Nat.{ℕ, _+_, _*_, _-_, _≤_, _<_}
 use native.Mathlib.Omega.{arith}
-use borrow.Author.Tests.{lt-ltb, le-ltb, eq-eqb, ne-eqb}
+use borrow.Author.Tests.{lt-ltb, le-ltb, ne-eqb}
 use lib.ListN.{length, getD}
 use Rattle.terms.specs.declared.Refusal.{Refusal}
 use Rattle.terms.specs.declared.Refusal.the-variants.{NoSuchKind, CutShort, BadLength, NoRoom}
@@ -12,10 +12,9 @@ use Rattle.terms.specs.Refusal.{numberOf}
 use Rattle.chip.specs.declared.State.{State}
 use Rattle.records.specs.declared.head.Event.{Event}
 use Rattle.records.specs.declared.head.Event.the-variants.{Push, Pop, Command, Status, Reset, Acknowledge}
-use Rattle.records.specs.declared.head.Head.{Head}
-use Rattle.records.specs.declared.head.Head.the-variants.{Whole, Stop}
-use Rattle.records.specs.Record.{wordAt, payloadOf, answeredOf, headNumber, rowOf, headOf, Holds, stopped, turnOf}
-use Rattle.records.specs.Run.{ended, runOf}
+use Rattle.records.specs.declared.head.Head.the-variants.{Stop}
+use Rattle.records.specs.Record.{wordAt, answeredOf, headNumber, rowOf, headOf, Holds, stopped, turnOf}
+use Rattle.records.specs.Run.{ended}
 use Rattle.records.proofs.Tests.{either-lt, either-eq}
 use Rattle.records.proofs.Heads.{short, low, high, cut, whole, head-is}
 use Rattle.records.proofs.Append.{first-stops}

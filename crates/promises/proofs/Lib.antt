@@ -21,4 +21,5 @@ pub mod Parity
 pub mod LastEnds
 pub mod FiledEvents
 pub mod Complements
+pub mod Listed
 pub mod ShutOut

@@ -9,7 +9,7 @@ use borrow.Author.Tests.{lt-leb, eqb-true, eqb-false}
 use lib.Dec.{eqb}
 use lib.ListN.{take, getD}
 use Rattle.float.specs.Cut.{Rule}
-use Rattle.stack.specs.Stack.{Bytes, IsStack}
+use Rattle.stack.specs.Stack.{IsStack}
 use Rattle.chip.specs.declared.State.{State}
 use Rattle.chip.specs.declared.Answer.{Answer}
 use Rattle.chip.specs.Commands.{baseRule}
@@ -18,10 +18,10 @@ use Rattle.chip.proofs.Kept.{command-keeps}
 use Rattle.chip.proofs.Accepted.{leaves}
 use Rattle.chip.proofs.Turns.{pop-done}
 use Rattle.records.proofs.Tests.{either-eq}
-use Rattle.pundaliket.specs.Bytes.{isState, stateOf, flagOf}
+use Rattle.pundaliket.specs.Bytes.{stateOf, flagOf}
 use Rattle.pundaliket.proofs.Calling.{false-true}
 use Rattle.promises.specs.Events.{Event, push, pop, command, read, reset, acknowledge, answerTo, after}
-use Rattle.promises.specs.Cores.{Core, Meets, Sendable, driven}
+use Rattle.promises.specs.Cores.{Sendable}
 use Rattle.promises.specs.Pending.{Gives, stateWith, movedSince, Odd, Bus, PendingByte, BusEvents}
 use Rattle.promises.proofs.Ready.{Ready, push-fair, pop-fair, read-fair, reset-fair, acknowledge-fair}
 use Rattle.promises.proofs.Keeping.{good-states, state-ready}

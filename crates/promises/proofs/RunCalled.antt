@@ -2,7 +2,7 @@
 use mathlib.Core.Path.{_≡_, refl, sym, ap, ap₂, subst, _∙_}
 use mathlib.Core.Bool.{Bool, true, false, cond}
 use mathlib.Core.List.{List, [], _∷_, _++_, append-assoc}
-use Prim.Native.Nat.{ℕ, _+_, _-_, _≤_, _<_}
+use Prim.Native.Nat.{ℕ, _+_, _-_, _<_}
 use native.Mathlib.Omega.{arith}
 use borrow.Author.Tests.{eq-eqb}
 use lib.Dec.{ltb}
@@ -17,7 +17,7 @@ use Rattle.records.proofs.Through.{tally}
 use Rattle.pundaliket.specs.Bytes.{isState, stateOf, flagOf, bytesOf}
 use Rattle.pundaliket.specs.Calls.{Called, ranOf, away, callOf}
 use Rattle.pundaliket.proofs.Calling.{good}
-use Rattle.promises.specs.Records.{joined, total, lengths, countAt}
+use Rattle.promises.specs.Records.{joined, total, lengths}
 use Rattle.promises.specs.RunCall.{StandsFor, Reports, RunCall, ReportsResult, StopsAgain}
 use Rattle.promises.proofs.Recorded.{counted, counts-exact}
 use Rattle.promises.proofs.Ready.{Ready, run-ready}

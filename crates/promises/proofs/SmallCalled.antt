@@ -1,7 +1,7 @@
 -- The event call and the conversions: each test of the call's definition goes the way that the premise says. Assumes nothing.
 use mathlib.Core.Path.{_≡_, refl, sym, ap, ap₂, _∙_}
 use mathlib.Core.Logic.{⊎-elim}
-use mathlib.Core.Bool.{Bool, true, false, not, cond}
+use mathlib.Core.Bool.{Bool, true, false, not}
 use mathlib.Core.List.{List, [], _∷_, _++_}
 use Prim.Native.Nat.{ℕ, _+_, _-_, _≤_, _<_}
 use native.Mathlib.Omega.{arith}
@@ -9,15 +9,13 @@ use borrow.Author.Tests.{lt-leb, eq-eqb, ne-eqb, eqb-true, eqb-false}
 use lib.Dec.{eqb, leb}
 use lib.ListN.{length, take, getD, length-append}
 use lib.Seq.{take-at, getD-append-add}
-use Rattle.terms.specs.Refusal.{numberOf}
 use Rattle.stack.specs.Stack.{zeros}
 use Rattle.chip.specs.declared.State.{State}
-use Rattle.chip.specs.declared.Answer.{Answer}
 use Rattle.chip.specs.Step.{done, pushOf, popOf, readOf, resetOf, acknowledgeOf}
 use Rattle.host.specs.declared.Reply.{Reply}
 use Rattle.records.proofs.Tests.{either-eq}
 use Rattle.pundaliket.specs.Bytes.{isState, stateOf, flagOf, bytesOf}
-use Rattle.pundaliket.specs.Calls.{Signal, signalBy, signalOf, eventOf, sentOf}
+use Rattle.pundaliket.specs.Calls.{signalOf, eventOf, sentOf}
 use Rattle.promises.specs.Host.{number, outward, inward}
 use Rattle.promises.specs.SmallCalls.{signalled, Parts, EventCall, Converts, ConversionCalls}
 use Rattle.promises.proofs.Keeping.{good-states}

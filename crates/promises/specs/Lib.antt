@@ -18,4 +18,5 @@ pub mod SmallCalls
 pub mod Pending
 pub mod EventFiles
 pub mod TwosComplement
+pub mod Listings
 pub mod WrongCores

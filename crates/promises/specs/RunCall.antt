@@ -1,8 +1,8 @@
 -- 01, 'Record files': the exported run over the run of a file, byte by byte, and the record at which a bad file stops, said of the call. Definitions and
 -- the statement only: proofs/RunCalled.antt proves it. Assumes nothing.
-use Prim.Native.Nat.{ℕ, _/_, _%_, _≤_, _<_}
+use Prim.Native.Nat.{ℕ, _/_, _%_, _≤_}
 use mathlib.Core.Path.{_≡_}
-use mathlib.Core.Bool.{Bool, true, cond}
+use mathlib.Core.Bool.{true, cond}
 use mathlib.Core.List.{List, [], _∷_, _++_}
 use lib.ListN.{length, drop, getD}
 use Rattle.stack.specs.Stack.{Bytes}

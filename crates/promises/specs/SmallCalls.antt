@@ -1,6 +1,6 @@
 -- 01, 'Record files': the exported event and the two exported conversions, number by number and byte by byte. Definitions and the statements only:
 -- proofs/SmallCalled.antt proves them. Assumes nothing.
-use Prim.Native.Nat.{ℕ, _-_, _*_, _/_, _%_, _≤_, _<_}
+use Prim.Native.Nat.{ℕ, _-_, _/_, _%_, _≤_, _<_}
 use mathlib.Core.Path.{_≡_}
 use mathlib.Core.Logic.{_⊎_}
 use mathlib.Core.Bool.{true, false}
