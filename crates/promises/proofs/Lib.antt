@@ -22,4 +22,5 @@ pub mod LastEnds
 pub mod FiledEvents
 pub mod Complements
 pub mod Listed
+pub mod Figured
 pub mod ShutOut

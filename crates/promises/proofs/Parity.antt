@@ -5,7 +5,7 @@ use mathlib.Core.Bool.{Bool, true, false, not}
 use mathlib.Core.List.{List, [], _∷_, _++_}
 use Prim.Native.Nat.{ℕ, suc, _%_, _≤_, _<_}
 use native.Mathlib.Omega.{arith}
-use borrow.Author.Tests.{lt-leb, eqb-true, eqb-false}
+use borrow.Author.Tests.{lt-leb, le-leb, eqb-true, eqb-false}
 use lib.Dec.{eqb}
 use lib.ListN.{take, getD}
 use Rattle.float.specs.Cut.{Rule}
@@ -23,6 +23,7 @@ use Rattle.pundaliket.proofs.Calling.{false-true}
 use Rattle.promises.specs.Events.{Event, push, pop, command, read, reset, acknowledge, answerTo, after}
 use Rattle.promises.specs.Cores.{Sendable}
 use Rattle.promises.specs.Pending.{Gives, stateWith, movedSince, Odd, Bus, PendingByte, BusEvents}
+use Rattle.promises.proofs.Refusing.{numbers}
 use Rattle.promises.proofs.Ready.{Ready, push-fair, pop-fair, read-fair, reset-fair, acknowledge-fair}
 use Rattle.promises.proofs.Keeping.{good-states, state-ready}
 use Rattle.promises.proofs.Driven.{past, leaves-good, cores}
@@ -94,6 +95,12 @@ module _ (rule : Rule) where
       let a = acknowledges (s .stack) (s .pending) (s .status) (s .service) (r .ready) in
       parity es ((acknowledgeOf s) .state) n (acknowledge-fair s r .left) (S .1) (subst (λ (p : Bool). Odd p n) (sym (flag-of a)) o)
 
+-- a busy state
+busies : (rule : Rule) (e : Event) (l : List ℕ) (p : Bool) (u : ℕ) (v : Bool) → 128 ≤ u → Gives (answerTo rule (stateWith l p u v) e) 13 0 l p u v
+busies rule e l p u v h =
+    let t = numbers rule .busy-state (stateWith l p u v) e (le-leb 128 u h) in
+    record { number = t .number; byte-read = t .byte; state = t .state }
+
 -- ---- the statement
 pub bus : (rule : Rule) → Bus rule
 bus rule = record {
@@ -102,6 +109,7 @@ bus rule = record {
   reset-leaves = λ l p u v h. resets l p u v h;
   acknowledge-leaves = λ l p u v h. acknowledges l p u v h;
   read-leaves = λ l p u v h. reads l p u v h;
+  busy-answers = λ e l p u v h. busies rule e l p u v h;
   half-pending = λ s n es S h sent o. parity rule es s n (record { stack = S; ready = h }) sent o;
 }
 

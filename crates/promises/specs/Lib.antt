@@ -19,4 +19,5 @@ pub mod Pending
 pub mod EventFiles
 pub mod TwosComplement
 pub mod Listings
+pub mod Figures
 pub mod WrongCores

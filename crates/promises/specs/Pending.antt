@@ -1,6 +1,6 @@
 -- 01, 'The stack': what a push, a pop, a reset, an acknowledge and a status read leave, written out, and when a half word is pending, over any events.
 -- Definitions and the statement only: proofs/Parity.antt proves it. Assumes nothing.
-use Prim.Native.Nat.{ℕ, suc, _%_, _<_}
+use Prim.Native.Nat.{ℕ, suc, _%_, _≤_, _<_}
 use mathlib.Core.Path.{_≡_}
 use mathlib.Core.Bool.{Bool, true, false, not}
 use mathlib.Core.List.{List, [], _∷_, _++_}
@@ -57,6 +57,8 @@ pub record Bus (rule : Rule) : Type 0 where
   -- a status read hands out the status, and nothing changes
   pub read-leaves : (l : List ℕ) (p : Bool) (u : ℕ) (v : Bool) → u < 128
       → Gives (answerTo rule (stateWith l p u v) read) 0 u l p u v
+  -- every event of a state whose busy bit is set: 13, no byte, and the state as it came
+  pub busy-answers : (e : Event) (l : List ℕ) (p : Bool) (u : ℕ) (v : Bool) → 128 ≤ u → Gives (answerTo rule (stateWith l p u v) e) 13 0 l p u v
   -- a half word is pending when pushes plus pops since reset are odd in number: over any events, refused ones among them, from a state reached by n
   pub half-pending : (s : State) (n : ℕ) (es : List Event) → IsStack (s .stack) → s .status < 128 → Sendable es → Odd (s .pending) n
       → Odd ((after rule s es) .pending) (movedSince n es)
