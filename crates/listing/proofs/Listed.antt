@@ -153,7 +153,7 @@ as-printed replies report n written refusal taken h a w r t =
     ∙ ap (λ (k : ℕ). listingOf (take (countAt report 5) replies) (getD report 0 0) k) t
 
 -- the two bytes of a number, read back
-two-bytes : (n : ℕ) → n % 256 + n / 256 * 256 ≡ n
+pub two-bytes : (n : ℕ) → n % 256 + n / 256 * 256 ≡ n
 two-bytes n = omega (arith, div-add-mod' n 256)
 
 -- a reply as 01 lays it out has its own line, with the record's kind, and the lines go on after it

@@ -5,6 +5,7 @@ use mathlib.Core.List.{List, [], _∷_}
 use Prim.Native.Nat.{ℕ, _+_, _*_, _-_, _≤_, _<_}
 use native.Mathlib.Omega.{arith}
 use borrow.Author.Tests.{lt-ltb, le-ltb, ne-eqb}
+use lib.Dec.{lit≤}
 use lib.ListN.{length, getD}
 use Rattle.terms.specs.declared.Refusal.{Refusal}
 use Rattle.terms.specs.declared.Refusal.the-variants.{NoSuchKind, CutShort, BadLength, NoRoom}
@@ -34,12 +35,20 @@ row-is l n k a b d e =
     whole l (omega arith) (omega arith) (omega arith) (omega arith) ∙ ap₂ (λ (i j : ℕ). rowOf i j (getD l 4 0)) b m
 
 -- ---- rows
+-- a kind that is none is none of the six
+pub none : (k : ℕ) → (k ≡ 0) ⊎ (6 < k) → (i : ℕ) → 1 ≤ i → i ≤ 6 → k ≡ i → ⊥
+none k h i a b e = ⊎-elim (λ z. omega arith) (λ z. omega arith) h
+
 other-kind : (k n first : ℕ) → (k ≡ 0) ⊎ (6 < k) → rowOf k n first ≡ Stop NoSuchKind
 other-kind k n first h =
-    ⊎-elim
-    (λ z. rw (ne-eqb k 1 (λ e. omega arith), ne-eqb k 2 (λ e. omega arith), ne-eqb k 3 (λ e. omega arith), ne-eqb k 4 (λ e. omega arith), ne-eqb k 5 (λ e. omega arith), ne-eqb k 6 (λ e. omega arith)))
-    (λ z. rw (ne-eqb k 1 (λ e. omega arith), ne-eqb k 2 (λ e. omega arith), ne-eqb k 3 (λ e. omega arith), ne-eqb k 4 (λ e. omega arith), ne-eqb k 5 (λ e. omega arith), ne-eqb k 6 (λ e. omega arith)))
-    h
+    rw (
+      ne-eqb k 1 (none k h 1 (lit≤ tt) (lit≤ tt)),
+      ne-eqb k 2 (none k h 2 (lit≤ tt) (lit≤ tt)),
+      ne-eqb k 3 (none k h 3 (lit≤ tt) (lit≤ tt)),
+      ne-eqb k 4 (none k h 4 (lit≤ tt) (lit≤ tt)),
+      ne-eqb k 5 (none k h 5 (lit≤ tt) (lit≤ tt)),
+      ne-eqb k 6 (none k h 6 (lit≤ tt) (lit≤ tt)),
+    )
 
 not-one : (n first : ℕ) → (n ≡ 1 → ⊥) → (rowOf 2 n first ≡ Stop BadLength) × (rowOf 3 n first ≡ Stop BadLength)
 not-one n first h = rw (ne-eqb n 1 h) (refl, refl)

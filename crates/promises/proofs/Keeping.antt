@@ -61,7 +61,7 @@ pub good-states : GoodStates
 good-states l = (stands l, λ h. sym (is-good l (h .size) (h .pending) (omega (arith, h .ready)) (h .service)))
 
 -- a flag's byte is the flag
-flag-back : (x : ℕ) → x ≤ 1 → flagOf (eqb x 1) ≡ x
+pub flag-back : (x : ℕ) → x ≤ 1 → flagOf (eqb x 1) ≡ x
 flag-back x h =
     either-eq (λ (n : ℕ). n ≡ x) x 1 1 0 (λ e. sym e) (λ n. omega arith)
 

@@ -21,7 +21,7 @@ use Rattle.pundaliket.specs.Calls.{Called, ranOf}
 use Rattle.pundaliket.proofs.Calling.{too-long, good}
 use Rattle.listing.specs.Text.{digit, spelled, decimal}
 use Rattle.listing.specs.Listing.{dataText, lineOf, endOf, replyKind, replyRefusal, replySize, replyData, linesUpTo, whole, linesOf, listingOf, printedOf}
-use Rattle.listing.proofs.Listed.{reply-listed}
+use Rattle.listing.proofs.Listed.{two-bytes, reply-listed}
 use Rattle.printout.specs.Printout.{callFor, printoutOf}
 use Rattle.promises.specs.Records.{joined, EachTaken, repliesOf, total, lengths}
 use Rattle.promises.specs.Listings.{valueOf, Digits, Decimal, hexText, recordLine, linesFor, lastLine, Listings}
@@ -122,10 +122,6 @@ spells (suc most) n h = pick (spells most (n / 10) (div-lt-iff-lt-mul {k = 10} {
     pick p false e = digit-more n (spelled most (n / 10)) (ltb-false n 10 e) p
 
 -- ---- the statement
--- the two bytes of a number, read back
-two-bytes : (n : ℕ) → n % 256 + n / 256 * 256 ≡ n
-two-bytes n = omega (arith, div-add-mod' n 256)
-
 read-back : (kind refusal : ℕ) (bytes rest : List ℕ)
     → (replyKind (replyOf kind refusal bytes ++ rest) ≡ kind) × (replyRefusal (replyOf kind refusal bytes ++ rest) ≡ refusal)
     × (replySize (replyOf kind refusal bytes ++ rest) ≡ 5 + length bytes) × (replyData (replyOf kind refusal bytes ++ rest) ≡ bytes)

@@ -1,41 +1,41 @@
 -- The event call and the conversions: each test of the call's definition goes the way that the premise says. Assumes nothing.
 use mathlib.Core.Path.{_≡_, refl, sym, ap, ap₂, _∙_}
-use mathlib.Core.Logic.{⊎-elim}
+use mathlib.Core.Logic.{_⊎_}
 use mathlib.Core.Bool.{Bool, true, false, not}
 use mathlib.Core.List.{List, [], _∷_, _++_}
 use Prim.Native.Nat.{ℕ, _+_, _-_, _≤_, _<_}
 use native.Mathlib.Omega.{arith}
 use borrow.Author.Tests.{lt-leb, eq-eqb, ne-eqb, eqb-true, eqb-false}
-use lib.Dec.{eqb, leb}
+use lib.Dec.{eqb, leb, lit≤}
 use lib.ListN.{length, take, getD, length-append}
 use lib.Seq.{take-at, getD-append-add}
 use Rattle.stack.specs.Stack.{zeros}
 use Rattle.chip.specs.declared.State.{State}
 use Rattle.chip.specs.Step.{done, pushOf, popOf, readOf, resetOf, acknowledgeOf}
 use Rattle.host.specs.declared.Reply.{Reply}
-use Rattle.records.proofs.Tests.{either-eq}
 use Rattle.pundaliket.specs.Bytes.{isState, stateOf, flagOf, bytesOf}
 use Rattle.pundaliket.specs.Calls.{signalOf, eventOf, sentOf}
 use Rattle.promises.specs.Host.{number, outward, inward}
 use Rattle.promises.specs.SmallCalls.{signalled, Parts, EventCall, Converts, ConversionCalls}
-use Rattle.promises.proofs.Keeping.{good-states}
+use Rattle.promises.proofs.Fronted.{none}
+use Rattle.promises.proofs.Keeping.{good-states, flag-back}
 
 -- ---- turned away
 bad-state : (state : List ℕ) (kind byte : ℕ) → isState state ≡ false → signalOf state kind byte ≡ signalled 3328 state
 unfolding signalOf
 bad-state state kind byte h = rw h
 
-bad-kind : (state : List ℕ) (kind byte : ℕ) → isState state ≡ true → ((k : ℕ) → 1 ≤ k → k ≤ 6 → kind ≡ k → ⊥) → signalOf state kind byte ≡ signalled 1280 state
+bad-kind : (state : List ℕ) (kind byte : ℕ) → isState state ≡ true → (kind ≡ 0) ⊎ (6 < kind) → signalOf state kind byte ≡ signalled 1280 state
 unfolding signalOf
 bad-kind state kind byte g h =
     rw (
       g,
-      ne-eqb kind 1 (h 1 (omega arith) (omega arith)),
-      ne-eqb kind 2 (h 2 (omega arith) (omega arith)),
-      ne-eqb kind 3 (h 3 (omega arith) (omega arith)),
-      ne-eqb kind 4 (h 4 (omega arith) (omega arith)),
-      ne-eqb kind 5 (h 5 (omega arith) (omega arith)),
-      ne-eqb kind 6 (h 6 (omega arith) (omega arith)),
+      ne-eqb kind 1 (none kind h 1 (lit≤ tt) (lit≤ tt)),
+      ne-eqb kind 2 (none kind h 2 (lit≤ tt) (lit≤ tt)),
+      ne-eqb kind 3 (none kind h 3 (lit≤ tt) (lit≤ tt)),
+      ne-eqb kind 4 (none kind h 4 (lit≤ tt) (lit≤ tt)),
+      ne-eqb kind 5 (none kind h 5 (lit≤ tt) (lit≤ tt)),
+      ne-eqb kind 6 (none kind h 6 (lit≤ tt) (lit≤ tt)),
     )
 
 -- neither a push nor a command
@@ -44,10 +44,7 @@ unfolding signalOf
 byte-ignored state kind byte other a b = rw (ne-eqb kind 1 a, ne-eqb kind 3 b)
 
 -- ---- done
--- a flag as a byte is the byte, and the flag turned is 1 less the byte
-flag-back : (x : ℕ) → x ≤ 1 → flagOf (eqb x 1) ≡ x
-flag-back x h = either-eq (λ (n : ℕ). n ≡ x) x 1 1 0 (λ e. sym e) (λ n. omega arith)
-
+-- a flag turned is 1 less its byte
 flag-turned : (x : ℕ) → x ≤ 1 → flagOf (not (eqb x 1)) ≡ 1 - x
 flag-turned x h = by (eqb x 1) refl
   where
@@ -117,7 +114,7 @@ pops b l p u v h = rw (lt-leb 128 u h)
 pub event-call : EventCall
 event-call = record {
   bad-state = λ state kind byte h. bad-state state kind byte h;
-  bad-kind = λ state kind byte g h. bad-kind state kind byte g (λ k a b e. ⊎-elim (λ z. omega arith) (λ z. omega arith) h);
+  bad-kind = λ state kind byte g h. bad-kind state kind byte g h;
   byte-ignored = λ state kind byte other a b. byte-ignored state kind byte other a b;
   push-call = λ b l p u v P. signals l p u v P 1 b 0 _ (pushes l p u v P b) ∙ ap (signalled 0) (turned l p u v P (b ∷ take 15 l));
   pop-call = λ b byte l p u v P. signals (b ∷ l) p u v P 2 byte b _ (pops b l p u v (P .ready)) ∙ ap (signalled b) (turned (b ∷ l) p u v P (l ++ (b ∷ [])));
