@@ -98,7 +98,7 @@ module _ (h b a : ℕ) (W : Words h b a) where
   some : 0 < 2 * h
   some = let p = W .some in omega arith
 
-  sum-is : xadd h b a ≡ outcome ((b + a) % (2 * h)) (overflow (not (fits h (signed h b +ℤ signed h a)))) (leb (2 * h) (b + a))
+  pub sum-is : xadd h b a ≡ outcome ((b + a) % (2 * h)) (overflow (not (fits h (signed h b +ℤ signed h a)))) (leb (2 * h) (b + a))
   unfolding xadd
   sum-is = ap (λ (x : ℕ). outcome x (overflow (not (fits h (signed h b +ℤ signed h a)))) (leb (2 * h) (b + a))) (sym (sum-low h b a ((b + a) % (2 * h)) W refl))
 
@@ -128,7 +128,7 @@ module _ (h b a : ℕ) (W : Words h b a) where
   difference-low : (b + 2 * h - a) % (2 * h) ≡ low h (signed h b -ℤ signed h a)
   difference-low = diff-low h b a ((b + 2 * h - a) % (2 * h)) W (mod-lt (b + 2 * h - a) some) back
 
-  difference-is : xsub h b a ≡ outcome ((b + 2 * h - a) % (2 * h)) (overflow (eqb a h || not (fits h (signed h b -ℤ signed h a)))) (ltb b a)
+  pub difference-is : xsub h b a ≡ outcome ((b + 2 * h - a) % (2 * h)) (overflow (eqb a h || not (fits h (signed h b -ℤ signed h a)))) (ltb b a)
   unfolding xsub
   difference-is = ap (λ (x : ℕ). outcome x (overflow (eqb a h || not (fits h (signed h b -ℤ signed h a)))) (ltb b a)) (sym difference-low)
 

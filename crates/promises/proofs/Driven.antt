@@ -51,10 +51,10 @@ module _ (s : State) (G : Good s) where
   flags = flagOf (s .pending) ∷ s .status ∷ flagOf (s .service) ∷ []
 
   -- the byte at a place past the 16 of the stack
-  past : (i : ℕ) → getD (stateBytes s) (16 + i) 0 ≡ getD (flagOf (s .pending) ∷ s .status ∷ flagOf (s .service) ∷ []) i 0
+  pub past : (i : ℕ) → getD (stateBytes s) (16 + i) 0 ≡ getD (flagOf (s .pending) ∷ s .status ∷ flagOf (s .service) ∷ []) i 0
   past i = ap (λ (n : ℕ). getD (stateBytes s) (n + i) 0) (sym (G .stack .sixteen)) ∙ getD-append-add (s .stack) flags i 0
 
-  reads-back : stateOf (stateBytes s) ≡ s
+  pub reads-back : stateOf (stateBytes s) ≡ s
   reads-back =
       let p : eqb (getD (stateBytes s) 16 0) 1 ≡ s .pending = ap (λ (n : ℕ). eqb n 1) (past 0) ∙ flag-reads (s .pending) in
       let v : eqb (getD (stateBytes s) 18 0) 1 ≡ s .service = ap (λ (n : ℕ). eqb n 1) (past 2) ∙ flag-reads (s .service) in
@@ -104,7 +104,7 @@ keeps s read = read-keeps s
 keeps s reset = reset-keeps s
 keeps s acknowledge = acknowledge-keeps s
 
-leaves-good : (s : State) (e : Event) → Good s → byteOf e < 256 → Good ((answerTo baseRule s e) .state)
+pub leaves-good : (s : State) (e : Event) → Good s → byteOf e < 256 → Good ((answerTo baseRule s e) .state)
 leaves-good s (push b) G h = push-fair s G b h .left
 leaves-good s pop G h = pop-fair s G .left
 leaves-good s (command k) G h = command-fair s k G .left
@@ -177,7 +177,7 @@ chain-sendable sr (k ∷ ks) =
     sendable-append (eventsOf sr k) (chainOf (λ (n : ℕ). sr (commandsIn k + n)) ks) (step-sendable sr k) (chain-sendable (λ (n : ℕ). sr (commandsIn k + n)) ks)
 
 -- events that read no byte: what is answered 0 returns 0
-push-byte : (s : State) (b : ℕ) → (pushOf s b) .byte ≡ 0
+pub push-byte : (s : State) (b : ℕ) → (pushOf s b) .byte ≡ 0
 unfolding pushOf
 push-byte s b = go (busy s)
   where
@@ -185,7 +185,7 @@ push-byte s b = go (busy s)
     go true = refl
     go false = refl
 
-command-byte : (s : State) (code : ℕ) → (commandOf s code) .byte ≡ 0
+pub command-byte : (s : State) (code : ℕ) → (commandOf s code) .byte ≡ 0
 command-byte s code = go (command-keeps baseRule s code)
   where
     go : Keeps s (commandOf s code) → (commandOf s code) .byte ≡ 0
@@ -270,7 +270,7 @@ starts state w sr B = record {
   proper = B .proper;
 }
 
-sent : (w : ℕ) (sr : ℕ → Bool) (ks : List Step) → Sendable (runOf w sr ks)
+pub sent : (w : ℕ) (sr : ℕ → Bool) (ks : List Step) → Sendable (runOf w sr ks)
 sent w sr ks = sendable-append (pushesOf 4 w) (chainOf sr ks) (pushes-sendable 4 w) (chain-sendable sr ks)
 
 module _ (c : Core) (M : Meets c) where

@@ -65,7 +65,7 @@ pub good-states : GoodStates
 good-states l = (stands l, λ h. sym (is-good l (h .size) (h .pending) (omega (arith, h .ready)) (h .service)))
 
 -- a flag's byte is the flag
-flag-back : (x : ℕ) → x ≤ 1 → flagOf (eqb x 1) ≡ x
+pub flag-back : (x : ℕ) → x ≤ 1 → flagOf (eqb x 1) ≡ x
 flag-back x h =
     either-eq (λ (n : ℕ). n ≡ x) x 1 1 0 (λ e. sym e) (λ n. omega arith)
 
@@ -96,10 +96,10 @@ out-kept reply out =
 
 -- either it is turned away with a refusal and leaves state and replies, or it is a run
 module _ (state input replies report : List ℕ) where
-  abbrev Away : Called → Type 0
+  abbrev pub Away : Called → Type 0
   Away c = (0 < c .result) × (c .state ≡ state) × (c .replies ≡ replies)
 
-  calls : (P : Called → Type 0) → ((c : Called) → Away c → P c)
+  pub calls : (P : Called → Type 0) → ((c : Called) → Away c → P c)
       → (length report ≡ 9 → isState state ≡ true → length input ≤ 12288 → P (ranOf (runOf (stateOf state) input (length replies)) replies))
       → P (callOf state input replies report)
   unfolding callOf

@@ -13,4 +13,13 @@ pub mod Rooted
 pub mod Chained
 pub mod ChainExamples
 pub mod Driven
+pub mod Fronted
+pub mod RunCalled
+pub mod SmallCalled
+pub mod Parity
+pub mod LastEnds
+pub mod FiledEvents
+pub mod Complements
+pub mod Listed
+pub mod Figured
 pub mod ShutOut

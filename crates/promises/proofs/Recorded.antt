@@ -144,11 +144,11 @@ acknowledge-record = acknowledge-alone
 -- ---- refusals in replies
 
 -- what a record of an event leaves, taken alone
-abbrev recorded : State → List ℕ → Event → Outcome
+abbrev pub recorded : State → List ℕ → Event → Outcome
 recorded s r e =
     took (answerOf s (drop 4 r) e .state) (4 + payloadOf e) (replyOf (kindOf e) (numberOf (answerOf s (drop 4 r) e .refusal)) (dataOf s e))
 
-record-run : (s : State) (r : List ℕ) (room : ℕ) (one : IsRecord r) → runOf s r room .refusal ≡ 0 → runOf s r room ≡ recorded s r (one .event)
+pub record-run : (s : State) (r : List ℕ) (room : ℕ) (one : IsRecord r) → runOf s r room .refusal ≡ 0 → runOf s r room ≡ recorded s r (one .event)
 record-run s r room one z =
     either-lt (λ (n : ℕ). runOf s r room ≡ recorded s r (one .event)) room (5 + answeredOf (one .event)) 0 0
     (λ g.

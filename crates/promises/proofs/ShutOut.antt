@@ -14,7 +14,7 @@ use Rattle.stack.specs.Stack.{Bytes, zeros}
 use Rattle.chip.specs.Step.{pushOf, resetOf}
 use Rattle.host.specs.Host.{hostOf, takenOf}
 use Rattle.files.specs.Run.{run, runBy}
-use Rattle.records.specs.declared.head.Event.the-variants.{Push}
+use Rattle.records.specs.declared.head.Event.the-variants.{Push, Reset}
 use Rattle.records.specs.Record.{headOf, turnOf}
 use Rattle.stored.specs.Bytes.{isState}
 use Rattle.pundaliket.specs.Calls.{callOf, signalOf, sentOf}
@@ -22,7 +22,7 @@ use Rattle.pundaliket.proofs.Calling.{bad-state, too-long}
 use Rattle.promises.specs.Chains.{Change}
 use Rattle.promises.specs.Records.{IsRecord, countAt}
 use Rattle.promises.specs.Cores.{Core, Meets, driven, Begins, runOf}
-use Rattle.promises.specs.WrongCores.{No, RefusesEverything, never-run, never-event, never-float, never-word, SingleReply, same-run, same-event, same-float, same-word, DoesNothing, back-state, back-replies, back-report, back-event, back-float, back-word, FirstRecordOnly, first-state, first-replies, InventedCounts, wrong-taken, wrong-written, wrong-away, ZeroChains, fresh, nine, first, second, Tells, WrongCores}
+use Rattle.promises.specs.WrongCores.{No, RefusesEverything, never-run, never-event, never-float, never-word, SingleReply, same-run, same-event, same-float, same-word, SameReplies, DoesNothing, back-state, back-replies, back-report, back-event, back-float, back-word, FirstRecordOnly, first-state, first-replies, InventedCounts, wrong-taken, wrong-written, wrong-away, ZeroChains, fresh, nine, first, second, fresher, Tells, WrongCores}
 use Rattle.promises.proofs.Recorded.{counts-exact}
 use Rattle.promises.proofs.Hosted.{float-comes-back}
 use Rattle.promises.proofs.Events.{both}
@@ -52,6 +52,9 @@ ten-bytes = bytes-in (zeros 10) (unfold isBytes in refl)
 
 first-bytes : Bytes first
 first-bytes = bytes-in first (unfold isBytes in refl)
+
+fresher-bytes : Bytes fresher
+fresher-bytes = bytes-in fresher (unfold isBytes in refl)
 
 second-bytes : Bytes second
 second-bytes = bytes-in second (unfold isBytes in refl)
@@ -90,6 +93,7 @@ tells c M = record {
   one-state = M .run fresh first (zeros 10) nine fresh-bytes first-bytes ten-bytes nine-bytes .state-is;
   one-replies = M .run fresh first (zeros 10) nine fresh-bytes first-bytes ten-bytes nine-bytes .replies-is;
   one-report = M .run fresh first (zeros 10) nine fresh-bytes first-bytes ten-bytes nine-bytes .report-is;
+  reset-replies = M .run fresh fresher (zeros 10) nine fresh-bytes fresher-bytes ten-bytes nine-bytes .replies-is;
   two-state = M .run fresh (first ++ second) (zeros 10) nine fresh-bytes two-bytes ten-bytes nine-bytes .state-is;
   two-replies = M .run fresh (first ++ second) (zeros 10) nine fresh-bytes two-bytes ten-bytes nine-bytes .replies-is;
   two-report = M .run fresh (first ++ second) (zeros 10) nine fresh-bytes two-bytes ten-bytes nine-bytes .report-is;
@@ -143,6 +147,18 @@ one-record = record {
   size = refl;
 }
 
+-- and so is the one that resets
+reset-record : IsRecord fresher
+reset-record = record {
+  event = Reset;
+  held = record { length-is = refl; kind-is = refl; there = lit≤ tt; small = lit≤ tt; carried = tt };
+  size = refl;
+}
+
+same-replies : No SameReplies
+same-replies c M f =
+    apart 129 133 2 (sym (tells c M .one-replies) ∙ f fresh first fresher (zeros 10) nine one-record reset-record fresh-bytes first-bytes fresher-bytes ten-bytes nine-bytes ∙ tells c M .reset-replies) refl refl (λ e. omega (arith, e))
+
 first-record-only : No FirstRecordOnly
 first-record-only c M (first-state f) =
     apart 0xaa 0x55 0 (sym (tells c M .two-state) ∙ f fresh first second (zeros 10) nine one-record fresh-bytes first-bytes second-bytes ten-bytes nine-bytes ∙ tells c M .one-state) refl refl (λ e. omega (arith, e))
@@ -184,6 +200,7 @@ wrong-cores = record {
   tells = tells;
   refuses-everything = refuses-everything;
   single-reply = single-reply;
+  same-replies = same-replies;
   does-nothing = does-nothing;
   first-record-only = first-record-only;
   invented-counts = invented-counts;

@@ -1,14 +1,20 @@
 -- A word goes in and comes out by its own bytes: the laws of the chip's turns, and that each byte turns pending. Assumes nothing.
-use mathlib.Core.Path.{_≡_, refl, ap, _∙_}
+use mathlib.Core.Path.{_≡_, refl, sym, ap, ap₂, subst, _∙_}
 use mathlib.Core.Bool.{Bool, true, false, not, cond}
-use mathlib.Core.List.{List, _++_}
-use Prim.Native.Nat.{ℕ, _-_, _%_, _<_}
+use mathlib.Core.List.{List, [], _∷_, _++_, append-assoc, append-nil}
+use Prim.Native.Nat.{ℕ, zero, suc, _+_, _-_, _*_, _/_, _%_, _^_, _<_}
+use native.Mathlib.Nat.{add-zero, zero-add, add-suc, suc-add}
+use native.Mathlib.Omega.{arith}
 use borrow.Author.Tests.{leb-false}
-use lib.ListN.{take}
+use lib.ListN.{length, take, drop, length-drop, take-append-drop}
+use lib.Seq.{length-take-le}
 use Rattle.terms.specs.declared.Refusal.the-variants.{Done, HalfWord}
+use Rattle.terms.specs.declared.Width.{Width}
+use Rattle.terms.specs.declared.Width.the-variants.{Single, Double}
 use Rattle.terms.specs.Width.{sizeOf}
 use Rattle.float.specs.Cut.{Rule}
-use Rattle.stack.specs.Stack.{bytesOf, pushed, popped}
+use Rattle.stack.specs.Stack.{numberFrom, bytesOf, Bytes, pushed, popped}
+use Rattle.stack.proofs.Words.{bytes-take, bytes-drop, number-below}
 use Rattle.codes.specs.declared.Command.{Command}
 use Rattle.codes.specs.declared.Kind.the-variants.{Known}
 use Rattle.codes.specs.Codes.{kindOf}
@@ -20,7 +26,7 @@ use Rattle.chip.specs.Step.{refused, carried, commandUnder}
 use Rattle.chip.proofs.Accepted.{accepted}
 use Rattle.chip.proofs.Turns.{push-done, pop-done, word-pushed, word-popped, result-popped}
 use Rattle.promises.specs.Events.{Event, after}
-use Rattle.promises.specs.WholeWords.{Moves, none, pushing, popping, odd, Whole, WholeWords}
+use Rattle.promises.specs.WholeWords.{Moves, none, pushing, popping, odd, Whole, WholeWords, wordsOf, EachBelow, StackOfWords}
 
 -- one turn more
 once : (o q : Bool) → cond o (not (not q)) (not q) ≡ cond (not o) (not q) q
@@ -65,3 +71,47 @@ whole rule = record {
 
 pub whole-words : WholeWords
 whole-words = whole baseRule
+
+-- ---- every 16 bytes are words
+-- bytes are those of the number that they stand for, after the bytes of the number before them
+spelled : (l : List ℕ) → Bytes l → (n x : ℕ) → bytesOf (n + length l) (numberFrom x l) ≡ bytesOf n x ++ l
+spelled [] h n x = ap (λ (k : ℕ). bytesOf k x) (add-zero n) ∙ sym (append-nil (bytesOf n x))
+spelled (b ∷ l) h n x =
+    let small = h .0 in
+    let up : (x * 256 + b) / 256 ≡ x = omega arith in
+    let low : (x * 256 + b) % 256 ≡ b = omega arith in
+    ap (λ (k : ℕ). bytesOf k (numberFrom (x * 256 + b) l)) (add-suc n (length l) ∙ sym (suc-add n (length l)))
+    ∙ spelled l (h .1) (suc n) (x * 256 + b)
+    ∙ ap₂ (λ (y z : ℕ). (bytesOf n y ++ (z ∷ [])) ++ l) up low
+    ∙ append-assoc (bytesOf n x) (b ∷ []) l
+
+-- k words of n bytes each
+record Split (k n : ℕ) (w : Width) (l : List ℕ) : Type 0 where
+  words : List ℕ
+  number : length words ≡ k
+  each : EachBelow (256 ^ n) words
+  laid : l ≡ wordsOf w words
+
+splits : (k : ℕ) (w : Width) (l : List ℕ) → Bytes l → length l ≡ k * sizeOf w → Split k (sizeOf w) w l
+splits zero w l B h = record { words = []; number = refl; each = tt; laid = nothing l (omega arith) }
+  where
+    nothing : (m : List ℕ) → length m ≡ 0 → m ≡ []
+    nothing [] e = refl
+    nothing (x ∷ m) e = absurd (omega arith)
+splits (suc k) w l B h =
+    let n = sizeOf w in
+    let a = take n l in
+    let size : length a ≡ n = length-take-le n l (omega arith) in
+    let len = length-drop n l in
+    let more = splits k w (drop n l) (bytes-drop n l B) (omega arith) in
+    let top : bytesOf n (numberFrom 0 a) ≡ a = ap (λ (m : ℕ). bytesOf m (numberFrom 0 a)) (sym size ∙ sym (zero-add (length a))) ∙ spelled a (bytes-take n l B) 0 0 in
+    record {
+      words = numberFrom 0 a ∷ more .words;
+      number = ap suc (more .number);
+      each = (subst (λ (m : ℕ). numberFrom 0 a < 256 ^ m) size (number-below a (bytes-take n l B)), more .each);
+      laid = sym (take-append-drop n l) ∙ ap₂ (λ (x y : List ℕ). x ++ y) (sym top) (more .laid);
+    }
+
+pub stack-of-words : StackOfWords
+stack-of-words Single l S = let p = splits 8 Single l (S .bytes) (S .sixteen) in record { words = p .words; number = p .number; each = p .each; laid = p .laid }
+stack-of-words Double l S = let p = splits 4 Double l (S .bytes) (S .sixteen) in record { words = p .words; number = p .number; each = p .each; laid = p .laid }

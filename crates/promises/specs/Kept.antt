@@ -126,3 +126,10 @@ abbrev pub CutFile : Type 0
 CutFile =
     (state input replies report : List ℕ) → callOf state input replies report .result ≡ 0 → (k : ℕ) → k ≤ length input
     → (n : ℕ) × CutCall (callOf state (take k input) replies report) (callOf state (take n input) replies report) k n
+
+-- and n is the last record end at or below k: no longer front of the file, up to k, ends with 0
+abbrev pub LastEnd : Type 0
+LastEnd =
+    (state input replies report : List ℕ) → callOf state input replies report .result ≡ 0 → (k n : ℕ) → k ≤ length input
+    → CutCall (callOf state (take k input) replies report) (callOf state (take n input) replies report) k n
+    → (m : ℕ) → m ≤ k → callOf state (take m input) replies report .result ≡ 0 → m ≤ n

@@ -12,4 +12,12 @@ pub mod Bench
 pub mod Roots
 pub mod Chains
 pub mod Cores
+pub mod Fronts
+pub mod RunCall
+pub mod SmallCalls
+pub mod Pending
+pub mod EventFiles
+pub mod TwosComplement
+pub mod Listings
+pub mod Figures
 pub mod WrongCores

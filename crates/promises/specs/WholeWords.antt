@@ -1,12 +1,13 @@
 -- The order's own fear, a word joined from two units: by which bytes a word goes in and comes out. Definitions and the statement only:
 -- proofs/Whole.antt proves it. Assumes nothing.
-use Prim.Native.Nat.{ℕ, zero, suc, _-_, _%_}
+use Prim.Native.Nat.{ℕ, zero, suc, _-_, _%_, _<_}
 use mathlib.Core.Path.{_≡_}
 use mathlib.Core.Bool.{Bool, true, false, not}
 use mathlib.Core.List.{List, [], _∷_, _++_}
 use lib.ListN.{length, take}
 use Rattle.terms.specs.declared.Refusal.the-variants.{Done, HalfWord}
 use Rattle.terms.specs.declared.Width.{Width}
+use Rattle.terms.specs.declared.Width.the-variants.{Single, Double}
 use Rattle.terms.specs.Width.{sizeOf}
 use Rattle.float.specs.Cut.{Rule}
 use Rattle.stack.specs.Stack.{IsStack, bytesOf, lowFirst, topByte, pushed, popped}
@@ -53,3 +54,32 @@ pub record Whole (rule : Rule) : Type 0 where
 -- of the chip as it stands
 abbrev pub WholeWords : Type 0
 WholeWords = Whole baseRule
+
+-- ---- every 16 bytes are words, in the sense of the rows of 01's tables
+-- words of a width, each over the next
+abbrev pub wordsOf : Width → List ℕ → List ℕ
+wordsOf w [] = []
+wordsOf w (x ∷ xs) = bytesOf (sizeOf w) x ++ wordsOf w xs
+
+-- each is one of 2^n
+abbrev pub EachBelow : ℕ → List ℕ → Type 0
+EachBelow most [] = Unit
+EachBelow most (x ∷ xs) = (x < most) × EachBelow most xs
+
+-- eight of 16 bits, or four of 32
+abbrev pub cells : Width → ℕ
+cells Single = 8
+cells Double = 4
+
+abbrev pub limit : Width → ℕ
+limit Single = 65536
+limit Double = 4294967296
+
+pub record Read (w : Width) (l : List ℕ) : Type 0 where
+  pub words : List ℕ
+  pub number : length words ≡ cells w
+  pub each : EachBelow (limit w) words
+  pub laid : l ≡ wordsOf w words
+
+abbrev pub StackOfWords : Type 0
+StackOfWords = (w : Width) (l : List ℕ) → IsStack l → Read w l

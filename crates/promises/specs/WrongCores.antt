@@ -32,6 +32,12 @@ pub data SingleReply (c : Core) : Type 0 where
   same-float : (n : ℕ) → ((word : ℕ) (out : List ℕ) → word < 2 ^ 32 → Bytes out → (c .word-to-f32 word out) .result ≡ n) → SingleReply c
   same-word : (n : ℕ) → ((bits : ℕ) (out : List ℕ) → bits < 2 ^ 32 → Bytes out → (c .f32-to-word bits out) .result ≡ n) → SingleReply c
 
+-- and a run that writes the same replies for every file of one record
+abbrev pub SameReplies : Core → Type 0
+SameReplies c =
+    (state r r' replies report : List ℕ) → IsRecord r → IsRecord r' → Bytes state → Bytes r → Bytes r' → Bytes replies → Bytes report
+    → (c .run state r replies report) .replies ≡ (c .run state r' replies report) .replies
+
 -- ---- (c) does nothing: one of its slices always comes back as it was lent
 pub data DoesNothing (c : Core) : Type 0 where
   back-state : ((state input replies report : List ℕ) → Bytes state → Bytes input → Bytes replies → Bytes report → (c .run state input replies report) .state ≡ state) → DoesNothing c
@@ -80,6 +86,10 @@ first = 3 ∷ 0 ∷ 1 ∷ 0 ∷ 0x55 ∷ []
 abbrev pub second : List ℕ
 second = 3 ∷ 0 ∷ 1 ∷ 0 ∷ 0xaa ∷ []
 
+-- a record that resets
+abbrev pub fresher : List ℕ
+fresher = 2 ∷ 0 ∷ 5 ∷ 0 ∷ []
+
 -- what every core that meets the promises does with them
 pub record Tells (c : Core) : Type 0 where
   -- (a), (b): each call answers 0 to one input and another number to another
@@ -95,6 +105,7 @@ pub record Tells (c : Core) : Type 0 where
   pub one-state : (c .run fresh first (zeros 10) nine) .state ≡ 0x55 ∷ zeros 15 ++ (1 ∷ 0 ∷ 0 ∷ [])
   pub one-replies : (c .run fresh first (zeros 10) nine) .replies ≡ 3 ∷ 0 ∷ 129 ∷ 0 ∷ 0 ∷ zeros 5
   pub one-report : (c .run fresh first (zeros 10) nine) .report ≡ 0 ∷ 5 ∷ 0 ∷ 0 ∷ 0 ∷ 5 ∷ 0 ∷ 0 ∷ 0 ∷ []
+  pub reset-replies : (c .run fresh fresher (zeros 10) nine) .replies ≡ 3 ∷ 0 ∷ 133 ∷ 0 ∷ 0 ∷ zeros 5
   pub two-state : (c .run fresh (first ++ second) (zeros 10) nine) .state ≡ 0xaa ∷ 0x55 ∷ zeros 14 ++ (0 ∷ 0 ∷ 0 ∷ [])
   pub two-replies : (c .run fresh (first ++ second) (zeros 10) nine) .replies ≡ 3 ∷ 0 ∷ 129 ∷ 0 ∷ 0 ∷ 3 ∷ 0 ∷ 129 ∷ 0 ∷ 0 ∷ []
   pub two-report : (c .run fresh (first ++ second) (zeros 10) nine) .report ≡ 0 ∷ 10 ∷ 0 ∷ 0 ∷ 0 ∷ 10 ∷ 0 ∷ 0 ∷ 0 ∷ []
@@ -113,6 +124,7 @@ pub record WrongCores : Type 0 where
   -- so that none of these does
   pub refuses-everything : No RefusesEverything
   pub single-reply : No SingleReply
+  pub same-replies : No SameReplies
   pub does-nothing : No DoesNothing
   pub first-record-only : No FirstRecordOnly
   pub invented-counts : No InventedCounts

@@ -1,0 +1,147 @@
+-- The listing of every input: the report's counts give back what the run wrote and took, each reply of a record taken has the record's own line, and the
+-- lines follow one another. Assumes nothing.
+use mathlib.Core.Path.{_≡_, refl, sym, ap, ap₂, subst, _∙_}
+use mathlib.Core.Bool.{Bool, true, false, cond}
+use mathlib.Core.List.{List, [], _∷_, _++_}
+use Prim.Native.Nat.{ℕ, zero, suc, _+_, _*_, _-_, _/_, _%_, _^_, _≤_, _<_}
+use native.Mathlib.Nat.{div-lt-iff-lt-mul, div-add-mod', mod-lt, pow-suc}
+use native.Mathlib.Omega.{arith}
+use borrow.Author.Tests.{ltb-true, ltb-false, lt-ltb}
+use lib.Dec.{ltb, lit<}
+use lib.ListN.{length, take, drop, getD, replicate, length-replicate}
+use lib.Seq.{take-append-seam}
+use Rattle.terms.specs.Refusal.{numberOf}
+use Rattle.chip.specs.declared.State.{State}
+use Rattle.chip.specs.State.{resetState}
+use Rattle.records.specs.Record.{kindOf, answerOf, dataOf, replyOf}
+use Rattle.records.specs.Run.{Outcome, runOf}
+use Rattle.files.proofs.Through.{tally}
+use Rattle.stored.specs.Bytes.{isState}
+use Rattle.pundaliket.specs.Calls.{Called, ranOf}
+use Rattle.pundaliket.proofs.Calling.{too-long, good}
+use Rattle.listing.specs.Text.{digit, spelled, decimal}
+use Rattle.listing.specs.Listing.{dataText, lineOf, endOf, replyKind, replyRefusal, replySize, replyData, linesUpTo, whole, linesOf, listingOf, printedOf}
+use Rattle.little.proofs.Exact.{two-bytes}
+use Rattle.listing.proofs.Listed.{reply-listed}
+use Rattle.printout.specs.Printout.{callFor, printoutOf}
+use Rattle.promises.specs.Records.{joined, EachTaken, repliesOf, total, lengths}
+use Rattle.promises.specs.Listings.{valueOf, Digits, Decimal, hexText, recordLine, linesFor, lastLine, Listings}
+use Rattle.promises.proofs.Recorded.{record-run}
+use Rattle.little.proofs.Exact.{le4-exact}
+use Rattle.records.proofs.Prefix.{lawful}
+
+-- ---- the lines of the records
+data-same : (bytes : List ℕ) → dataText bytes ≡ hexText bytes
+data-same [] = refl
+data-same (b ∷ bs) = ap (λ (t : List ℕ). 32 ∷ digit (b / 16) ∷ digit (b % 16) ∷ t) (data-same bs)
+
+lines-are : (rs : List (List ℕ)) (s : State) (room number : ℕ) → EachTaken s rs room → linesOf number (joined (repliesOf s rs room)) ≡ linesFor number s rs room
+unfolding linesUpTo
+lines-are [] s room number h = refl
+lines-are (r ∷ rs) s room number h =
+    let o = runOf s r room in
+    let one = h .0 in
+    let e = one .event in
+    let n = numberOf (answerOf s (drop 4 r) e .refusal) in
+    let w : o .written ≡ replyOf (kindOf e) n (dataOf s e) = ap (λ (p : Outcome). p .written) (record-run s r room one (h .1)) in
+    let more = joined (repliesOf (o .state) rs (room - length (o .written))) in
+    ap (λ (l : List ℕ). linesOf number (l ++ more)) w
+    ∙ reply-listed number (kindOf e) n (dataOf s e) more
+    ∙ ap₂ (λ (x y : List ℕ). x ++ y) (line r (kindOf e) n (dataOf s e) (o .written) (one .held .kind-is) w) (lines-are rs (o .state) (room - length (o .written)) (number + 1) (h .2))
+  where
+    line : (r : List ℕ) (kind n : ℕ) (bytes reply : List ℕ) → getD r 2 0 + getD r 3 0 * 256 ≡ kind → reply ≡ replyOf kind n bytes → lineOf number kind n bytes ≡ recordLine number r reply
+    line r kind n bytes reply k w =
+        ap (λ (t : List ℕ). decimal number ++ ((32 ∷ decimal kind) ++ ((32 ∷ decimal n) ++ (t ++ (10 ∷ []))))) (data-same bytes)
+        ∙ ap₂ (λ (x : ℕ) (l : List ℕ). decimal number ++ ((32 ∷ decimal x) ++ ((32 ∷ decimal (getD l 4 0)) ++ (hexText (drop 5 l) ++ (10 ∷ []))))) (sym k) (sym w)
+
+-- ---- the call, and what is printed of it
+count-back : (n : ℕ) → n < 4294967296 → n % 256 + n / 256 % 256 * 256 + n / 65536 % 256 * 65536 + n / 16777216 % 256 * 16777216 ≡ n
+count-back n h = omega (arith, le4-exact n h)
+
+fresh-good : isState (replicate 19 0) ≡ true
+unfolding isState
+fresh-good = refl
+
+module _ (input : List ℕ) where
+  call-is : length input ≤ 12288 → callFor input ≡ ranOf (runOf resetState input 65536) (replicate 65536 0)
+  call-is h =
+      good (replicate 19 0) input (replicate 65536 0) (replicate 9 0) refl fresh-good h
+      ∙ ap (λ (n : ℕ). ranOf (runOf resetState input n) (replicate 65536 0)) (length-replicate {A = ℕ} 65536 0)
+
+  text-is : length input ≤ 12288 → printoutOf input ≡ linesOf 1 (runOf resetState input 65536 .written) ++ endOf (runOf resetState input 65536 .refusal) (runOf resetState input 65536 .taken)
+  text-is h =
+      let o = runOf resetState input 65536 in
+      let t = tally lawful resetState input 65536 in
+      let i = t .in-file in
+      let f = t .few in
+      let w = o .written in
+      ap (λ (c : Called). printedOf (c .replies) (c .report)) (call-is h)
+      ∙ ap₂ (λ (m n : ℕ). listingOf (take m (w ++ drop (length w) (replicate 65536 0))) (o .refusal) n) (count-back (length w) (omega arith)) (count-back (o .taken) (omega arith))
+      ∙ ap (λ (l : List ℕ). listingOf l (o .refusal) (o .taken)) (take-append-seam w (drop (length w) (replicate 65536 0)))
+
+  long-is : 12288 < length input → printoutOf input ≡ 101 ∷ 110 ∷ 100 ∷ 32 ∷ 57 ∷ 32 ∷ 48 ∷ 10 ∷ []
+  unfolding linesUpTo whole spelled
+  long-is h = ap (λ (c : Called). printedOf (c .replies) (c .report)) (too-long (replicate 19 0) input (replicate 65536 0) (replicate 9 0) refl fresh-good h)
+
+-- ---- characters
+value-snoc : (n : ℕ) (l : List ℕ) (c : ℕ) → valueOf n (l ++ (c ∷ [])) ≡ valueOf n l * 10 + (c - 48)
+value-snoc n [] c = refl
+value-snoc n (x ∷ l) c = value-snoc (n * 10 + (x - 48)) l c
+
+digits-snoc : (l : List ℕ) (c : ℕ) → Digits l → 48 ≤ c → c ≤ 57 → Digits (l ++ (c ∷ []))
+digits-snoc [] c d a b = (a, b, tt)
+digits-snoc (x ∷ l) c d a b = (d .0, d .1, digits-snoc l c (d .2) a b)
+
+-- one digit
+one-digit : (n : ℕ) → n < 10 → Decimal n (digit n ∷ [])
+one-digit n h =
+    let e : digit n ≡ 48 + n = rw (lt-ltb n 10 h) in
+    record { value = omega arith; digits = (omega arith, omega arith, tt); first = λ z. omega arith }
+
+-- one digit more
+digit-more : (n : ℕ) (l : List ℕ) → 10 ≤ n → Decimal (n / 10) l → Decimal n (l ++ (digit (n % 10) ∷ []))
+digit-more n l h p =
+    let d : n % 10 < 10 = mod-lt n (lit< tt) in
+    let e : digit (n % 10) ≡ 48 + n % 10 = rw (lt-ltb (n % 10) 10 d) in
+    let v = p .value in
+    let all = div-add-mod' n 10 in
+    record {
+      value = value-snoc 0 l (digit (n % 10)) ∙ omega arith;
+      digits = digits-snoc l (digit (n % 10)) (p .digits) (omega arith) (omega arith);
+      first = λ z. absurd (leads l p z);
+    }
+  where
+    leads : (k : List ℕ) → Decimal (n / 10) k → getD (k ++ (digit (n % 10) ∷ [])) 0 0 ≡ 48 → ⊥
+    leads [] q z = let v : 0 ≡ n / 10 = q .value in omega arith
+    leads (x ∷ k) q z = let v : n / 10 ≡ 0 = q .first z in omega arith
+
+spells : (most n : ℕ) → n < 10 ^ most → Decimal n (spelled most n)
+unfolding spelled
+spells zero n h = let e : n < 1 = h in record { value = omega arith; digits = tt; first = λ z. absurd (omega arith) }
+spells (suc most) n h = pick (spells most (n / 10) (div-lt-iff-lt-mul {k = 10} {x = n} {y = 10 ^ most} (lit< tt) .1 (subst (λ (x : ℕ). n < x) (pow-suc 10 most) h))) (ltb n 10) refl
+  where
+    pick : Decimal (n / 10) (spelled most (n / 10)) → (b : Bool) → ltb n 10 ≡ b → Decimal n (cond b (digit n ∷ []) (spelled most (n / 10) ++ (digit (n % 10) ∷ [])))
+    pick p true e = one-digit n (ltb-true n 10 e)
+    pick p false e = digit-more n (spelled most (n / 10)) (ltb-false n 10 e) p
+
+-- ---- the statement
+read-back : (kind refusal : ℕ) (bytes rest : List ℕ)
+    → (replyKind (replyOf kind refusal bytes ++ rest) ≡ kind) × (replyRefusal (replyOf kind refusal bytes ++ rest) ≡ refusal)
+    × (replySize (replyOf kind refusal bytes ++ rest) ≡ 5 + length bytes) × (replyData (replyOf kind refusal bytes ++ rest) ≡ bytes)
+read-back kind refusal bytes rest =
+    let l = replyOf kind refusal bytes ++ rest in
+    let size : replySize l ≡ 5 + length bytes = omega (arith, two-bytes (3 + length bytes)) in
+    let k : replyKind l ≡ kind = omega (arith, two-bytes (kind + 128)) in
+    let n : replySize l - 5 ≡ length bytes = omega arith in
+    (k, refl, size, ap (λ (i : ℕ). take i (bytes ++ rest)) n ∙ take-append-seam bytes rest)
+
+pub listings : Listings
+listings = record {
+  printed = λ input h p.
+      text-is input h
+      ∙ ap₂ (λ (l : List ℕ) (n : ℕ). linesOf 1 l ++ endOf (runOf resetState input 65536 .refusal) n) (p .replies) (p .taken)
+      ∙ ap (λ (l : List ℕ). l ++ lastLine (runOf resetState input 65536 .refusal) (total (lengths (p .records)))) (lines-are (p .records) resetState 65536 1 (p .each));
+  long = λ input h. long-is input h;
+  read-back = λ kind refusal bytes rest. read-back kind refusal bytes rest;
+  characters = record { decimals = λ n h. spells 20 n h; hex-digits = refl };
+}

@@ -1,0 +1,96 @@
+-- Files and events are one: the records of events, run as a file, leave what the events leave given one at a time, and their replies hold the answers;
+-- with that demand 3 for files. Definitions and the statements only: proofs/FiledEvents.antt proves them. Assumes nothing.
+use Prim.Native.Nat.{ℕ, _/_, _%_, _≤_}
+use mathlib.Core.Path.{_≡_}
+use mathlib.Core.Bool.{Bool, true}
+use mathlib.Core.List.{List, [], _∷_, _++_}
+use lib.ListN.{length, take, drop, getD}
+use Rattle.float.specs.Order.{Le}
+use Rattle.stack.specs.Stack.{Bytes, bytesOf, tos}
+use Rattle.chip.specs.Commands.{baseRule}
+use Rattle.stored.specs.Bytes.{isState}
+use Rattle.pundaliket.specs.Calls.{Called}
+use Rattle.promises.specs.Events.{Event, push, pop, command, read, reset, acknowledge}
+use Rattle.promises.specs.Records.{countAt}
+use Rattle.promises.specs.Chains.{Step, Constants, reversing, wordOf}
+use Rattle.promises.specs.Cores.{Core, Meets, Sendable, driven, returned, drivenQuietly, Begins, runOf}
+
+-- the record of an event: its length, its kind, its payload
+abbrev pub recordOf : Event → List ℕ
+recordOf (push byte) = 3 ∷ 0 ∷ 1 ∷ 0 ∷ byte ∷ []
+recordOf pop = 3 ∷ 0 ∷ 2 ∷ 0 ∷ 1 ∷ []
+recordOf (command code) = 3 ∷ 0 ∷ 3 ∷ 0 ∷ code ∷ []
+recordOf read = 2 ∷ 0 ∷ 4 ∷ 0 ∷ []
+recordOf reset = 2 ∷ 0 ∷ 5 ∷ 0 ∷ []
+recordOf acknowledge = 2 ∷ 0 ∷ 6 ∷ 0 ∷ []
+
+abbrev pub fileOf : List Event → List ℕ
+fileOf [] = []
+fileOf (e ∷ es) = recordOf e ++ fileOf es
+
+-- the reply of an event for which the event call returns n: 256 times the refusal plus the byte read, which a pop and a status read have
+abbrev pub replyTo : Event → ℕ → List ℕ
+replyTo (push byte) n = 3 ∷ 0 ∷ 129 ∷ 0 ∷ n / 256 ∷ []
+replyTo pop n = 4 ∷ 0 ∷ 130 ∷ 0 ∷ n / 256 ∷ n % 256 ∷ []
+replyTo (command code) n = 3 ∷ 0 ∷ 131 ∷ 0 ∷ n / 256 ∷ []
+replyTo read n = 4 ∷ 0 ∷ 132 ∷ 0 ∷ n / 256 ∷ n % 256 ∷ []
+replyTo reset n = 3 ∷ 0 ∷ 133 ∷ 0 ∷ n / 256 ∷ []
+replyTo acknowledge n = 3 ∷ 0 ∷ 134 ∷ 0 ∷ n / 256 ∷ []
+
+-- the replies of events in turn, by the numbers returned for them
+abbrev pub repliesTo : List Event → List ℕ → List ℕ
+repliesTo [] ns = []
+repliesTo (e ∷ es) ns = replyTo e (getD ns 0 0) ++ repliesTo es (drop 1 ns)
+
+-- a call on the file of events beside the events: the state and the numbers that these leave and return
+pub record FileOfEvents (c : Called) (es : List Event) (state numbers replies : List ℕ) : Type 0 where
+  pub result : c .result ≡ 0
+  pub state-is : c .state ≡ state
+  pub replies-are : c .replies ≡ repliesTo es numbers ++ drop (length (repliesTo es numbers)) replies
+  pub all-taken : countAt (c .report) 1 ≡ length (fileOf es)
+  pub all-written : countAt (c .report) 5 ≡ length (repliesTo es numbers)
+
+-- what is lent for the file of some events: a good state, a report of nine bytes, room for the replies, and no more than 12,288 bytes of records
+pub record Lent (c : Core) (state : List ℕ) (es : List Event) (replies report : List ℕ) : Type 0 where
+  pub bytes : Bytes state × Bytes replies × Bytes report
+  pub good : isState state ≡ true
+  pub nine : length report ≡ 9
+  pub short : length (fileOf es) ≤ 12288
+  pub room : length (repliesTo es (returned c state es)) ≤ length replies
+
+-- ---- of any core that meets the promises, any events
+abbrev pub EventFiles : Type 0
+EventFiles =
+    (c : Core) → Meets c → (state : List ℕ) (es : List Event) (replies report : List ℕ) → Sendable es → Lent c state es replies report
+    → FileOfEvents (c .run state (fileOf es) replies report) es (driven c state es) (returned c state es) replies
+
+-- ---- demand 3 for files: the file of a chain's events
+abbrev pub chainFile : ℕ → (ℕ → Bool) → List Step → List ℕ
+chainFile w sr ks = fileOf (runOf w sr ks)
+
+-- no reply of the file holds another refusal than 0: its byte 4 is what a call that returns 0 for each event gives
+abbrev pub zerosFor : List Event → List ℕ
+zerosFor [] = []
+zerosFor (e ∷ es) = 0 ∷ zerosFor es
+
+pub record ChainFiles (c : Core) : Type 0 where
+  -- every record is answered 0, error bits or not, and the call returns 0
+  pub answers : (state : List ℕ) (w : ℕ) (sr : ℕ → Bool) (ks : List Step) (replies report : List ℕ) → Begins state w → Constants ks → Lent c state (runOf w sr ks) replies report
+      → ((c .run state (chainFile w sr ks) replies report) .result ≡ 0)
+      × ((c .run state (chainFile w sr ks) replies report) .replies
+      ≡ repliesTo (runOf w sr ks) (zerosFor (runOf w sr ks)) ++ drop (length (repliesTo (runOf w sr ks) (zerosFor (runOf w sr ks)))) replies)
+  -- the word of demand 2 lies on top, high byte first, a function of the word and the chain alone
+  pub bytes : (state : List ℕ) (w : ℕ) (sr : ℕ → Bool) (ks : List Step) (replies report : List ℕ) → Begins state w → Constants ks → Lent c state (runOf w sr ks) replies report
+      → take 4 ((c .run state (chainFile w sr ks) replies report) .state) ≡ bytesOf 4 (wordOf baseRule w ks)
+  -- where the events of neither file leave an error bit, an even number of reversing steps keeps the order of the values, and an odd number turns it round
+  pub even : (state state' : List ℕ) (v w : ℕ) (sr sr' : ℕ → Bool) (ks : List Step) (replies replies' report report' : List ℕ) → Begins state v → Begins state' w → Constants ks
+      → Lent c state (runOf v sr ks) replies report → Lent c state' (runOf w sr' ks) replies' report'
+      → drivenQuietly c state (runOf v sr ks) ≡ true → drivenQuietly c state' (runOf w sr' ks) ≡ true → Le v w → reversing ks % 2 ≡ 0
+      → Le (tos 4 ((c .run state (chainFile v sr ks) replies report) .state)) (tos 4 ((c .run state' (chainFile w sr' ks) replies' report') .state))
+  pub odd : (state state' : List ℕ) (v w : ℕ) (sr sr' : ℕ → Bool) (ks : List Step) (replies replies' report report' : List ℕ) → Begins state v → Begins state' w → Constants ks
+      → Lent c state (runOf v sr ks) replies report → Lent c state' (runOf w sr' ks) replies' report'
+      → drivenQuietly c state (runOf v sr ks) ≡ true → drivenQuietly c state' (runOf w sr' ks) ≡ true → Le v w → reversing ks % 2 ≡ 1
+      → Le (tos 4 ((c .run state' (chainFile w sr' ks) replies' report') .state)) (tos 4 ((c .run state (chainFile v sr ks) replies report) .state))
+
+abbrev pub Demand3Files : Type 0
+Demand3Files = (c : Core) → Meets c → ChainFiles c

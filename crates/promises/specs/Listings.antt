@@ -1,0 +1,73 @@
+-- 01, 'The listing program', for every input: its lines are those of the records taken, then the last line. Definitions and the statements only:
+-- proofs/Listed.antt proves them. Assumes nothing.
+use Prim.Native.Nat.{ℕ, _+_, _*_, _-_, _/_, _%_, _^_, _≤_, _<_}
+use mathlib.Core.Path.{_≡_}
+use mathlib.Core.List.{List, [], _∷_, _++_, map}
+use lib.ListN.{length, drop, getD}
+use Rattle.chip.specs.declared.State.{State}
+use Rattle.chip.specs.State.{resetState}
+use Rattle.records.specs.Record.{replyOf}
+use Rattle.records.specs.Run.{runOf}
+use Rattle.listing.specs.Text.{digit, decimal}
+use Rattle.listing.specs.Listing.{replyKind, replyRefusal, replySize, replyData}
+use Rattle.printout.specs.Printout.{printoutOf}
+use Rattle.promises.specs.Records.{total, lengths, Split}
+
+-- ---- characters
+
+-- the number that decimal digits stand for, n being that of the digits before them
+abbrev pub valueOf : ℕ → List ℕ → ℕ
+valueOf n [] = n
+valueOf n (c ∷ cs) = valueOf (n * 10 + (c - 48)) cs
+
+-- every character is a digit, 0 to 9
+abbrev pub Digits : List ℕ → Type 0
+Digits [] = Unit
+Digits (c ∷ cs) = (48 ≤ c) × (c ≤ 57) × Digits cs
+
+-- a number in decimal: its digits stand for it, and the first is 0 for the number 0 alone
+pub record Decimal (n : ℕ) (text : List ℕ) : Type 0 where
+  pub value : valueOf 0 text ≡ n
+  pub digits : Digits text
+  pub first : getD text 0 0 ≡ 48 → n ≡ 0
+
+-- every number of up to 20 digits; and the sixteen digits 0 to 9 and A to F
+pub record Characters : Type 0 where
+  pub decimals : (n : ℕ) → n < 10 ^ 20 → Decimal n (decimal n)
+  pub hex-digits : map digit (0 ∷ 1 ∷ 2 ∷ 3 ∷ 4 ∷ 5 ∷ 6 ∷ 7 ∷ 8 ∷ 9 ∷ 10 ∷ 11 ∷ 12 ∷ 13 ∷ 14 ∷ 15 ∷ [])
+      ≡ 48 ∷ 49 ∷ 50 ∷ 51 ∷ 52 ∷ 53 ∷ 54 ∷ 55 ∷ 56 ∷ 57 ∷ 65 ∷ 66 ∷ 67 ∷ 68 ∷ 69 ∷ 70 ∷ []
+
+-- ---- lines
+
+-- data as two hex digits each, parted by single spaces (32) from what stands before
+abbrev pub hexText : List ℕ → List ℕ
+hexText [] = []
+hexText (b ∷ bs) = 32 ∷ digit (b / 16) ∷ digit (b % 16) ∷ hexText bs
+
+-- a record's line: its number, its own kind, the refusal of its reply, the data of its reply; a newline (10) ends it
+abbrev pub recordLine : ℕ → List ℕ → List ℕ → List ℕ
+recordLine number r reply =
+    decimal number ++ ((32 ∷ decimal (getD r 2 0 + getD r 3 0 * 256)) ++ ((32 ∷ decimal (getD reply 4 0)) ++ (hexText (drop 5 reply) ++ (10 ∷ []))))
+
+-- the lines of records in turn, each run as a file of its own on the state and in the room that the one before left
+abbrev pub linesFor : ℕ → State → List (List ℕ) → ℕ → List ℕ
+linesFor number s [] room = []
+linesFor number s (r ∷ rs) room =
+    recordLine number r (runOf s r room .written) ++ linesFor (number + 1) (runOf s r room .state) rs (room - length (runOf s r room .written))
+
+-- `end`, the run's refusal, bytes of whole records taken
+abbrev pub lastLine : ℕ → ℕ → List ℕ
+lastLine refusal taken = 101 ∷ 110 ∷ 100 ∷ ((32 ∷ decimal refusal) ++ ((32 ∷ decimal taken) ++ (10 ∷ [])))
+
+pub record Listings : Type 0 where
+  -- an input of at most 12,288 bytes, run from reset with 65,536 bytes of room and split into the records taken and the rest (Records: every file splits so):
+  -- a line for each record taken, numbered from 1, then the last line
+  pub printed : (input : List ℕ) → length input ≤ 12288 → (split : Split resetState input 65536 (runOf resetState input 65536))
+      → printoutOf input ≡ linesFor 1 resetState (split .records) 65536 ++ lastLine (runOf resetState input 65536 .refusal) (total (lengths (split .records)))
+  -- a longer one prints only `end 9 0`
+  pub long : (input : List ℕ) → 12288 < length input → printoutOf input ≡ 101 ∷ 110 ∷ 100 ∷ 32 ∷ 57 ∷ 32 ∷ 48 ∷ 10 ∷ []
+  -- a reply that the run writes is the reply that the listing reads, whatever follows it
+  pub read-back : (kind refusal : ℕ) (bytes rest : List ℕ)
+      → (replyKind (replyOf kind refusal bytes ++ rest) ≡ kind) × (replyRefusal (replyOf kind refusal bytes ++ rest) ≡ refusal)
+      × (replySize (replyOf kind refusal bytes ++ rest) ≡ 5 + length bytes) × (replyData (replyOf kind refusal bytes ++ rest) ≡ bytes)
+  pub characters : Characters

@@ -1,0 +1,61 @@
+-- 01, 'Record files': the exported run over the run of a file, byte by byte, and the record at which a bad file stops, said of the call. Definitions and
+-- the statement only: proofs/RunCalled.antt proves it. Assumes nothing.
+use Prim.Native.Nat.{ℕ, _/_, _%_, _≤_}
+use mathlib.Core.Path.{_≡_}
+use mathlib.Core.Bool.{true, cond}
+use mathlib.Core.List.{List, [], _∷_, _++_}
+use lib.ListN.{length, drop, getD}
+use Rattle.stack.specs.Stack.{Bytes}
+use Rattle.chip.specs.declared.State.{State}
+use Rattle.records.specs.Run.{Outcome, runOf}
+use Rattle.stored.specs.Bytes.{isState}
+use Rattle.pundaliket.specs.Calls.{Called, callOf}
+use Rattle.promises.specs.Records.{countAt}
+
+-- the state that bytes stand for: 0 to 15 the stack, top first, 16 pending, 17 status, 18 service
+pub record StandsFor (bytes : List ℕ) (s : State) : Type 0 where
+  pub laid : bytes ≡ s .stack ++ (cond (s .pending) 1 0 ∷ s .status ∷ cond (s .service) 1 0 ∷ [])
+  pub sixteen : length (s .stack) ≡ 16
+
+-- the call over what the run of the file leaves
+pub record Reports (c : Called) (o : Outcome) (replies : List ℕ) : Type 0 where
+  pub result : c .result ≡ o .refusal
+  pub state : StandsFor (c .state) (o .state)
+  -- the replies written, and every byte past them as it stood
+  pub replies-are : c .replies ≡ o .written ++ drop (length (o .written)) replies
+  -- nine bytes: the refusal, the bytes of whole records taken, the bytes of replies written, each count four bytes little-endian
+  pub report : c .report
+      ≡ o .refusal
+      ∷ o .taken % 256 ∷ o .taken / 256 % 256 ∷ o .taken / 65536 % 256 ∷ o .taken / 16777216 % 256
+      ∷ length (o .written) % 256 ∷ length (o .written) / 256 % 256 ∷ length (o .written) / 65536 % 256 ∷ length (o .written) / 16777216 % 256
+      ∷ []
+
+-- for a state that is taken, a report of 9 bytes and at most 12,288 bytes of input
+abbrev pub RunCall : Type 0
+RunCall =
+    (s : State) (state input replies report : List ℕ) → Bytes state → Bytes input → isState state ≡ true → StandsFor state s → length report ≡ 9 → length input ≤ 12288
+    → Reports (callOf state input replies report) (runOf s input (length replies)) replies
+
+-- byte 0 of the report is the number returned, for every call but one that returns 14
+abbrev pub ReportsResult : Type 0
+ReportsResult =
+    (state input replies report : List ℕ) → length report ≡ 9
+    → getD (callOf state input replies report .report) 0 0 ≡ callOf state input replies report .result
+
+-- a call that returns neither 0 nor 9 nor 13 nor 14 returns 5 to 8; given again on the state that it left, the bytes after those taken and the room after the
+-- replies written, it returns the same number, and takes, writes and changes nothing
+abbrev pub StopsAgain : Type 0
+StopsAgain =
+    (state input replies report : List ℕ) → Bytes state → Bytes input → isState state ≡ true → length report ≡ 9 → length input ≤ 12288
+    → (callOf state input replies report .result ≡ 0 → ⊥)
+    → (5 ≤ callOf state input replies report .result) × (callOf state input replies report .result ≤ 8)
+    × (callOf (callOf state input replies report .state)
+    (drop (countAt (callOf state input replies report .report) 1) input)
+    (drop (countAt (callOf state input replies report .report) 5) replies)
+    report
+    ≡ record {
+      result = callOf state input replies report .result;
+      state = callOf state input replies report .state;
+      replies = drop (countAt (callOf state input replies report .report) 5) replies;
+      report = callOf state input replies report .result ∷ 0 ∷ 0 ∷ 0 ∷ 0 ∷ 0 ∷ 0 ∷ 0 ∷ 0 ∷ [];
+    })
