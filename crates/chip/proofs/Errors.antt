@@ -4,8 +4,8 @@ use Prim.Native.Nat.{ℕ, _<_}
 use lib.Dec.{lit<, leb, eqb}
 use Rattle.fixed.specs.declared.Fixed.{Fixed}
 use Rattle.fixed.specs.Fixed.{overflow, outcome, addOverflow, subOverflow, mulOverflow, eitherLeast, least, add, sub, mul, muu, div, chs}
-use Rattle.float.specs.declared.Rounded.{Rounded}
-use Rattle.float.specs.Cut.{Rule}
+use Rattle.float.specs.declared.Flagged.{Flagged}
+use Rattle.terms.specs.declared.Rule.{Rule}
 use Rattle.float.specs.Word.{negative, FloatWord}
 use Rattle.float.specs.Float.{Result}
 use Rattle.float.specs.Convert.{wholePart, complement, fix}
@@ -53,6 +53,6 @@ pub fix-error : (half a : ℕ) → (fix half a) .error < 16
 unfolding fix
 fix-error half a = go (leb half (wholePart a))
   where
-    go : (over : Bool) → (cond {A = Rounded} over (record { word = a; error = 1 }) (record { word = complement half (negative a) (wholePart a); error = 0 })) .error < 16
+    go : (over : Bool) → (cond {A = Flagged} over (record { word = a; error = 1 }) (record { word = complement half (negative a) (wholePart a); error = 0 })) .error < 16
     go true = lit< tt
     go false = lit< tt

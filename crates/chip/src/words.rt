@@ -2,7 +2,7 @@
 // and the float operations.
 use codes::FloatOp;
 use fixed::Fixed;
-use float::Rounded;
+use float::Flagged;
 use terms::Width;
 ghost use mathlib.Core.Path.{_≡_};
 ghost use mathlib.Core.Bool.{true};
@@ -70,14 +70,14 @@ pub fn changed(width: Width, a: u32) -> Fixed
 }
 
 // A float operation on proper words. Its error has four bits.
-pub fn float_result(op: FloatOp, b: u32, a: u32) -> Rounded
+pub fn float_result(op: FloatOp, b: u32, a: u32) -> Flagged
     requires { ⌜ (proper b ≡ true) × (proper a ≡ true) ⌝ }
     ensures { λ r. ⌜ (r ≡ floatOf baseRule op b a) × (r .error < 16) ⌝ }
 {
     match op {
-        FloatOp::Add => float::fadd(b, a),
-        FloatOp::Sub => float::fsub(b, a),
-        FloatOp::Mul => float::fmul(b, a),
-        FloatOp::Div => float::fdiv(b, a),
+        FloatOp::Add => float::sum::fadd(b, a),
+        FloatOp::Sub => float::sum::fsub(b, a),
+        FloatOp::Mul => float::product::fmul(b, a),
+        FloatOp::Div => float::product::fdiv(b, a),
     }
 }

@@ -10,9 +10,10 @@ use lib.IntN.{ℤ, pos, negℤ, natAbs, _*ℤ_, +ℤ-comm}
 use lib.Signed.{_≤ℤ_}
 use lib.Ieee.{unlike}
 use lib.Pow.{pow-pos}
-use Rattle.float.specs.declared.Rounded.{Rounded}
+use Rattle.float.specs.declared.Flagged.{Flagged}
 use Rattle.float.specs.Word.{negative, biased, mantissa, size88, withSign, value}
-use Rattle.float.specs.Cut.{Rule, below0, cutSize, cut}
+use Rattle.terms.specs.declared.Rule.{Rule}
+use Rattle.float.specs.Cut.{below0, cutSize, cut}
 use Rattle.float.specs.Float.{exactSum, exactDifference, exactProduct, dividend, divisor, add, sub, mul, div}
 use Rattle.float.specs.Order.{Le, LeBy}
 use Rattle.float.proofs.Pair.{grid-mono}
@@ -72,10 +73,10 @@ cut-keeps r z z' d d' D D' h e e' =
     let n' = natAbs z' in
     let c : cut r z d ≡ cutSize r s (n * 2 ^ 200) d = ap (λ (y : ℤ). cut r y d) (signed-parts z) ∙ cut-sign r s n d in
     let c' : cut r z' d' ≡ cutSize r t (n' * 2 ^ 200) d' = ap (λ (y : ℤ). cut r y d') (signed-parts z') ∙ cut-sign r t n' d' in
-    let v = cut-value r s (n * 2 ^ 200) d D (sym (ap (λ (x : Rounded). x .error) c) ∙ e) in
-    let v' = cut-value r t (n' * 2 ^ 200) d' D' (sym (ap (λ (x : Rounded). x .error) c') ∙ e') in
+    let v = cut-value r s (n * 2 ^ 200) d D (sym (ap (λ (x : Flagged). x .error) c) ∙ e) in
+    let v' = cut-value r t (n' * 2 ^ 200) d' D' (sym (ap (λ (x : Flagged). x .error) c') ∙ e') in
     let l = le-signed s t (n * d') (n' * d) (subst₂ (λ (x y : ℤ). x ≤ℤ y) (times-size z d') (times-size z' d) h) in
-    subst₂ (λ (x y : Rounded). Le (x .word) (y .word)) (sym c) (sym c')
+    subst₂ (λ (x y : Flagged). Le (x .word) (y .word)) (sym c) (sym c')
     (subst₂ (λ (x y : ℤ). x ≤ℤ y) (sym (v .0)) (sym (v' .0))
     (signed-le s t (size88 ((cutSize r s (n * 2 ^ 200) d) .word)) (size88 ((cutSize r t (n' * 2 ^ 200) d') .word))
     (kept-order r n d n' d' D D' s t (size88 ((cutSize r s (n * 2 ^ 200) d) .word)) (size88 ((cutSize r t (n' * 2 ^ 200) d') .word)) (v .1) (v' .1) l)))

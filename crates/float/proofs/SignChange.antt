@@ -8,7 +8,8 @@ use lib.Dec.{leb, eqb, lit<}
 use lib.IntN.{ℤ, negℤ, _+ℤ_}
 use lib.Signed.{_≤ℤ_}
 use Rattle.float.specs.Word.{negative, biased, mantissa, size88, withSign, value, FloatWord}
-use Rattle.float.specs.Cut.{Rule, cut}
+use Rattle.terms.specs.declared.Rule.{Rule}
+use Rattle.float.specs.Cut.{cut}
 use Rattle.float.specs.Float.{add, sub}
 use Rattle.float.specs.Convert.{chsf}
 use Rattle.float.specs.Order.{Le}

@@ -10,7 +10,8 @@ use lib.Signed.{_≤ℤ_}
 use lib.Ieee.{unlike}
 use lib.Pow.{pow-add, pow-pos}
 use Rattle.float.specs.Word.{withSign}
-use Rattle.float.specs.Cut.{Rule, below0, cutSize, cut}
+use Rattle.terms.specs.declared.Rule.{Rule}
+use Rattle.float.specs.Cut.{below0, cutSize, cut}
 use Rattle.float.proofs.Pair.{cut-zero}
 use Rattle.float.proofs.Jams.{stands-cut}
 use Rattle.float.proofs.Differences.{sub-ge, same, sum-differences, neg-pos, pos-is, above, beneath, le-differences, le-parts}

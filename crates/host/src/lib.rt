@@ -46,7 +46,7 @@ fn bits_of(word: u32) -> u32
 pub fn word_to_f32(word: u32) -> Host
     ensures { λ r. ⌜ r ≡ hostOf word ⌝ }
 {
-    if float::is_proper(word) {
+    if float::word::is_proper(word) {
         Host::Float(f32::from_bits(bits_of(word)))
     } else {
         Host::Refused(Refusal::Improper)

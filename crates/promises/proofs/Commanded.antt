@@ -23,9 +23,10 @@ use Rattle.fixed.specs.Fixed.{signed, fits, low, overflow, outcome, eitherLeast
 use Rattle.fixed.proofs.Differences.{side}
 use Rattle.fixed.proofs.LowBits.{low-lt, kept, parted}
 use Rattle.fixed.proofs.Sums.{sum-low, diff-low}
-use Rattle.float.specs.declared.Rounded.{Rounded}
+use Rattle.float.specs.declared.Flagged.{Flagged}
 use Rattle.float.specs.Word.{negative, mantissa, proper, withSign, FloatWord}
-use Rattle.float.specs.Cut.{Rule, below0}
+use Rattle.terms.specs.declared.Rule.{Rule}
+use Rattle.float.specs.Cut.{below0}
 use Rattle.float.specs.Convert.{fltd, flts, fix, wholePart, complement, chsf}
 use Rattle.float.proofs.Results.{add-result, sub-result, mul-result, div-result, fltd-result, flts-result}
 use Rattle.float.proofs.Steps.{div-by-zero}
@@ -321,7 +322,7 @@ module _ (rule : Rule) where
     fmul-row = λ b a B A. float-row FMul b a B A (mul-result rule b a .word .fits);
     fdiv-row = λ b a B A. float-row FDiv b a B A (div-result rule b a B .word .fits);
     fdiv-zero = λ b B.
-        subst (λ (r : Rounded). Two rule Double (Float FDiv) b 0 (r .word) (r .error) false 0) (div-by-zero rule b 0 refl)
+        subst (λ (r : Flagged). Two rule Double (Float FDiv) b 0 (r .word) (r .error) false 0) (div-by-zero rule b 0 refl)
         (float-row FDiv b 0 B zero-word (div-result rule b 0 B .word .fits));
     improper = λ op b a B A e cs. refusing rule (Float op) (word Double a (word Double b cs)) (operands op b a cs B A ∙ not-both (proper b) (proper a) e);
     chsf-sets = λ a m l bs. let k : a < 2147483648 = l in chsf-row a (a + 2 ^ 31) bs (omega arith) (omega arith) (set-is a m l);
@@ -334,7 +335,7 @@ module _ (rule : Rule) where
 abbrev pub three : ℕ → ℕ → ℕ → List ℕ → List ℕ
 three a b c ds = word Double a (word Double b (word Double c ds))
 
-module _ (f : ℕ → Rounded) (a b c : ℕ) (A : a < words Double) (ds : List ℕ) where
+module _ (f : ℕ → Flagged) (a b c : ℕ) (A : a < words Double) (ds : List ℕ) where
   given : f (wordA Double (three a b c ds)) ≡ f a
   given = ap f (top-is Double a (word Double b (word Double c ds)) A)
 
@@ -360,13 +361,13 @@ complement-lt half false n h = omega arith
 abbrev five : ℕ → ℕ → ℕ → ℕ → ℕ → List ℕ → List ℕ
 five a b c d e fs = word Single a (word Single b (word Single c (word Single d (word Single e fs))))
 
-widened-to : (f : ℕ → Rounded) (a b c d e : ℕ) → a < words Single → (fs : List ℕ) (r : ℕ) → f a ≡ record { word = r; error = 0 }
+widened-to : (f : ℕ → Flagged) (a b c d e : ℕ) → a < words Single → (fs : List ℕ) (r : ℕ) → f a ≡ record { word = r; error = 0 }
     → widens (five a b c d e fs) (f (wordA Single (five a b c d e fs))) ≡ ends Double (word Double r (word Single b (word Single c (word Single d (word Single e (zeros 4)))))) 0 false
 unfolding widens
 widened-to f a b c d e A fs r F = ap (λ (x : ℕ). widens (five a b c d e fs) (f x)) (top-is Single a (word Single b (word Single c (word Single d (word Single e fs)))) A) ∙ ap (widens (five a b c d e fs)) F
 
 -- a result without error, by its word
-pub no-error : (r : Rounded) → r .error ≡ 0 → r ≡ record { word = r .word; error = 0 }
+pub no-error : (r : Flagged) → r .error ≡ 0 → r ≡ record { word = r .word; error = 0 }
 no-error r e = ap (λ (x : ℕ). record { word = r .word; error = x }) e
 
 module _ (rule : Rule) where
@@ -414,7 +415,7 @@ rows rule = record {
   float-point = float-rows rule;
   conversions = conversion-rows rule;
   pupi-row = λ lost abc h.
-      accepted rule Pupi (abc ++ bytesOf 4 lost) Double 0x02c90fda 0 false abc refl (lit< tt) (ap (λ (l : List ℕ). moves Double (word Double 0x02c90fda l)) (take-at abc (bytesOf 4 lost) 12 h));
+      accepted rule Pupi (abc ++ bytesOf 4 lost) Double (piOf rule) 0 false abc refl (lit< tt) (ap (λ (l : List ℕ). moves Double (word Double (piOf rule) l)) (take-at abc (bytesOf 4 lost) 12 h));
   nop-row = λ stack code status service is ready. nop rule stack code status service is ready;
 }
 

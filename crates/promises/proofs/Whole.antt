@@ -7,7 +7,7 @@ use borrow.Author.Tests.{leb-false}
 use lib.ListN.{take}
 use Rattle.terms.specs.declared.Refusal.the-variants.{Done, HalfWord}
 use Rattle.terms.specs.Width.{sizeOf}
-use Rattle.float.specs.Cut.{Rule}
+use Rattle.terms.specs.declared.Rule.{Rule}
 use Rattle.stack.specs.Stack.{bytesOf, pushed, popped}
 use Rattle.codes.specs.declared.Command.{Command}
 use Rattle.codes.specs.declared.Kind.the-variants.{Known}

@@ -17,7 +17,9 @@ use Rattle.terms.specs.declared.Width.the-variants.{Single, Double}
 use Rattle.terms.specs.Width.{sizeOf, bitsOf}
 use Rattle.fixed.specs.Fixed.{half, signed, fits, low, overflow}
 use Rattle.float.specs.Word.{negative, mantissa, proper, withSign, FloatWord}
-use Rattle.float.specs.Cut.{Rule, below0}
+use Rattle.terms.specs.declared.Rule.{Rule}
+use Rattle.terms.specs.declared.Rule.the-variants.{Cut, Nearest}
+use Rattle.float.specs.Cut.{below0}
 use Rattle.float.specs.Float.{add, sub, mul, div}
 use Rattle.float.specs.Convert.{fltd, flts, wholePart, complement}
 use Rattle.stack.specs.Stack.{bytesOf, zeros}
@@ -167,6 +169,11 @@ pub record ConversionRows (rule : Rule) : Type 0 where
   -- FIXD, FIXS of a word that is not proper: 4
   pub fix-improper : (w : Width) (a : ℕ) → a < words Double → proper a ≡ false → (bs : List ℕ) → Refuses rule (Fix w) (word Double a bs) Improper
 
+-- pi as a word, under each rule
+abbrev pub piWord : Rule → ℕ
+piWord Cut = 0x02c90fda
+piWord Nearest = 0x02c90fdb
+
 -- ---- the statement
 pub record Rows (rule : Rule) : Type 0 where
   pub fixed-point : (w : Width) → FixedRows rule w
@@ -174,8 +181,8 @@ pub record Rows (rule : Rule) : Type 0 where
   pub moves : (w : Width) → MoveRows rule w
   pub float-point : FloatRows rule
   pub conversions : ConversionRows rule
-  -- PUPI: pushes 02C90FDA, bottom 32-bit word lost
-  pub pupi-row : (lost : ℕ) (abc : List ℕ) → length abc ≡ 12 → Leaves rule Pupi (abc ++ bytesOf 4 lost) Double 0x02c90fda 0 false abc
+  -- PUPI: pushes pi, 02C90FDA where results are cut, bottom 32-bit word lost
+  pub pupi-row : (lost : ℕ) (abc : List ℕ) → length abc ≡ 12 → Leaves rule Pupi (abc ++ bytesOf 4 lost) Double (piWord rule) 0 false abc
   -- NOP clears the whole status, and leaves the stack
   pub nop-row : (stack : List ℕ) (code status : ℕ) (service : Bool) → kindOf (code % 128) ≡ Known Nop → status < 128
       → commandUnder rule (holding stack status service) code ≡ done 0 (holding stack 0 (leb 128 code))

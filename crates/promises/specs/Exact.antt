@@ -3,15 +3,16 @@
 use Prim.Native.Nat.{ℕ, _+_, _*_, _^_, _≤_, _<_}
 use mathlib.Core.Path.{_≡_}
 use lib.IntN.{ℤ, pos, negℤ, _*ℤ_}
-use Rattle.float.specs.declared.Rounded.{Rounded}
+use Rattle.float.specs.declared.Flagged.{Flagged}
 use Rattle.float.specs.Word.{mantissa, size88, value, FloatWord}
 use Rattle.float.specs.Float.{exactSum, exactDifference, exactProduct, dividend, divisor, add, sub, mul, div}
 use Rattle.float.specs.Convert.{integer, fltd, flts, wholePart, fixd, fixs, chsf}
-use Rattle.float.specs.Exact.{Pair, Exactly, Taken}
+use Rattle.float.specs.Cut.{Pair}
+use Rattle.float.specs.Exact.{Exactly, Taken}
 use Rattle.chip.specs.Commands.{baseRule}
 
 -- a result that is the word w, with no error bit
-abbrev pub clean : ℕ → Rounded
+abbrev pub clean : ℕ → Flagged
 clean w = record { word = w; error = 0 }
 
 -- ---- the pair m, e of a magnitude n / d, e unbounded, by comparing products

@@ -1,0 +1,72 @@
+-- `float::convert::fix_below` meets its contract. Assumes nothing.
+use mathlib.Core.Path.{sym, _∙_}
+use mathlib.Core.Bool.{true, false}
+use Prim.Native.Nat.{ℕ, _-_, _*_, _<_}
+use native.Mathlib.Nat.{mod-lt}
+use native.Mathlib.Omega.{arith}
+use Rattle.float.proofs.Fix.{fix-over, fix-within}
+use borrow.Author.Needs.{needs}
+use Rattle.float.proofs.convert.fix_below.Statement.{statement}
+use Rattle.float.proofs.convert.fix_below.Tie as tie
+
+whole-part-requires : tie.Need-whole-part-requires
+whole-part-requires c κs = search needs
+
+returns : tie.Need-returns
+returns c =
+    let s = c .before .before in
+    fix-over (s .args .half) (s .args .a) _ (c .before .whole-part .ensures) (c .if1 .taken)
+
+is-negative-requires : tie.Need-is-negative-requires
+is-negative-requires c κs = search needs
+
+mul-t6 : tie.Need-mul-t6
+mul-t6 c = search needs
+
+sub-t7 : tie.Need-sub-t7
+sub-t7 c = search needs
+
+mul-t8 : tie.Need-mul-t8
+mul-t8 c = search needs
+
+rem-t9 : tie.Need-rem-t9
+rem-t9 c = search needs
+
+twice : {x : ℕ} → 0 < x → 0 < 2 * x
+twice h = omega arith
+
+cast-t10 : tie.Need-cast-t10
+cast-t10 c =
+    let s = c .before .before .before .before in
+    let h = s .pre .1 in
+    let l = mod-lt (2 * s .args .half - c .before .before .before .whole-part .result) (twice (s .pre .0)) in
+    record { fits = omega arith }
+
+returns-2 : tie.Need-returns-2
+returns-2 c =
+    let s = c .before .before .before .before in
+    fix-within (s .args .half) (s .args .a) _ true (c .before .before .before .whole-part .ensures) (c .before .before .if1 .left) (sym (c .if2 .taken) ∙ c .before .is-negative .ensures)
+
+cast-t11 : tie.Need-cast-t11
+cast-t11 c = search needs
+
+returns-3 : tie.Need-returns-3
+returns-3 c =
+    let s = c .before .before .before .before in
+    fix-within (s .args .half) (s .args .a) _ false (c .before .before .before .whole-part .ensures) (c .before .before .if1 .left) (sym (c .if2 .left) ∙ c .before .is-negative .ensures)
+
+pub fix-below-spec : {M : Type 1} → statement M
+fix-below-spec =
+    tie.close
+    (tie.spec
+    whole-part-requires
+    returns
+    is-negative-requires
+    mul-t6
+    sub-t7
+    mul-t8
+    rem-t9
+    cast-t10
+    returns-2
+    cast-t11
+    returns-3)
