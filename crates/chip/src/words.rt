@@ -26,11 +26,11 @@ fn single(op: FixedOp, b: u16, a: u16) -> Fixed
     ensures { λ r. ⌜ r ≡ fixedOf op (half 16) b a ⌝ }
 {
     match op {
-        FixedOp::Add => fixed::add16(b, a),
-        FixedOp::Sub => fixed::sub16(b, a),
-        FixedOp::Mul => fixed::mul16(b, a),
-        FixedOp::Muu => fixed::muu16(b, a),
-        FixedOp::Div => fixed::div16(b, a),
+        FixedOp::Add => fixed::sum::add16(b, a),
+        FixedOp::Sub => fixed::sum::sub16(b, a),
+        FixedOp::Mul => fixed::product::mul16(b, a),
+        FixedOp::Muu => fixed::product::muu16(b, a),
+        FixedOp::Div => fixed::product::div16(b, a),
     }
 }
 
@@ -39,11 +39,11 @@ fn double(op: FixedOp, b: u32, a: u32) -> Fixed
     ensures { λ r. ⌜ r ≡ fixedOf op (half 32) b a ⌝ }
 {
     match op {
-        FixedOp::Add => fixed::add32(b, a),
-        FixedOp::Sub => fixed::sub32(b, a),
-        FixedOp::Mul => fixed::mul32(b, a),
-        FixedOp::Muu => fixed::muu32(b, a),
-        FixedOp::Div => fixed::div32(b, a),
+        FixedOp::Add => fixed::sum::add32(b, a),
+        FixedOp::Sub => fixed::sum::sub32(b, a),
+        FixedOp::Mul => fixed::product::mul32(b, a),
+        FixedOp::Muu => fixed::product::muu32(b, a),
+        FixedOp::Div => fixed::product::div32(b, a),
     }
 }
 
@@ -64,8 +64,8 @@ pub fn changed(width: Width, a: u32) -> Fixed
     ensures { λ r. ⌜ (r ≡ chs (halfOf width) a) × (r .error < 16) ⌝ }
 {
     match width {
-        Width::Single => fixed::chs16(a as u16),
-        Width::Double => fixed::chs32(a),
+        Width::Single => fixed::product::chs16(a as u16),
+        Width::Double => fixed::product::chs32(a),
     }
 }
 

@@ -12,8 +12,11 @@ use lib.Dec.{leb, ltb, lit<, lit≤}
 use lib.IntN.{ℤ, pos, natAbs, _*ℤ_}
 use lib.Ieee.{unlike}
 use lib.Pow.{pow-pos}
+use Rattle.whole.specs.Signed.{withSign}
+use Rattle.whole.proofs.Differences.{either}
+use Rattle.whole.proofs.Signs.{times, size-of-signed}
 use Rattle.float.specs.declared.Flagged.{Flagged}
-use Rattle.float.specs.Word.{negative, size88, withSign, value}
+use Rattle.float.specs.Word.{negative, size88, value}
 use Rattle.terms.specs.declared.Rule.{Rule}
 use Rattle.terms.specs.declared.Rule.the-variants.{Cut}
 use Rattle.float.specs.Cut.{lost, kept, digitsOf, cutSize, cut}
@@ -21,8 +24,7 @@ use Rattle.float.specs.Convert.{integer, fltd, flts, wholePart, compleme
 use Rattle.float.specs.Exact.{Exactly, Taken, Fixed}
 use Rattle.float.proofs.Powers.{parted}
 use Rattle.float.proofs.Pair.{cut-zero}
-use Rattle.float.proofs.Differences.{either}
-use Rattle.float.proofs.Signs.{product, size-of-signed, cut-sign}
+use Rattle.float.proofs.Signs.{cut-sign}
 use Rattle.float.proofs.Values.{grid, error-in, cut-stored, cut-value}
 use Rattle.float.proofs.Steps.{exactly, lost-least, lost-most}
 use Rattle.float.proofs.Kept.{fits-exact}
@@ -104,7 +106,7 @@ flts-exact r a h =
     let g : grid r (x * 2 ^ 200) 1 ≡ x * 2 ^ 200 = fits-exact r (x * 2 ^ 200) 1 x 200 (le-refl 1) (lt-of-le-of-lt small (lit< tt)) (sym (mul-one (x * 2 ^ 200))) in
     ap (λ (y : Flagged). value (y .word)) c ∙ v .0
     ∙ ap (λ (y : ℕ). withSign s y) (shrink (size88 ((cutSize r s (x * 2 ^ 200) 1) .word)) (x * 2 ^ 88) (v .1 ∙ g ∙ parted x 200 88 112 refl))
-    ∙ sym (ap (λ (z : ℤ). z *ℤ pos (2 ^ 88)) (p .2) ∙ product s false x (2 ^ 88) ∙ alone s (x * 2 ^ 88))
+    ∙ sym (ap (λ (z : ℤ). z *ℤ pos (2 ^ 88)) (p .2) ∙ times s false x (2 ^ 88) ∙ alone s (x * 2 ^ 88))
   where
     shrink : (y z : ℕ) → y * 2 ^ 112 ≡ z * 2 ^ 112 → y ≡ z
     shrink y z e = omega arith

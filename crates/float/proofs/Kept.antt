@@ -12,8 +12,10 @@ use lib.IntN.{ℤ, pos, negsuc, natAbs, _*ℤ_}
 use lib.Pow.{pow-add, pow-pos}
 use lib.Ieee.{size, nearest}
 use lib.Ieee.Digits.{size-le}
+use Rattle.whole.specs.Signed.{withSign}
+use Rattle.whole.proofs.Signs.{size-of-signed}
 use Rattle.float.specs.declared.Flagged.{Flagged}
-use Rattle.float.specs.Word.{negative, biased, mantissa, size88, withSign, value, FloatWord}
+use Rattle.float.specs.Word.{negative, biased, mantissa, size88, value, FloatWord}
 use Rattle.terms.specs.declared.Rule.{Rule}
 use Rattle.terms.specs.declared.Rule.the-variants.{Cut, Nearest}
 use Rattle.float.specs.Cut.{whole, lost, packed, stored, below0, cutSize, cut}
@@ -21,7 +23,7 @@ use Rattle.float.proofs.Powers.{parted}
 use Rattle.float.proofs.Proper.{proper-cases}
 use Rattle.float.proofs.Pair.{whole-same, lost-is, cut-of, cut-zero}
 use Rattle.float.proofs.Jams.{same-cut, stands-cut}
-use Rattle.float.proofs.Signs.{signed-parts, size-of-signed, times-size, cut-sign}
+use Rattle.float.proofs.Signs.{signed-parts, times-size, cut-sign}
 use Rattle.float.proofs.Values.{grid, error-in}
 
 -- ---- under either rule a whole number stays

@@ -2,7 +2,6 @@
 pub mod Powers
 pub mod Pair
 pub mod Jams
-pub mod Differences
 pub mod Signs
 pub mod Proper
 pub mod SumStands

@@ -10,10 +10,10 @@ use lib.IntN.{ℤ, pos, negsuc, subℕ, _+ℤ_, _-ℤ_, +ℤ-negℤ-cancel, -ℤ
 use lib.Pow.{pow-add, pow-pos}
 use lib.Ieee.{up, down, size}
 use lib.Ieee.Digits.{size-lt}
+use Rattle.whole.proofs.Differences.{either, sub-lt, sub-ge, same, above, beneath, parts}
 use Rattle.terms.specs.declared.Rule.the-variants.{Cut}
 use Rattle.float.specs.Cut.{Pair, kept, lost}
 use Rattle.float.proofs.Pair.{PairAt, cuts-only, cuts-one}
-use Rattle.float.proofs.Differences.{either, sub-lt, sub-ge, same, above, beneath, parts}
 
 -- ---- 2 ^ (k - J), as a fraction
 pub scale : (k J : ℕ) → up (subℕ k J) * 2 ^ J ≡ 2 ^ k * down (subℕ k J)

@@ -1,4 +1,4 @@
--- What the program computes of a product and of a quotient is the cut of the exact one: a quotient to 64 bits, its last bit made odd where
+-- What the program computes of a times and of a quotient is the cut of the exact one: a quotient to 64 bits, its last bit made odd where
 -- a remainder is left, stands for the fraction. Assumes nothing.
 use mathlib.Core.Path.{_≡_, refl, sym, ap, ap₂, _∙_, subst, subst₂}
 use mathlib.Core.Logic.{_⊎_, inl, inr}
@@ -11,6 +11,7 @@ use lib.Dec.{lit<}
 use lib.IntN.{ℤ}
 use lib.Ieee.{unlike}
 use lib.Pow.{pow-add, pow-pos}
+use Rattle.whole.proofs.Signs.{times}
 use Rattle.float.specs.Word.{proper, mantissa, biased, negative, size88}
 use Rattle.terms.specs.declared.Rule.{Rule}
 use Rattle.float.specs.Cut.{cutSize, cut}
@@ -18,7 +19,7 @@ use Rattle.float.specs.Float.{mul, div}
 use Rattle.float.specs.Jam.{Jammed}
 use Rattle.float.proofs.Powers.{moved, parted}
 use Rattle.float.proofs.Jams.{Jam, Stands, stands-cut, jam-of, jam-scale}
-use Rattle.float.proofs.Signs.{product, cut-sign, cut-scaled}
+use Rattle.float.proofs.Signs.{cut-sign, cut-scaled}
 use Rattle.float.proofs.Proper.{proper-norm}
 
 pub stands-scale : (n u t c : ℕ) → 0 < c → Stands n u t → Stands (n * c) (u * c) t
@@ -46,7 +47,7 @@ div-stands m n i j t N n24 norm le s =
     large (inl z) v = let a : m * 2 ^ 40 % n ≡ 0 = ap (λ (y : ℕ). y * 2 ^ 40 % n) z ∙ zero-mod n in absurd (omega arith)
     large (inr h) v = le-div-iff-mul-le N .1 (omega arith)
 
--- ---- a product and a quotient, from what a program reads off the words
+-- ---- a times and a quotient, from what a program reads off the words
 mul-exact : (b a : ℕ) → size88 b * size88 a * 2 ^ 24 ≡ mantissa b * mantissa a * 2 ^ (biased b + biased a + 24)
 unfolding size88
 mul-exact b a =
@@ -63,7 +64,7 @@ unfolding mul
 mul-law r b a neg m n i j s e f g h =
     let v : cutSize r neg (m * n * 2 ^ (i + j + 24)) 1 ≡ cutSize r (unlike (negative b) (negative a)) (size88 b * size88 a * 2 ^ 24) 1 = cc (mul-exact b a) in
     v ∙ sym (cut-scaled r (unlike (negative b) (negative a)) (size88 b * size88 a) 176 24 refl)
-    ∙ ap (λ (z : ℤ). cut r z (2 ^ 176)) (sym (product (negative b) (negative a) (size88 b) (size88 a)))
+    ∙ ap (λ (z : ℤ). cut r z (2 ^ 176)) (sym (times (negative b) (negative a) (size88 b) (size88 a)))
 
 pub div-zero : (r : Rule) (b a m : ℕ) → m ≡ mantissa a → m ≡ 0 → record { word = b; error = 8 } ≡ div r b a
 unfolding div

@@ -10,8 +10,10 @@ use lib.IntN.{ℤ, pos, subℕ, _+ℤ_, _-ℤ_, _*ℤ_, -ℤ-+ℤ-cancel}
 use lib.Signed.{_≤ℤ_}
 use lib.Ieee.{up, down}
 use lib.Pow.{pow-add, pow-pos}
+use Rattle.whole.specs.Signed.{withSign}
+use Rattle.whole.proofs.Differences.{sum-differences, same, above, beneath, parts, le-differences, less-difference}
 use Rattle.float.specs.declared.Flagged.{Flagged}
-use Rattle.float.specs.Word.{negative, size88, withSign, value, proper, FloatWord}
+use Rattle.float.specs.Word.{negative, size88, value, proper, FloatWord}
 use Rattle.terms.specs.declared.Rule.{Rule}
 use Rattle.terms.specs.declared.Rule.the-variants.{Cut}
 use Rattle.float.specs.Cut.{lost, kept, digitsOf, stored, cutSize}
@@ -19,7 +21,6 @@ use Rattle.float.specs.Float.{Result}
 use Rattle.float.specs.Order.{Le}
 use Rattle.float.specs.Root.{wholeRoot, rootHalves, radicand, sqrt, squareExponent, RootPair, Roots, ExactlyRoot}
 use Rattle.float.proofs.Powers.{parted}
-use Rattle.float.proofs.Differences.{sum-differences, same, above, beneath, parts, le-differences, less-difference}
 use Rattle.float.proofs.Signs.{signed-le, le-signed, cut-scaled}
 use Rattle.float.proofs.Pair.{PairAt, cuts-only, cuts-one, cut-of, grid-mono}
 use Rattle.float.proofs.Jams.{stands-cut}

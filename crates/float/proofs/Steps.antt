@@ -12,8 +12,11 @@ use lib.IntN.{ℤ, pos, negsuc, negℤ, natAbs, subℕ, _+ℤ_}
 use lib.Ieee.{size, unlike}
 use lib.Ieee.Digits.{size-le}
 use lib.Pow.{pow-add, pow-pos, pow-mono}
+use Rattle.whole.specs.Signed.{withSign}
+use Rattle.whole.proofs.Differences.{same, le-differences, differences-le, less-difference, more-difference, size-difference}
+use Rattle.whole.proofs.Signs.{sum-signs, opposite, times, size-of-signed}
 use Rattle.float.specs.declared.Flagged.{Flagged}
-use Rattle.float.specs.Word.{negative, biased, exponent, mantissa, size88, withSign, value, proper}
+use Rattle.float.specs.Word.{negative, biased, exponent, mantissa, size88, value, proper}
 use Rattle.terms.specs.declared.Rule.{Rule}
 use Rattle.terms.specs.declared.Rule.the-variants.{Cut}
 use Rattle.float.specs.Cut.{lost, kept, packed, errorAt, stored, below0, cut}
@@ -23,8 +26,6 @@ use Rattle.float.proofs.Powers.{mul-digits}
 use Rattle.float.proofs.Proper.{proper-norm}
 use Rattle.float.proofs.Pair.{size-gt, cuts-one, cut-of, cut-zero}
 use Rattle.float.proofs.OnePair.{from-scale}
-use Rattle.float.proofs.Differences.{same, le-differences, differences-le, less-difference, more-difference, size-difference}
-use Rattle.float.proofs.Signs.{sum-signs, opposite, product, size-of-signed}
 use Rattle.float.proofs.Values.{packed-mantissa, packed-biased, packed-sign, error-in}
 use Rattle.float.proofs.Order.{size-pos, div-cut}
 
@@ -167,7 +168,7 @@ mul-exactly b a B A =
     ))
   where
     magnitude : natAbs (exactProduct b a) ≡ size88 b * size88 a
-    magnitude = unfold value in ap natAbs (product (negative b) (negative a) (size88 b) (size88 a)) ∙ size-of-signed (unlike (negative b) (negative a)) (size88 b * size88 a)
+    magnitude = unfold value in ap natAbs (times (negative b) (negative a) (size88 b) (size88 a)) ∙ size-of-signed (unlike (negative b) (negative a)) (size88 b * size88 a)
 
 -- ---- quotients: above 2 ^ -128 and below 2 ^ 128
 pub div-exactly : (b a : ℕ) → proper b ≡ true → proper a ≡ true → (mantissa a ≡ 0 → ⊥) → Exactly (dividend b a) (divisor a) (negℤ (pos 127)) (pos 128) (div Cut b a)

@@ -9,14 +9,16 @@ use lib.Dec.{lit<}
 use lib.IntN.{ℤ, _+ℤ_, +ℤ-comm}
 use lib.Pow.{pow-lt, pow-mono, shr-le}
 use lib.Ieee.{unlike}
-use Rattle.float.specs.Word.{size88, mantissa, biased, proper, negative, withSign}
+use Rattle.whole.specs.Signed.{withSign}
+use Rattle.whole.proofs.Signs.{sum-alike, sum-unlike, opposite}
+use Rattle.float.specs.Word.{size88, mantissa, biased, proper, negative}
 use Rattle.terms.specs.declared.Rule.{Rule}
 use Rattle.float.specs.Cut.{cutSize, cut}
 use Rattle.float.specs.Float.{add, sub}
 use Rattle.float.specs.Jam.{Jammed}
 use Rattle.float.specs.Addend.{Addend, AddendOf, addendSize}
 use Rattle.float.proofs.Jams.{stands-cut}
-use Rattle.float.proofs.Signs.{sum-alike, sum-unlike, opposite, cut-scaled}
+use Rattle.float.proofs.Signs.{cut-scaled}
 use Rattle.float.proofs.SumStands.{Normal, sum-stands, diff-stands}
 use Rattle.float.proofs.Proper.{proper-cases}
 

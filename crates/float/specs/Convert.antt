@@ -3,9 +3,10 @@ use Prim.Native.Nat.{ℕ, _+_, _-_, _*_, _/_, _%_, _^_}
 use mathlib.Core.Bool.{Bool, true, false, cond}
 use lib.Dec.{leb}
 use lib.IntN.{ℤ}
+use Rattle.whole.specs.Signed.{withSign}
 use Rattle.terms.specs.Errors.{overflow}
 use Rattle.float.specs.declared.Flagged.{Flagged}
-use Rattle.float.specs.Word.{negative, mantissa, size88, withSign}
+use Rattle.float.specs.Word.{negative, mantissa, size88}
 use Rattle.terms.specs.declared.Rule.{Rule}
 use Rattle.float.specs.Cut.{cut}
 

@@ -2,7 +2,8 @@
 use Prim.Native.Nat.{ℕ, _*_, _^_, _≤_, _<_}
 use mathlib.Core.Path.{_≡_}
 use lib.Ieee.{Float, nan, inf, fin, up, down}
-use Rattle.float.specs.Word.{negative, size88, withSign, FloatWord}
+use Rattle.whole.specs.Signed.{withSign}
+use Rattle.float.specs.Word.{negative, size88, FloatWord}
 
 -- the value of a finite f32, sign times m times up e / down e, is that of the word w: taken times 2 ^ 88 and times down e they are one whole number
 abbrev pub Same : Float → ℕ → Type 0

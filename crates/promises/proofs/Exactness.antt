@@ -8,14 +8,16 @@ use native.Mathlib.Omega.{arith}
 use lib.IntN.{ℤ, pos, natAbs, _*ℤ_}
 use lib.Ieee.{unlike}
 use lib.Pow.{pow-pos}
-use Rattle.float.specs.Word.{mantissa, withSign, value, FloatWord}
+use Rattle.whole.specs.Signed.{withSign}
+use Rattle.whole.proofs.Signs.{times}
+use Rattle.float.specs.Word.{mantissa, value, FloatWord}
 use Rattle.terms.specs.declared.Rule.the-variants.{Cut}
 use Rattle.float.specs.Cut.{below0}
 use Rattle.float.specs.Float.{exactSum, exactDifference, exactProduct, dividend, divisor, add, sub, mul, div}
 use Rattle.float.specs.Convert.{wholePart, fix}
 use Rattle.float.specs.Exact.{Taken, Fixed}
 use Rattle.float.proofs.OnePair.{a-pair, one-pair}
-use Rattle.float.proofs.Signs.{times-size, product}
+use Rattle.float.proofs.Signs.{times-size}
 use Rattle.float.proofs.Order.{size-pos, div-cut}
 use Rattle.float.proofs.Steps.{add-exactly, sub-exactly, mul-exactly, div-exactly, div-by-zero}
 use Rattle.float.proofs.Results.{add-result, sub-result, mul-result, div-result, fltd-result, flts-result}
@@ -27,7 +29,7 @@ use Rattle.promises.specs.Exact.{clean, Exact}
 -- a whole number times two factors
 twice : (z : ℤ) (x y : ℕ) → z *ℤ pos x *ℤ pos y ≡ z *ℤ pos (x * y)
 twice z x y =
-    ap (λ (u : ℤ). u *ℤ pos y) (times-size z x) ∙ product (below0 z) false (natAbs z * x) y
+    ap (λ (u : ℤ). u *ℤ pos y) (times-size z x) ∙ times (below0 z) false (natAbs z * x) y
     ∙ ap₂ withSign (alone (below0 z)) (mul-assoc (natAbs z) x y) ∙ sym (times-size z (x * y))
   where
     alone : (s : Bool) → unlike s false ≡ s
@@ -72,7 +74,7 @@ exact = record {
   operations = record {
     sum = λ b a B A. add-exactly b a;
     difference = λ b a B A. sub-exactly b a;
-    product = λ b a B A. mul-exactly b a (B .is-proper) (A .is-proper);
+    times = λ b a B A. mul-exactly b a (B .is-proper) (A .is-proper);
     quotient = λ b a B A nz. div-exactly b a (B .is-proper) (A .is-proper) nz;
     by-zero = λ b a A z. div-by-zero Cut b a z;
   };
