@@ -1,7 +1,7 @@
 -- What the operations promise: the exact result where no error bit is set, the exact one modulo 2 ^ n, carry and borrow. Assumes nothing.
 use mathlib.Core.Path.{_≡_, refl, sym, ap, ap₂, _∙_, subst}
 use mathlib.Core.Logic.{_⊎_, ⊎-elim}
-use Prim.Native.Nat.{ℕ, zero, suc, _+_, _-_, _*_, _/_, _%_, _≤_, _<_}
+use Prim.Native.Nat.{ℕ, zero, suc, _+_, _-_, _*_, _/_, _≤_, _<_}
 use native.Mathlib.Nat.{mod-lt, lt-of-le-of-lt, div-add-mod', div-le-self, le-of-lt}
 use native.Mathlib.Omega.{arith}
 use mathlib.Core.Bool.{Bool, true, false, not, _||_, cond}
@@ -11,13 +11,13 @@ use lib.Dec.{leb, ltb, eqb}
 use lib.Ieee.{unlike}
 use borrow.Author.Tests.{lt-ltb, le-ltb, le-leb, lt-leb, eq-eqb, eqb-false, not-false}
 use Rattle.whole.specs.Signed.{withSign}
-use Rattle.whole.proofs.Differences.{either, sum-differences, neg-pos, opposite-difference}
+use Rattle.whole.proofs.Differences.{either, opposite-difference}
 use Rattle.whole.proofs.Signs.{opposite}
 use Rattle.fixed.specs.declared.Fixed.{Fixed}
 use Rattle.whole.proofs.Signs.{size-of-signed}
 use Rattle.fixed.specs.Parts.{Words, negativeAt, magnitudeAt}
 use Rattle.fixed.specs.Fixed.{signed, fits, low, overflowIf, outcome, eitherLeast, addOverflow, subOverflow, mulOverflow, add, sub, mul, muu, div, chs, isLeast, unlessLeast}
-use Rattle.fixed.proofs.LowBits.{fits-mag, low-is, sign, low-lt, kept, parted}
+use Rattle.fixed.proofs.LowBits.{fits-mag, low-is, low-lt, kept, parted}
 use Rattle.fixed.proofs.Products.{upper-lt, signed-withSign, product, quotient, product-few, abs-some}
 
 no-overflow : (t : Bool) → overflowIf t ≡ 0 → t ≡ false

@@ -15,7 +15,6 @@ use Rattle.whole.proofs.Differences.{either, same, neg-pos}
 use Rattle.whole.proofs.Signs.{times, opposite}
 use Rattle.fixed.specs.Parts.{Words, negativeAt, magnitudeAt}
 use Rattle.fixed.specs.Fixed.{signed, fits, low, overflowIf, outcome, eitherLeast, mul, muu, div, chs}
-use Rattle.fixed.proofs.LowBits.{sign}
 
 pub upper-lt : (h m : ℕ) → 0 < h → m < 2 * h * h → m / (2 * h) < h
 upper-lt h m p l = div-lt-iff-lt-mul {k = 2 * h} {x = m} {y = h} (omega arith) .1 (omega arith)

@@ -21,7 +21,7 @@ use Rattle.terms.specs.declared.Rule.{Rule}
 use Rattle.terms.specs.declared.Rule.the-variants.{Cut}
 use Rattle.float.specs.Cut.{lost, kept, digitsOf, cutSize, cut}
 use Rattle.float.specs.Convert.{integer, fltd, flts, wholePart, complement, fix}
-use Rattle.float.specs.Exact.{Exactly, Taken, Fixed}
+use Rattle.float.specs.Exact.{Exactly, Truncated, Fixes}
 use Rattle.float.proofs.Powers.{parted}
 use Rattle.float.proofs.Pair.{cut-zero}
 use Rattle.float.proofs.Signs.{cut-sign}
@@ -135,10 +135,10 @@ complement-is half (suc n) true h =
     let b : 2 * half - (2 * half - suc n) ≡ suc n = omega arith in
     (rw (e, le-leb half (2 * half - suc n) (omega arith)) (ap (λ (x : ℕ). withSign true x) b), subst (λ (x : ℕ). x < 2 * half) (sym e) (omega arith))
 
-pub fix-law : (half a : ℕ) → Fixed half a (fix half a)
+pub fix-law : (half a : ℕ) → Fixes half a (fix half a)
 fix-law half a = ⊎-elim within over (either (wholePart a) half)
   where
-    within : wholePart a < half → Fixed half a (fix half a)
+    within : wholePart a < half → Fixes half a (fix half a)
     within h =
         let c = complement-is half (wholePart a) (negative a) h in
         let p = whole-part a in
@@ -146,7 +146,7 @@ fix-law half a = ⊎-elim within over (either (wholePart a) half)
         let n : natAbs (integer half (complement half (negative a) (wholePart a))) ≡ wholePart a = ap natAbs (c .0) ∙ size-of-signed (negative a) (wholePart a) in
         inl (
           h,
-          subst (λ (r : Flagged). Taken half a r) (sym f) (record {
+          subst (λ (r : Flagged). Truncated half a r) (sym f) (record {
             none = refl;
             fits = c .1;
             sign = c .0 ∙ ap (λ (x : ℕ). withSign (negative a) x) (sym n);
@@ -155,13 +155,13 @@ fix-law half a = ⊎-elim within over (either (wholePart a) half)
           }),
         )
 
-    over : half ≤ wholePart a → Fixed half a (fix half a)
+    over : half ≤ wholePart a → Fixes half a (fix half a)
     over h = inr (h, unfold fix in rw (le-leb half (wholePart a) h))
 
 -- a word of 32 bits stays one, and the error has four bits
 pub fix-bounds : (half a : ℕ) → half ≤ 2147483648 → a < 4294967296 → ((fix half a) .word < 4294967296) × ((fix half a) .error < 16)
 fix-bounds half a H A = go (fix-law half a)
   where
-    go : Fixed half a (fix half a) → ((fix half a) .word < 4294967296) × ((fix half a) .error < 16)
+    go : Fixes half a (fix half a) → ((fix half a) .word < 4294967296) × ((fix half a) .error < 16)
     go (inl w) = let f = w .1 .fits in let e = w .1 .none in (omega arith, omega arith)
     go (inr w) = (subst (λ (r : Flagged). r .word < 4294967296) (sym (w .1)) A, subst (λ (r : Flagged). r .error < 16) (sym (w .1)) (lit< tt))

@@ -1,6 +1,6 @@
 -- The mean of s and v / s is never below the root of v, since four times a product is at most the square of the sum; where it does not fall,
 -- s is the root. What is left over the square tells the side of the next half. Assumes nothing.
-use mathlib.Core.Path.{_≡_, refl, sym, ap, _∙_}
+use mathlib.Core.Path.{_≡_, refl, ap}
 use mathlib.Core.Logic.{_⊎_, inl, inr}
 use mathlib.Core.Bool.{Bool, true, false}
 use Prim.Native.Nat.{ℕ, _+_, _-_, _*_, _/_, _%_, _^_, _≤_, _<_}

@@ -38,7 +38,7 @@ abbrev pub Exactly : ℤ → ℕ → ℤ → ℤ → Flagged → Type 0
 Exactly z d lo hi r = ((z ≡ pos 0) × (r ≡ zeroWord)) ⊎ Cuts z d lo hi r
 
 -- a whole number R of two's complement, half the least: |R| <= |A| < |R| + 1, with A's sign, and no error
-pub record Taken (half a : ℕ) (r : Flagged) : Type 0 where
+pub record Truncated (half a : ℕ) (r : Flagged) : Type 0 where
   pub none : r .error ≡ 0
   pub fits : r .word < 2 * half
   pub sign : integer half (r .word) ≡ withSign (negative a) (natAbs (integer half (r .word)))
@@ -46,5 +46,5 @@ pub record Taken (half a : ℕ) (r : Flagged) : Type 0 where
   pub passed : size88 a < (natAbs (integer half (r .word)) + 1) * 2 ^ 88
 
 -- what 01 asks of FIXD and FIXS: the whole part where it is below half, A and overflow exactly where it is not
-abbrev pub Fixed : ℕ → ℕ → Flagged → Type 0
-Fixed half a r = ((wholePart a < half) × Taken half a r) ⊎ ((half ≤ wholePart a) × (r ≡ record { word = a; error = overflow }))
+abbrev pub Fixes : ℕ → ℕ → Flagged → Type 0
+Fixes half a r = ((wholePart a < half) × Truncated half a r) ⊎ ((half ≤ wholePart a) × (r ≡ record { word = a; error = overflow }))

@@ -12,7 +12,7 @@ Same (inf s) w = ⊥
 Same (fin s m e) w = withSign s (m * up e * 2 ^ 88) ≡ withSign (negative w) (size88 w * down e)
 
 -- w is a proper word of the f32's value
-pub record Holds (x : Float) (w : ℕ) : Type 0 where
+pub record HasWord (x : Float) (w : ℕ) : Type 0 where
   pub word : FloatWord w
   pub same : Same x w
 

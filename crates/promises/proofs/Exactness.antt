@@ -15,7 +15,7 @@ use Rattle.terms.specs.declared.Rule.the-variants.{Cut}
 use Rattle.float.specs.Cut.{below0}
 use Rattle.float.specs.Float.{exactSum, exactDifference, exactProduct, dividend, divisor, add, sub, mul, div}
 use Rattle.float.specs.Convert.{wholePart, fix}
-use Rattle.float.specs.Exact.{Taken, Fixed}
+use Rattle.float.specs.Exact.{Truncated, Fixes}
 use Rattle.float.proofs.OnePair.{a-pair, one-pair}
 use Rattle.float.proofs.Signs.{times-size}
 use Rattle.float.proofs.Order.{size-pos, div-cut}
@@ -53,17 +53,17 @@ quotient-kept : (b a w : ℕ) → FloatWord w → (mantissa a ≡ 0 → ⊥) →
 quotient-kept b a w W nz e = div-cut Cut b a nz ∙ own-value Cut w (dividend b a) (divisor a) W (size-pos a nz) e
 
 -- below half, or not
-taken : (half a : ℕ) → wholePart a < half → Taken half a (fix half a)
+taken : (half a : ℕ) → wholePart a < half → Truncated half a (fix half a)
 taken half a h = go (fix-law half a)
   where
-    go : Fixed half a (fix half a) → Taken half a (fix half a)
+    go : Fixes half a (fix half a) → Truncated half a (fix half a)
     go (inl t) = t .1
     go (inr t) = let k = t .0 in absurd (omega arith)
 
 over : (half a : ℕ) → half ≤ wholePart a → fix half a ≡ record { word = a; error = 1 }
 over half a h = go (fix-law half a)
   where
-    go : Fixed half a (fix half a) → fix half a ≡ record { word = a; error = 1 }
+    go : Fixes half a (fix half a) → fix half a ≡ record { word = a; error = 1 }
     go (inl t) = let k = t .0 in absurd (omega arith)
     go (inr t) = t .1
 
@@ -74,7 +74,7 @@ exact = record {
   operations = record {
     sum = λ b a B A. add-exactly b a;
     difference = λ b a B A. sub-exactly b a;
-    times = λ b a B A. mul-exactly b a (B .is-proper) (A .is-proper);
+    product = λ b a B A. mul-exactly b a (B .is-proper) (A .is-proper);
     quotient = λ b a B A nz. div-exactly b a (B .is-proper) (A .is-proper) nz;
     by-zero = λ b a A z. div-by-zero Cut b a z;
   };

@@ -6,20 +6,11 @@ use borrow.Author.Needs.{needs}
 use Rattle.fixed.proofs.parts.low_bits.Statement.{statement}
 use Rattle.fixed.proofs.parts.low_bits.Tie as tie
 
-mul-full : tie.Need-mul-full
-mul-full c = search needs
-
-rem-r : tie.Need-rem-r
-rem-r c = search needs
-
 returns : tie.Need-returns
 returns c = low-none _ _ (c .before .pre .0) (c .before .args .neg) (c .if1 .taken)
 
 sub-result : tie.Need-sub-result
 sub-result c = omega (arith, rest _ (c .before .before .args .m) (c .before .before .pre .0))
-
-cast-result : tie.Need-cast-result
-cast-result c = search needs
 
 returns-2 : tie.Need-returns-2
 returns-2 c = low-neg _ _ (c .before .before .pre .0) _ (c .if2 .taken) (c .before .if1 .left)
@@ -33,4 +24,4 @@ returns-3 c = low-pos _ _ (c .before .before .pre .0) _ (c .if2 .left)
 pub low-bits-spec : {M : Type 1} → statement M
 low-bits-spec =
     tie.close
-    (tie.spec mul-full rem-r returns sub-result cast-result returns-2 cast-result-2 returns-3)
+    (tie.spec (λ c. search needs) (λ c. search needs) returns sub-result (λ c. search needs) returns-2 cast-result-2 returns-3)

@@ -5,15 +5,6 @@ use borrow.Author.Needs.{needs}
 use Rattle.fixed.proofs.parts.magnitude.Statement.{statement}
 use Rattle.fixed.proofs.parts.magnitude.Tie as tie
 
-is-negative-requires : tie.Need-is-negative-requires
-is-negative-requires c κs = search needs
-
-mul-result : tie.Need-mul-result
-mul-result c = search needs
-
-sub-result : tie.Need-sub-result
-sub-result c = search needs
-
 returns : tie.Need-returns
 returns c = abs-neg _ _ (sym (c .if1 .taken) ∙ c .before .is-negative .ensures)
 
@@ -21,4 +12,4 @@ returns-2 : tie.Need-returns-2
 returns-2 c = abs-pos _ _ (sym (c .if1 .left) ∙ c .before .is-negative .ensures)
 
 pub magnitude-spec : {M : Type 1} → statement M
-magnitude-spec = tie.close (tie.spec is-negative-requires mul-result sub-result returns returns-2)
+magnitude-spec = tie.close (tie.spec (λ c κs. search needs) (λ c. search needs) (λ c. search needs) returns returns-2)

@@ -7,32 +7,14 @@ use borrow.Author.Needs.{needs}
 use Rattle.fixed.proofs.parts.upper_bits.Statement.{statement}
 use Rattle.fixed.proofs.parts.upper_bits.Tie as tie
 
-mul-full : tie.Need-mul-full
-mul-full c = search needs
-
 returns : tie.Need-returns
 returns c = upper-none _ _ (c .before .args .neg) (c .if1 .taken) (c .before .pre .0)
-
-sub-result : tie.Need-sub-result
-sub-result c = search needs
-
-sub-result-2 : tie.Need-sub-result-2
-sub-result-2 c = search needs
-
-div-result : tie.Need-div-result
-div-result c = search needs
 
 sub-result-3 : tie.Need-sub-result-3
 sub-result-3 c = omega (arith, upper-lt _ (c .before .before .args .m - 1) (c .before .before .pre .0) (lt-of-le-of-lt (sub-le (c .before .before .args .m) 1) (c .before .before .pre .2)))
 
-cast-result : tie.Need-cast-result
-cast-result c = search needs
-
 returns-2 : tie.Need-returns-2
 returns-2 c = upper-neg _ _ _ (c .if2 .taken) (c .before .before .pre .0) (c .before .before .pre .2) (c .before .if1 .left)
-
-div-result-2 : tie.Need-div-result-2
-div-result-2 c = search needs
 
 cast-result-2 : tie.Need-cast-result-2
 cast-result-2 c = record { fits = lt-of-lt-of-le (upper-lt _ (c .before .before .args .m) (c .before .before .pre .0) (c .before .before .pre .2)) (omega arith) }
@@ -44,14 +26,14 @@ pub upper-bits-spec : {M : Type 1} → statement M
 upper-bits-spec =
     tie.close
     (tie.spec
-    mul-full
+    (λ c. search needs)
     returns
-    sub-result
-    sub-result-2
-    div-result
+    (λ c. search needs)
+    (λ c. search needs)
+    (λ c. search needs)
     sub-result-3
-    cast-result
+    (λ c. search needs)
     returns-2
-    div-result-2
+    (λ c. search needs)
     cast-result-2
     returns-3)

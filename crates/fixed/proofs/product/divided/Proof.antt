@@ -8,29 +8,11 @@ use Rattle.fixed.proofs.product.divided.Tie as tie
 returns : tie.Need-returns
 returns c = div-none _ _ _ (c .before .pre) (c .if1 .taken)
 
-either-least-requires : tie.Need-either-least-requires
-either-least-requires c κs = search needs
-
-least-word-requires : tie.Need-least-word-requires
-least-word-requires c κs = search needs
-
 returns-2 : tie.Need-returns-2
 returns-2 c = c .least-word .ensures ∙ div-least _ _ _ (c .before .before .before .before .pre) (c .before .before .before .if1 .left) _ (c .before .before .either-least .ensures) (c .before .if2 .taken)
 
-magnitude-requires : tie.Need-magnitude-requires
-magnitude-requires c κs = search needs
-
-magnitude-requires-2 : tie.Need-magnitude-requires-2
-magnitude-requires-2 c κs = search needs
-
 div-q : tie.Need-div-q
 div-q c = abs-some _ _ _ (c .magnitude2 .ensures .0) (c .before .before .before .before .if1 .left) (c .before .before .before .before .before .pre .right)
-
-unlike-signs-requires : tie.Need-unlike-signs-requires
-unlike-signs-requires c κs = search needs
-
-low-bits-requires : tie.Need-low-bits-requires
-low-bits-requires c κs = search needs
 
 returns-3 : tie.Need-returns-3
 returns-3 c = div-all _ _ _ (c .before .before .before .before .before .before .before .pre) _ _ _ _ (c .before .before .before .before .before .either-least .ensures) (c .before .before .before .before .if2 .left) (c .before .unlike-signs .ensures) (c .before .before .before .magnitude .ensures .0) (c .before .before .magnitude2 .ensures .0) _ (c .before .before .before .before .before .before .if1 .left) (c .low-bits .ensures)
@@ -40,12 +22,12 @@ divided-spec =
     tie.close
     (tie.spec
     returns
-    either-least-requires
-    least-word-requires
+    (λ c κs. search needs)
+    (λ c κs. search needs)
     returns-2
-    magnitude-requires
-    magnitude-requires-2
+    (λ c κs. search needs)
+    (λ c κs. search needs)
     div-q
-    unlike-signs-requires
-    low-bits-requires
+    (λ c κs. search needs)
+    (λ c κs. search needs)
     returns-3)

@@ -5,35 +5,11 @@ use borrow.Author.Needs.{needs}
 use Rattle.fixed.proofs.product.multiplied.Statement.{statement}
 use Rattle.fixed.proofs.product.multiplied.Tie as tie
 
-either-least-requires : tie.Need-either-least-requires
-either-least-requires c κs = search needs
-
-least-word-requires : tie.Need-least-word-requires
-least-word-requires c κs = search needs
-
 returns : tie.Need-returns
 returns c = c .least-word .ensures ∙ mul-least _ _ _ (c .before .before .before .pre) _ (c .before .before .either-least .ensures) (c .before .if1 .taken)
 
-magnitude-requires : tie.Need-magnitude-requires
-magnitude-requires c κs = search needs
-
-magnitude-requires-2 : tie.Need-magnitude-requires-2
-magnitude-requires-2 c κs = search needs
-
 mul-p : tie.Need-mul-p
 mul-p c = record { fits = product-fits _ _ _ (c .before .before .before .before .pre .narrow) (c .before .magnitude .ensures .1) (c .magnitude2 .ensures .1) }
-
-unlike-signs-requires : tie.Need-unlike-signs-requires
-unlike-signs-requires c κs = search needs
-
-low-bits-requires : tie.Need-low-bits-requires
-low-bits-requires c κs = search needs
-
-exceeds-requires : tie.Need-exceeds-requires
-exceeds-requires c κs = search needs
-
-overflow-bit-requires : tie.Need-overflow-bit-requires
-overflow-bit-requires c κs = search needs
 
 returns-2 : tie.Need-returns-2
 returns-2 c = mul-all _ _ _ (c .before .before .before .before .before .before .before .before .pre) _ _ _ _ (c .before .before .before .before .before .before .before .either-least .ensures) (c .before .before .before .before .before .before .if1 .left) (c .before .before .before .unlike-signs .ensures) (c .before .before .before .before .before .magnitude .ensures .0) (c .before .before .before .before .magnitude2 .ensures .0) _ _ _ (c .before .before .low-bits .ensures) (c .before .exceeds .ensures) (c .overflow-bit .ensures)
@@ -42,14 +18,14 @@ pub multiplied-spec : {M : Type 1} → statement M
 multiplied-spec =
     tie.close
     (tie.spec
-    either-least-requires
-    least-word-requires
+    (λ c κs. search needs)
+    (λ c κs. search needs)
     returns
-    magnitude-requires
-    magnitude-requires-2
+    (λ c κs. search needs)
+    (λ c κs. search needs)
     mul-p
-    unlike-signs-requires
-    low-bits-requires
-    exceeds-requires
-    overflow-bit-requires
+    (λ c κs. search needs)
+    (λ c κs. search needs)
+    (λ c κs. search needs)
+    (λ c κs. search needs)
     returns-2)

@@ -5,26 +5,11 @@ use borrow.Author.Needs.{needs}
 use Rattle.fixed.proofs.product.multiplied_upper.Statement.{statement}
 use Rattle.fixed.proofs.product.multiplied_upper.Tie as tie
 
-either-least-requires : tie.Need-either-least-requires
-either-least-requires c κs = search needs
-
-least-word-requires : tie.Need-least-word-requires
-least-word-requires c κs = search needs
-
 returns : tie.Need-returns
 returns c = c .least-word .ensures ∙ muu-least _ _ _ (c .before .before .before .pre) _ (c .before .before .either-least .ensures) (c .before .if1 .taken)
 
-magnitude-requires : tie.Need-magnitude-requires
-magnitude-requires c κs = search needs
-
-magnitude-requires-2 : tie.Need-magnitude-requires-2
-magnitude-requires-2 c κs = search needs
-
 mul-p : tie.Need-mul-p
 mul-p c = record { fits = product-fits _ _ _ (c .before .before .before .before .pre .narrow) (c .before .magnitude .ensures .1) (c .magnitude2 .ensures .1) }
-
-unlike-signs-requires : tie.Need-unlike-signs-requires
-unlike-signs-requires c κs = search needs
 
 upper-bits-requires : tie.Need-upper-bits-requires
 upper-bits-requires c κs = (c .before .before .before .before .before .pre .some, c .before .before .before .before .before .pre .narrow, product-few _ _ _ (c .before .before .before .before .before .pre .some) (c .before .before .magnitude .ensures .1) (c .before .magnitude2 .ensures .1))
@@ -36,12 +21,12 @@ pub multiplied-upper-spec : {M : Type 1} → statement M
 multiplied-upper-spec =
     tie.close
     (tie.spec
-    either-least-requires
-    least-word-requires
+    (λ c κs. search needs)
+    (λ c κs. search needs)
     returns
-    magnitude-requires
-    magnitude-requires-2
+    (λ c κs. search needs)
+    (λ c κs. search needs)
     mul-p
-    unlike-signs-requires
+    (λ c κs. search needs)
     upper-bits-requires
     returns-2)

@@ -4,14 +4,8 @@ use Rattle.fixed.proofs.Sums.{sum-all}
 use Rattle.fixed.proofs.sum.summed.Statement.{statement}
 use Rattle.fixed.proofs.sum.summed.Tie as tie
 
-sum-overflows-requires : tie.Need-sum-overflows-requires
-sum-overflows-requires c κs = search needs
-
-overflow-bit-requires : tie.Need-overflow-bit-requires
-overflow-bit-requires c κs = search needs
-
 returns : tie.Need-returns
 returns c = sum-all _ _ _ _ (c .before .before .pre .0) (c .before .before .pre .1) _ _ (c .overflow-bit .ensures) (c .before .sum-overflows .ensures)
 
 pub summed-spec : {M : Type 1} → statement M
-summed-spec = tie.close (tie.spec sum-overflows-requires overflow-bit-requires returns)
+summed-spec = tie.close (tie.spec (λ c κs. search needs) (λ c κs. search needs) returns)

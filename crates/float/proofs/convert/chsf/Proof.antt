@@ -14,12 +14,9 @@ returns-2 : tie.Need-returns-2
 unfolding chsf
 returns-2 c = rw (le-leb 8388608 (c .before .before .args .w % 16777216) (c .before .if1 .left), le-leb 2147483648 (c .before .before .args .w) (c .if2 .taken))
 
-add-result : tie.Need-add-result
-add-result c = search needs
-
 returns-3 : tie.Need-returns-3
 unfolding chsf
 returns-3 c = rw (le-leb 8388608 (c .before .before .args .w % 16777216) (c .before .if1 .left), lt-leb 2147483648 (c .before .before .args .w) (c .if2 .left))
 
 pub chsf-spec : {M : Type 1} → statement M
-chsf-spec = tie.close (tie.spec returns returns-2 add-result returns-3)
+chsf-spec = tie.close (tie.spec returns returns-2 (λ c. search needs) returns-3)

@@ -9,28 +9,10 @@ use borrow.Author.Needs.{needs}
 use Rattle.float.proofs.convert.fix_below.Statement.{statement}
 use Rattle.float.proofs.convert.fix_below.Tie as tie
 
-whole-part-requires : tie.Need-whole-part-requires
-whole-part-requires c κs = search needs
-
 returns : tie.Need-returns
 returns c =
     let s = c .before .before in
     fix-over (s .args .half) (s .args .a) _ (c .before .whole-part .ensures) (c .if1 .taken)
-
-is-negative-requires : tie.Need-is-negative-requires
-is-negative-requires c κs = search needs
-
-mul-t6 : tie.Need-mul-t6
-mul-t6 c = search needs
-
-sub-t7 : tie.Need-sub-t7
-sub-t7 c = search needs
-
-mul-t8 : tie.Need-mul-t8
-mul-t8 c = search needs
-
-rem-t9 : tie.Need-rem-t9
-rem-t9 c = search needs
 
 twice : {x : ℕ} → 0 < x → 0 < 2 * x
 twice h = omega arith
@@ -47,9 +29,6 @@ returns-2 c =
     let s = c .before .before .before .before in
     fix-within (s .args .half) (s .args .a) _ true (c .before .before .before .whole-part .ensures) (c .before .before .if1 .left) (sym (c .if2 .taken) ∙ c .before .is-negative .ensures)
 
-cast-t11 : tie.Need-cast-t11
-cast-t11 c = search needs
-
 returns-3 : tie.Need-returns-3
 returns-3 c =
     let s = c .before .before .before .before in
@@ -59,14 +38,14 @@ pub fix-below-spec : {M : Type 1} → statement M
 fix-below-spec =
     tie.close
     (tie.spec
-    whole-part-requires
+    (λ c κs. search needs)
     returns
-    is-negative-requires
-    mul-t6
-    sub-t7
-    mul-t8
-    rem-t9
+    (λ c κs. search needs)
+    (λ c. search needs)
+    (λ c. search needs)
+    (λ c. search needs)
+    (λ c. search needs)
     cast-t10
     returns-2
-    cast-t11
+    (λ c. search needs)
     returns-3)

@@ -7,20 +7,11 @@ use borrow.Author.Needs.{needs}
 use Rattle.float.proofs.convert.flts.Statement.{statement}
 use Rattle.float.proofs.convert.flts.Tie as tie
 
-sub-cut-word : tie.Need-sub-cut-word
-sub-cut-word c = search needs
-
-cut-word-requires : tie.Need-cut-word-requires
-cut-word-requires c κs = search needs
-
 returns : tie.Need-returns
 unfolding flts
 returns c =
     let a = c .before .before .args .a in
     c .cut-word .ensures ∙ integer-below Cut 32768 a _ (c .before .if1 .taken) refl
-
-cut-word-requires-2 : tie.Need-cut-word-requires-2
-cut-word-requires-2 c κs = search needs
 
 returns-2 : tie.Need-returns-2
 unfolding flts
@@ -30,4 +21,4 @@ returns-2 c =
 
 pub flts-spec : {M : Type 1} → statement M
 flts-spec =
-    tie.close (tie.spec sub-cut-word cut-word-requires returns cut-word-requires-2 returns-2)
+    tie.close (tie.spec (λ c. search needs) (λ c κs. search needs) returns (λ c κs. search needs) returns-2)

@@ -4,29 +4,8 @@ use Rattle.float.proofs.Fix.{part-up, part-down, part-none}
 use Rattle.float.proofs.convert.whole_part.Statement.{statement}
 use Rattle.float.proofs.convert.whole_part.Tie as tie
 
-mantissa-of-requires : tie.Need-mantissa-of-requires
-mantissa-of-requires c κs = search needs
-
-biased-of-requires : tie.Need-biased-of-requires
-biased-of-requires c κs = search needs
-
-cast-result : tie.Need-cast-result
-cast-result c = search needs
-
-shl-result : tie.Need-shl-result
-shl-result c = search needs
-
 returns : tie.Need-returns
 returns c = part-up (c .before .before .before .args .w) _ _ (c .before .before .mantissa-of .ensures .0) (c .before .biased-of .ensures .0) (c .before .before .mantissa-of .ensures .1) (c .before .biased-of .ensures .1) (c .if1 .taken)
-
-sub-result : tie.Need-sub-result
-sub-result c = search needs
-
-cast-result-2 : tie.Need-cast-result-2
-cast-result-2 c = search needs
-
-shr-result : tie.Need-shr-result
-shr-result c = search needs
 
 returns-2 : tie.Need-returns-2
 returns-2 c = part-down (c .before .before .before .before .args .w) _ _ (c .before .before .before .mantissa-of .ensures .0) (c .before .before .biased-of .ensures .0) (c .before .before .before .mantissa-of .ensures .1) (c .before .before .biased-of .ensures .1) (c .before .if1 .left)
@@ -38,13 +17,13 @@ pub whole-part-spec : {M : Type 1} → statement M
 whole-part-spec =
     tie.close
     (tie.spec
-    mantissa-of-requires
-    biased-of-requires
-    cast-result
-    shl-result
+    (λ c κs. search needs)
+    (λ c κs. search needs)
+    (λ c. search needs)
+    (λ c. search needs)
     returns
-    sub-result
-    cast-result-2
-    shr-result
+    (λ c. search needs)
+    (λ c. search needs)
+    (λ c. search needs)
     returns-2
     returns-3)
