@@ -169,7 +169,7 @@ pub fn perform(s: [u8; 16], command: Command) -> Outcome
         Command::Pto(width) => ended(stack::after_pto(s, width), width, 0, false),
         Command::Pop(width) => ended(stack::after_pop(s, width), width, 0, false),
         Command::Xch(width) => ended(stack::after_xch(s, width), width, 0, false),
-        Command::Pupi => ended(stack::after_pupi(s, 0x02c9_0fda), Width::Double, 0, false),
+        Command::Pupi => ended(stack::after_pupi(s, terms::PI), Width::Double, 0, false),
         Command::Sqrt => take_root(s),
     }
 }

@@ -1,18 +1,16 @@
 -- The mean of s and v / s is never below the root of v, since four times a product is at most the square of the sum; where it does not fall,
 -- s is the root. What is left over the square tells the side of the next half. Assumes nothing.
-use mathlib.Core.Path.{_≡_, refl, ap}
-use mathlib.Core.Logic.{_⊎_, inl, inr}
-use mathlib.Core.Bool.{Bool, true, false}
+use mathlib.Core.Path.{_≡_, ap}
+use mathlib.Core.Logic.{_⊎_, inl, inr, ⊎-elim}
 use Prim.Native.Nat.{ℕ, _+_, _-_, _*_, _/_, _%_, _^_, _≤_, _<_}
 use native.Mathlib.Nat.{le-trans, mul-le-mul, mul-le-mul-right, div-mul-le-self, div-le-self, div-add-mod', mod-lt, eq-zero-or-pos}
 use native.Mathlib.Omega.{arith}
-use borrow.Author.Tests.{leb-true, leb-false}
-use lib.Dec.{leb}
+use Rattle.whole.proofs.Differences.{either}
 use Rattle.float.specs.Traced.{Beyond, Traced}
 
 -- four times a product is at most the square of the sum
 squares : (a b : ℕ) → 4 * (a * b) ≤ (a + b) * (a + b)
-squares a b = go (leb a b) (leb-true a b) (leb-false a b)
+squares a b = ⊎-elim (λ (h : a < b). up-to a b (b - a) (omega arith)) (λ (h : b ≤ a). back (up-to b a (a - b) (omega arith))) (either a b)
   where
     -- by the difference d of the two
     apart : (x d : ℕ) → 4 * (x * (x + d)) ≤ (x + (x + d)) * (x + (x + d))
@@ -23,10 +21,6 @@ squares a b = go (leb a b) (leb-true a b) (leb-false a b)
 
     back : 4 * (b * a) ≤ (b + a) * (b + a) → 4 * (a * b) ≤ (a + b) * (a + b)
     back h = omega arith
-
-    go : (t : Bool) → (t ≡ true → a ≤ b) → (t ≡ false → b < a) → 4 * (a * b) ≤ (a + b) * (a + b)
-    go true f g = let h = f refl in up-to a b (b - a) (omega arith)
-    go false f g = let h = g refl in back (up-to b a (a - b) (omega arith))
 
 pub mean-beyond : (s v : ℕ) → 0 < s → Beyond v s ((s + v / s) / 2)
 mean-beyond s v S = record { above = over (v / s) (v % s) (div-add-mod' v s) (mod-lt v S); last = reach (v / s) (div-mul-le-self v s) }
@@ -80,11 +74,7 @@ pub trace-low : (v s : ℕ) → s * s ≤ v → (v - s * s ≡ 0 → ⊥) → v 
 trace-low v s a n l = inr (omega arith, low (4 * s + 1 - 1) (omega arith), high)
   where
     more : s * s < v
-    more = go (leb v (s * s)) (leb-true v (s * s)) (leb-false v (s * s))
-      where
-        go : (t : Bool) → (t ≡ true → v ≤ s * s) → (t ≡ false → s * s < v) → s * s < v
-        go true f g = let h = f refl in absurd (n (omega arith))
-        go false f g = g refl
+    more = ⊎-elim (λ (h : s * s < v). h) (λ (h : v ≤ s * s). absurd (n (omega arith))) (either (s * s) v)
 
     low : (x : ℕ) → x ≡ 4 * s → x * x < 16 * v
     low x e = let h = more in rw e (omega arith)
@@ -104,7 +94,7 @@ trace-high v s a l = inr (omega arith, low (4 * s + 3 - 1) (omega arith), high)
 
 -- a number of four digits more has as many digits as four times a root of 24
 pub trace-large : (v t : ℕ) → 2 ^ 46 ≤ v → Traced (16 * v) t → 33554432 ≤ t
-trace-large v t h j = go (leb 33554432 t) (leb-true 33554432 t) (leb-false 33554432 t)
+trace-large v t h j = ⊎-elim (λ (l : t < 33554432). absurd (small l j)) (λ (l : 33554432 ≤ t). l) (either t 33554432)
   where
     below : t < 33554432 → (t + 1) * (t + 1) ≤ 1125899906842624
     below g = let a : t + 1 ≤ 33554432 = omega arith in let b = mul-le-mul a a in omega arith
@@ -112,7 +102,3 @@ trace-large v t h j = go (leb 33554432 t) (leb-true 33554432 t) (leb-false 33554
     small : t < 33554432 → Traced (16 * v) t → ⊥
     small g (inl e) = let b = below g in omega arith
     small g (inr w) = let b = below g in let c = w .2 in omega arith
-
-    go : (x : Bool) → (x ≡ true → 33554432 ≤ t) → (x ≡ false → t < 33554432) → 33554432 ≤ t
-    go true f g = f refl
-    go false f g = absurd (small (g refl) j)

@@ -29,6 +29,9 @@ pub const NEGATIVE_ROOT: u8 = 4;
 
 pub const DIVIDE_BY_ZERO: u8 = 8;
 
+// Pi as a float word, cut.
+pub const PI: u32 = 0x02c9_0fda;
+
 // Every case of 01's table of refusals, in its order.
 pub enum Refusal {
     Done,
