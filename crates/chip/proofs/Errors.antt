@@ -3,9 +3,9 @@ use mathlib.Core.Bool.{Bool, true, false, cond}
 use Prim.Native.Nat.{ℕ, _<_}
 use lib.Dec.{lit<, leb, eqb}
 use Rattle.fixed.specs.declared.Fixed.{Fixed}
-use Rattle.fixed.specs.Fixed.{overflow, outcome, addOverflow, subOverflow, mulOverflow, eitherLeast, least, add, sub, mul, muu, div, chs}
-use Rattle.float.specs.declared.Rounded.{Rounded}
-use Rattle.float.specs.Cut.{Rule}
+use Rattle.fixed.specs.Fixed.{overflowIf, outcome, addOverflow, subOverflow, mulOverflow, eitherLeast, isLeast, add, sub, mul, muu, div, chs}
+use Rattle.float.specs.declared.Flagged.{Flagged}
+use Rattle.terms.specs.declared.Rule.{Rule}
 use Rattle.float.specs.Word.{negative, FloatWord}
 use Rattle.float.specs.Float.{Result}
 use Rattle.float.specs.Convert.{wholePart, complement, fix}
@@ -17,7 +17,7 @@ use Rattle.chip.specs.declared.words.FixedOp.the-variants.{Add, Sub, Mul
 use Rattle.chip.specs.Commands.{fixedOf, floatOf}
 
 -- ---- fixed point
-over : (x : Bool) → overflow x < 16
+over : (x : Bool) → overflowIf x < 16
 over true = lit< tt
 over false = lit< tt
 
@@ -39,7 +39,7 @@ fixed-error Div h b a = unless-zero b (eqb a 0) _ (unless-least h (eitherLeast h
 
 pub change-error : (h a : ℕ) → (chs h a) .error < 16
 unfolding chs
-change-error h a = over (least h a)
+change-error h a = over (isLeast h a)
 
 -- ---- float words
 pub float-result : (rule : Rule) (op : FloatOp) (b a : ℕ) → FloatWord b → Result (floatOf rule op b a)
@@ -53,6 +53,6 @@ pub fix-error : (half a : ℕ) → (fix half a) .error < 16
 unfolding fix
 fix-error half a = go (leb half (wholePart a))
   where
-    go : (over : Bool) → (cond {A = Rounded} over (record { word = a; error = 1 }) (record { word = complement half (negative a) (wholePart a); error = 0 })) .error < 16
+    go : (over : Bool) → (cond {A = Flagged} over (record { word = a; error = 1 }) (record { word = complement half (negative a) (wholePart a); error = 0 })) .error < 16
     go true = lit< tt
     go false = lit< tt

@@ -7,7 +7,7 @@ use native.Mathlib.Omega.{arith}
 use borrow.Author.Tests.{lt-leb}
 use Rattle.terms.specs.declared.Width.the-variants.{Double}
 use Rattle.float.specs.Word.{FloatWord}
-use Rattle.float.specs.Cut.{Rule}
+use Rattle.terms.specs.declared.Rule.{Rule}
 use Rattle.float.specs.Convert.{chsf}
 use Rattle.stack.specs.Stack.{numberFrom, bytesOf, zeros}
 use Rattle.codes.specs.declared.FloatOp.{FloatOp}

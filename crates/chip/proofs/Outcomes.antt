@@ -12,9 +12,9 @@ use Rattle.terms.specs.declared.Width.the-variants.{Single, Double}
 use Rattle.terms.specs.Width.{sizeOf}
 use Rattle.fixed.specs.declared.Fixed.{Fixed}
 use Rattle.fixed.specs.Fixed.{add, sub, mul, muu, div, chs}
-use Rattle.float.specs.declared.Rounded.{Rounded}
+use Rattle.float.specs.declared.Flagged.{Flagged}
 use Rattle.float.specs.Word.{proper, FloatWord}
-use Rattle.float.specs.Cut.{Rule}
+use Rattle.terms.specs.declared.Rule.{Rule}
 use Rattle.float.specs.Convert.{flts, fltd, fix, fixs, fixd, chsf}
 use Rattle.float.specs.Root.{sqrt}
 use Rattle.float.proofs.Results.{fltd-result, flts-result}
@@ -30,7 +30,7 @@ use Rattle.chip.specs.declared.Outcome.{Outcome}
 use Rattle.chip.specs.declared.words.FixedOp.{FixedOp}
 use Rattle.chip.specs.declared.words.FixedOp.the-variants.{Add as XAdd, Sub as XSub, Mul as XMul, Muu as XMuu, Div as XDiv}
 use Rattle.chip.specs.Status.{sign, zeroBits, statusOf, errorOf}
-use Rattle.chip.specs.Commands.{wordA, wordB, halfOf, ends, keepsA, losesA, changesA, floats, converts, widens, narrows, roots, fixedOf, floatOf, outcomeOf, properOperands}
+use Rattle.chip.specs.Commands.{piOf, wordA, wordB, halfOf, ends, keepsA, losesA, changesA, floats, converts, widens, narrows, roots, fixedOf, floatOf, outcomeOf, properOperands}
 use Rattle.chip.specs.Turns.{resultBytes}
 use Rattle.chip.proofs.Errors.{fixed-error, change-error, float-result, fix-error}
 use Rattle.chip.proofs.Rows.{both-of}
@@ -95,19 +95,19 @@ module _ (s : List ℕ) (S : IsStack s) where
   unfolding changesA
   changes-fair w r h = fair w (replaced (sizeOf w) s (r .word)) (r .error) false (replaced-stack s S (sizeOf w) (one w) (r .word)) h
 
-  floats-fair : (r : Rounded) → r .error < 16 → Fair (floats s r)
+  floats-fair : (r : Flagged) → r .error < 16 → Fair (floats s r)
   unfolding floats
   floats-fair r h = fair Double (overZero 4 s (r .word)) (r .error) false (overZero-stack s S 4 (two Double) (r .word)) h
 
-  converts-fair : (r : Rounded) → r .error < 16 → Fair (converts s r)
+  converts-fair : (r : Flagged) → r .error < 16 → Fair (converts s r)
   unfolding converts
   converts-fair r h = fair Double (converted s (r .word)) (r .error) false (converted-stack s S (r .word)) h
 
-  widens-fair : (r : Rounded) → r .error < 16 → Fair (widens s r)
+  widens-fair : (r : Flagged) → r .error < 16 → Fair (widens s r)
   unfolding widens
   widens-fair r h = fair Double (widened s (r .word)) (r .error) false (widened-stack s S (r .word)) h
 
-  narrows-fair : (r : Rounded) → r .error < 16 → Fair (narrows s r)
+  narrows-fair : (r : Flagged) → r .error < 16 → Fair (narrows s r)
   unfolding narrows
   narrows-fair r h = go (eqb (r .error) 0)
     where
@@ -115,7 +115,7 @@ module _ (s : List ℕ) (S : IsStack s) where
       go true = fair Single (narrowed s (r .word)) 0 false (narrowed-stack s S (r .word)) (lit< tt)
       go false = fair Double (converted s (r .word)) (r .error) false (converted-stack s S (r .word)) h
 
-  roots-fair : (r : Rounded) → r .error < 16 → Fair (roots s r)
+  roots-fair : (r : Flagged) → r .error < 16 → Fair (roots s r)
   unfolding roots
   roots-fair r h = go (eqb (r .error) 0)
     where
@@ -149,7 +149,7 @@ module _ (s : List ℕ) (S : IsStack s) where
   outcome-fair rule (Pto w) p = fair w (copied (sizeOf w) s) 0 false (copied-stack s S (sizeOf w) (one w)) (lit< tt)
   outcome-fair rule (Pop w) p = fair w (rotated (sizeOf w) s) 0 false (rotated-stack s S (sizeOf w) (one w)) (lit< tt)
   outcome-fair rule (Xch w) p = fair w (exchanged (sizeOf w) s) 0 false (exchanged-stack s S (sizeOf w) (two w)) (lit< tt)
-  outcome-fair rule Pupi p = fair Double (pushedWord s 0x02c90fda) 0 false (pushedWord-stack s S 0x02c90fda) (lit< tt)
+  outcome-fair rule Pupi p = fair Double (pushedWord s (piOf rule)) 0 false (pushedWord-stack s S (piOf rule)) (lit< tt)
   outcome-fair rule Sqrt p = roots-fair (sqrt rule (wordA Double s)) (root-result rule (wordA Double s) (record { fits = a-fits; is-proper = p }) .small)
 
 -- ---- R on top
@@ -172,19 +172,19 @@ module _ (s : List ℕ) (S : IsStack s) where
   unfolding changesA
   changes-hand w r = pops-read (sizeOf w) (r .word) (drop (sizeOf w) s)
 
-  floats-hand : (r : Rounded) → handedOut 4 ((floats s r) .stack) ≡ bytesOf 4 (r .word)
+  floats-hand : (r : Flagged) → handedOut 4 ((floats s r) .stack) ≡ bytesOf 4 (r .word)
   unfolding floats
   floats-hand r = pops-read 4 (r .word) (drop 8 s ++ zeros 4)
 
-  converts-hand : (r : Rounded) → handedOut 4 ((converts s r) .stack) ≡ bytesOf 4 (r .word)
+  converts-hand : (r : Flagged) → handedOut 4 ((converts s r) .stack) ≡ bytesOf 4 (r .word)
   unfolding converts
   converts-hand r = pops-read 4 (r .word) (take 8 (drop 4 s) ++ zeros 4)
 
-  widens-hand : (r : Rounded) → handedOut 4 ((widens s r) .stack) ≡ bytesOf 4 (r .word)
+  widens-hand : (r : Flagged) → handedOut 4 ((widens s r) .stack) ≡ bytesOf 4 (r .word)
   unfolding widens
   widens-hand r = pops-read 4 (r .word) (take 8 (drop 2 s) ++ zeros 4)
 
-  narrows-hand : (r : Rounded) → handedOut (cond (eqb (r .error) 0) 2 4) ((narrows s r) .stack) ≡ bytesOf (cond (eqb (r .error) 0) 2 4) (r .word)
+  narrows-hand : (r : Flagged) → handedOut (cond (eqb (r .error) 0) 2 4) ((narrows s r) .stack) ≡ bytesOf (cond (eqb (r .error) 0) 2 4) (r .word)
   unfolding narrows
   narrows-hand r = go (eqb (r .error) 0)
     where
@@ -192,7 +192,7 @@ module _ (s : List ℕ) (S : IsStack s) where
       go true = pops-read 2 (r .word) (take 8 (drop 4 s) ++ zeros 6)
       go false = pops-read 4 (r .word) (take 8 (drop 4 s) ++ zeros 4)
 
-  roots-hand : (r : Rounded) → handedOut (length (cond (eqb (r .error) 0) (bytesOf 4 (r .word)) (take 4 s))) ((roots s r) .stack) ≡ cond (eqb (r .error) 0) (bytesOf 4 (r .word)) (take 4 s)
+  roots-hand : (r : Flagged) → handedOut (length (cond (eqb (r .error) 0) (bytesOf 4 (r .word)) (take 4 s))) ((roots s r) .stack) ≡ cond (eqb (r .error) 0) (bytesOf 4 (r .word)) (take 4 s)
   unfolding roots
   roots-hand r = go (eqb (r .error) 0)
     where
@@ -230,5 +230,5 @@ module _ (s : List ℕ) (S : IsStack s) where
       let m : sizeOf w ≤ length (rotated (sizeOf w) s) = simp (length-append, length-drop, length-take) (omega arith) in
       rw (b-bytes w) (pops-hand (sizeOf w) (rotated (sizeOf w) s) m ∙ take-append-le (sizeOf w) (drop (sizeOf w) s) (take (sizeOf w) s) l)
   outcome-hands rule (Xch w) = rw (b-bytes w) (on-top (sizeOf w) (take (sizeOf w) (drop (sizeOf w) s)) (take (sizeOf w) s ++ drop (sizeOf w + sizeOf w) s) (b-bytes w))
-  outcome-hands rule Pupi = pops-read 4 0x02c90fda (take 12 s)
+  outcome-hands rule Pupi = pops-read 4 (piOf rule) (take 12 s)
   outcome-hands rule Sqrt = roots-hand (sqrt rule (wordA Double s))

@@ -10,7 +10,7 @@ use Rattle.terms.specs.declared.Width.the-variants.{Single, Double}
 use Rattle.terms.specs.Width.{sizeOf}
 use Rattle.fixed.specs.declared.Fixed.{Fixed}
 use Rattle.fixed.specs.Fixed.{chs}
-use Rattle.float.specs.declared.Rounded.{Rounded}
+use Rattle.float.specs.declared.Flagged.{Flagged}
 use Rattle.float.specs.Word.{proper}
 use Rattle.float.specs.Convert.{flts, fltd, fixs, fixd, chsf}
 use Rattle.float.specs.Root.{sqrt}
@@ -44,7 +44,7 @@ pub change-row : (w : Width) (s : List ℕ) {t : List ℕ} {a : ℕ} {r : Fixed}
 unfolding changesA
 change-row w s ea er et eo = rw (eo, et, er, ea)
 
-pub float-row : (op : FloatOp) (s : List ℕ) {t : List ℕ} {b a : ℕ} {r : Rounded} {o : Outcome} → b ≡ wordB Double s → a ≡ wordA Double s → r ≡ floatOf baseRule op b a → t ≡ overZero 4 s (r .word) → o ≡ ends Double t (r .error) false → o ≡ floats s (floatOf baseRule op (wordB Double s) (wordA Double s))
+pub float-row : (op : FloatOp) (s : List ℕ) {t : List ℕ} {b a : ℕ} {r : Flagged} {o : Outcome} → b ≡ wordB Double s → a ≡ wordA Double s → r ≡ floatOf baseRule op b a → t ≡ overZero 4 s (r .word) → o ≡ ends Double t (r .error) false → o ≡ floats s (floatOf baseRule op (wordB Double s) (wordA Double s))
 unfolding floats
 float-row op s eb ea er et eo = rw (eo, et, er, eb, ea)
 
@@ -55,7 +55,7 @@ without-error x y e z = rw (eq-eqb e 0 z)
 with-error : (x y : Outcome) (e : ℕ) → (e ≡ 0 → ⊥) → y ≡ cond (eqb e 0) x y
 with-error x y e nz = rw (ne-eqb e 0 nz)
 
-module _ (s : List ℕ) {t : List ℕ} {a : ℕ} {r : Rounded} {o : Outcome} where
+module _ (s : List ℕ) {t : List ℕ} {a : ℕ} {r : Flagged} {o : Outcome} where
   pub fltd-row : a ≡ wordA Double s → r ≡ fltd baseRule a → t ≡ converted s (r .word) → o ≡ ends Double t (r .error) false → o ≡ outcomeOf baseRule (Flt Double) s
   unfolding converts
   fltd-row ea er et eo = rw (eo, et, er, ea)
@@ -86,7 +86,7 @@ module _ (s : List ℕ) {t : List ℕ} {a : ℕ} {r : Rounded} {o : Outcome} whe
       eo ∙ ap (λ (l : List ℕ). ends Double l 0 false) et
       ∙ without-error _ _ (r .error) z ∙ ap (roots s) (er ∙ ap (sqrt baseRule) ea)
 
-pub no-root-row : (s : List ℕ) {a : ℕ} {r : Rounded} {o : Outcome} → a ≡ wordA Double s → r ≡ sqrt baseRule a → (r .error ≡ 0 → ⊥) → o ≡ ends Double s (r .error) false → o ≡ outcomeOf baseRule Sqrt s
+pub no-root-row : (s : List ℕ) {a : ℕ} {r : Flagged} {o : Outcome} → a ≡ wordA Double s → r ≡ sqrt baseRule a → (r .error ≡ 0 → ⊥) → o ≡ ends Double s (r .error) false → o ≡ outcomeOf baseRule Sqrt s
 unfolding roots
 no-root-row s {r = r} ea er nz eo = eo ∙ with-error _ _ (r .error) nz ∙ ap (roots s) (er ∙ ap (sqrt baseRule) ea)
 
@@ -115,7 +115,7 @@ row-of s e f = f ∙ sym (ap (λ (x : Command). outcomeOf baseRule x s) e)
 pub fixed-of : (h b a : ℕ) {op of : FixedOp} {r : Fixed} → op ≡ of → r ≡ fixedOf of h b a → r ≡ fixedOf op h b a
 fixed-of h b a e f = f ∙ sym (ap (λ (x : FixedOp). fixedOf x h b a) e)
 
-pub float-of : (b a : ℕ) {op of : FloatOp} {r : Rounded} → b < 4294967296 → proper b ≡ true → op ≡ of → r ≡ floatOf baseRule of b a → (r ≡ floatOf baseRule op b a) × (r .error < 16)
+pub float-of : (b a : ℕ) {op of : FloatOp} {r : Flagged} → b < 4294967296 → proper b ≡ true → op ≡ of → r ≡ floatOf baseRule of b a → (r ≡ floatOf baseRule op b a) × (r .error < 16)
 float-of b a {op} l p e f =
     let g = f ∙ sym (ap (λ (x : FloatOp). floatOf baseRule x b a) e) in
-    (g, subst (λ (x : Rounded). x .error < 16) (sym g) (float-result baseRule op b a (record { fits = l; is-proper = p }) .small))
+    (g, subst (λ (x : Flagged). x .error < 16) (sym g) (float-result baseRule op b a (record { fits = l; is-proper = p }) .small))

@@ -11,7 +11,7 @@ use Rattle.terms.specs.declared.Refusal.the-variants.{Done}
 use Rattle.terms.specs.declared.Width.{Width}
 use Rattle.terms.specs.declared.Width.the-variants.{Single, Double}
 use Rattle.terms.specs.Width.{sizeOf}
-use Rattle.float.specs.Cut.{Rule}
+use Rattle.terms.specs.declared.Rule.{Rule}
 use Rattle.stack.specs.Stack.{IsStack, bytesOf, topByte, pushed, popped, pushedAll, lowFirst, poppedAll, handedOut}
 use Rattle.stack.proofs.Moves.{pushes-lay, pops-read}
 use Rattle.codes.specs.declared.Command.{Command}

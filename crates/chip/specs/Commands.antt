@@ -8,9 +8,10 @@ use Rattle.terms.specs.declared.Width.the-variants.{Single, Double}
 use Rattle.terms.specs.Width.{sizeOf, bitsOf}
 use Rattle.fixed.specs.declared.Fixed.{Fixed}
 use Rattle.fixed.specs.Fixed.{half, add, sub, mul, muu, div, chs}
-use Rattle.float.specs.declared.Rounded.{Rounded}
+use Rattle.float.specs.declared.Flagged.{Flagged}
 use Rattle.float.specs.Word.{proper}
-use Rattle.float.specs.Cut.{Rule, Down}
+use Rattle.terms.specs.declared.Rule.{Rule}
+use Rattle.terms.specs.declared.Rule.the-variants.{Cut, Nearest}
 use Rattle.float.specs.Float.{add as fadd, sub as fsub, mul as fmul, div as fdiv}
 use Rattle.float.specs.Convert.{flts, fltd, fixs, fixd, chsf}
 use Rattle.float.specs.Root.{sqrt}
@@ -26,7 +27,12 @@ use Rattle.chip.specs.Status.{statusOf}
 
 -- the one rule of the base: a float result is cut
 abbrev pub baseRule : Rule
-baseRule = Down
+baseRule = Cut
+
+-- pi as a word: cut, or the nearest
+abbrev pub piOf : Rule → ℕ
+piOf Cut = 0x02c90fda
+piOf Nearest = 0x02c90fdb
 
 -- A and B
 abbrev pub wordA : Width → List ℕ → ℕ
@@ -60,23 +66,23 @@ unfoldable pub changesA : Width → List ℕ → Fixed → Outcome
 changesA w s r = ends w (replaced (sizeOf w) s (r .word)) (r .error) false
 
 -- R, C, D, 0
-unfoldable pub floats : List ℕ → Rounded → Outcome
+unfoldable pub floats : List ℕ → Flagged → Outcome
 floats s r = ends Double (overZero 4 s (r .word)) (r .error) false
 
 -- R, B, C, 0
-unfoldable pub converts : List ℕ → Rounded → Outcome
+unfoldable pub converts : List ℕ → Flagged → Outcome
 converts s r = ends Double (converted s (r .word)) (r .error) false
 
 -- R (two cells), 16-bit B, C, D, E, 0, 0
-unfoldable pub widens : List ℕ → Rounded → Outcome
+unfoldable pub widens : List ℕ → Flagged → Outcome
 widens s r = ends Double (widened s (r .word)) (r .error) false
 
 -- R (one cell), 32-bit B, C, then three zero cells; on an error A, B, C, 0, and status by the 32-bit A
-unfoldable pub narrows : List ℕ → Rounded → Outcome
+unfoldable pub narrows : List ℕ → Flagged → Outcome
 narrows s r = cond (eqb (r .error) 0) (ends Single (narrowed s (r .word)) 0 false) (ends Double (converted s (r .word)) (r .error) false)
 
 -- R, B, C, 0; on an error, where A is negative, the whole stack as it stands, and status by A
-unfoldable pub roots : List ℕ → Rounded → Outcome
+unfoldable pub roots : List ℕ → Flagged → Outcome
 roots s r = cond (eqb (r .error) 0) (ends Double (converted s (r .word)) 0 false) (ends Double s (r .error) false)
 
 -- ---- the rows
@@ -89,7 +95,7 @@ fixedOf XMuu = muu
 fixedOf XDiv = div
 
 -- FADD, FSUB, FMUL, FDIV give B+A, B-A, BxA, B/A
-abbrev pub floatOf : Rule → FloatOp → ℕ → ℕ → Rounded
+abbrev pub floatOf : Rule → FloatOp → ℕ → ℕ → Flagged
 floatOf rule FAdd b a = fadd rule b a
 floatOf rule FSub b a = fsub rule b a
 floatOf rule FMul b a = fmul rule b a
@@ -113,7 +119,7 @@ outcomeOf rule (Fix Single) s = narrows s (fixs (wordA Double s))
 outcomeOf rule (Pop w) s = moves w (rotated (sizeOf w) s)
 outcomeOf rule (Pto w) s = moves w (copied (sizeOf w) s)
 outcomeOf rule (Xch w) s = moves w (exchanged (sizeOf w) s)
-outcomeOf rule Pupi s = moves Double (pushedWord s 0x02c90fda)
+outcomeOf rule Pupi s = moves Double (pushedWord s (piOf rule))
 outcomeOf rule Sqrt s = roots s (sqrt rule (wordA Double s))
 
 -- whether the operands of FADD, FSUB, FMUL, FDIV, FIXS, FIXD, SQRT are proper; no other command asks it

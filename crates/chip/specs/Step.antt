@@ -8,7 +8,7 @@ use Rattle.codes.specs.declared.Command.{Command}
 use Rattle.codes.specs.declared.Kind.{Kind}
 use Rattle.codes.specs.declared.Kind.the-variants.{Known, Derived, Unknown}
 use Rattle.codes.specs.Codes.{sr, kindOf}
-use Rattle.float.specs.Cut.{Rule}
+use Rattle.terms.specs.declared.Rule.{Rule}
 use Rattle.chip.specs.declared.State.{State}
 use Rattle.chip.specs.declared.Answer.{Answer}
 use Rattle.chip.specs.State.{busy, moved, resetState, acknowledged, settled}

@@ -8,14 +8,14 @@ use Rattle.terms.specs.declared.Width.{Width}
 use Rattle.terms.specs.declared.Width.the-variants.{Single, Double}
 use Rattle.terms.specs.Width.{sizeOf}
 use Rattle.fixed.specs.Fixed.{add, sub, mul, muu, div, chs}
-use Rattle.float.specs.Cut.{Rule}
+use Rattle.terms.specs.declared.Rule.{Rule}
 use Rattle.float.specs.Convert.{flts, fltd, fixs, fixd, chsf}
 use Rattle.float.specs.Root.{sqrt}
 use Rattle.stack.specs.Stack.{bytesOf}
 use Rattle.codes.specs.declared.Command.{Command}
 use Rattle.codes.specs.declared.Command.the-variants.{Nop, Add, Sub, Mul, Muu, Div, Chs, Float, Chsf, Flt, Fix, Pto, Pop, Xch, Pupi, Sqrt}
 use Rattle.chip.specs.declared.State.{State}
-use Rattle.chip.specs.Commands.{wordA, wordB, halfOf, floatOf}
+use Rattle.chip.specs.Commands.{piOf, wordA, wordB, halfOf, floatOf}
 use Rattle.chip.specs.Step.{pushOf, popOf}
 
 -- the state after bytes pushed in turn
@@ -50,5 +50,5 @@ resultBytes rule (Fix Single) s = bytesOf (cond (eqb ((fixs (wordA Double s)) .e
 resultBytes rule (Pop w) s = take (sizeOf w) (drop (sizeOf w) s)
 resultBytes rule (Pto w) s = take (sizeOf w) s
 resultBytes rule (Xch w) s = take (sizeOf w) (drop (sizeOf w) s)
-resultBytes rule Pupi s = bytesOf 4 0x02c90fda
+resultBytes rule Pupi s = bytesOf 4 (piOf rule)
 resultBytes rule Sqrt s = cond (eqb ((sqrt rule (wordA Double s)) .error) 0) (bytesOf 4 ((sqrt rule (wordA Double s)) .word)) (take 4 s)

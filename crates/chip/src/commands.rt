@@ -72,7 +72,7 @@ fn float_work(op: FloatOp, s: [u8; 16]) -> Outcome
 fn change_float(s: [u8; 16]) -> Outcome
     ensures { λ o. ⌜ o ≡ outcomeOf baseRule Chsf s ⌝ }
 {
-    let r = float::chsf(stack::top_word(s, Width::Double));
+    let r = float::convert::chsf(stack::top_word(s, Width::Double));
     ended(
         stack::after_chs(s, Width::Double, r),
         Width::Double,
@@ -94,14 +94,14 @@ fn to_float(s: [u8; 16], width: Width) -> Outcome
 fn float_single(s: [u8; 16]) -> Outcome
     ensures { λ o. ⌜ o ≡ outcomeOf baseRule (Flt Single) s ⌝ }
 {
-    let r = float::flts(stack::top_word(s, Width::Single) as u16);
+    let r = float::convert::flts(stack::top_word(s, Width::Single) as u16);
     ended(stack::after_flts(s, r.word), Width::Double, r.error, false)
 }
 
 fn float_double(s: [u8; 16]) -> Outcome
     ensures { λ o. ⌜ o ≡ outcomeOf baseRule (Flt Double) s ⌝ }
 {
-    let r = float::fltd(stack::top_word(s, Width::Double));
+    let r = float::convert::fltd(stack::top_word(s, Width::Double));
     ended(stack::after_fltd(s, r.word), Width::Double, r.error, false)
 }
 
@@ -119,7 +119,7 @@ fn to_fixed(s: [u8; 16], width: Width) -> Outcome
 fn fix_single(s: [u8; 16]) -> Outcome
     ensures { λ o. ⌜ o ≡ outcomeOf baseRule (Fix Single) s ⌝ }
 {
-    let r = float::fixs(stack::top_word(s, Width::Double));
+    let r = float::convert::fixs(stack::top_word(s, Width::Double));
     if r.error == 0 {
         return ended(stack::after_fixs(s, r.word), Width::Single, 0, false);
     }
@@ -130,7 +130,7 @@ fn fix_single(s: [u8; 16]) -> Outcome
 fn fix_double(s: [u8; 16]) -> Outcome
     ensures { λ o. ⌜ o ≡ outcomeOf baseRule (Fix Double) s ⌝ }
 {
-    let r = float::fixd(stack::top_word(s, Width::Double));
+    let r = float::convert::fixd(stack::top_word(s, Width::Double));
     ended(stack::after_fltd(s, r.word), Width::Double, r.error, false)
 }
 
@@ -139,7 +139,7 @@ fn take_root(s: [u8; 16]) -> Outcome
     requires { ⌜ proper (wordA Double s) ≡ true ⌝ }
     ensures { λ o. ⌜ o ≡ outcomeOf baseRule Sqrt s ⌝ }
 {
-    let r = float::sqrt(stack::top_word(s, Width::Double));
+    let r = float::root::sqrt(stack::top_word(s, Width::Double));
     if r.error == 0 {
         return ended(stack::after_fltd(s, r.word), Width::Double, 0, false);
     }
@@ -169,7 +169,7 @@ pub fn perform(s: [u8; 16], command: Command) -> Outcome
         Command::Pto(width) => ended(stack::after_pto(s, width), width, 0, false),
         Command::Pop(width) => ended(stack::after_pop(s, width), width, 0, false),
         Command::Xch(width) => ended(stack::after_xch(s, width), width, 0, false),
-        Command::Pupi => ended(stack::after_pupi(s, 0x02c9_0fda), Width::Double, 0, false),
+        Command::Pupi => ended(stack::after_pupi(s, terms::PI), Width::Double, 0, false),
         Command::Sqrt => take_root(s),
     }
 }
@@ -187,10 +187,10 @@ pub fn operands_are_proper(s: [u8; 16], command: Command) -> bool
 {
     match command {
         Command::Float(_) => both(
-            float::is_proper(stack::next_word(s, Width::Double)),
-            float::is_proper(stack::top_word(s, Width::Double)),
+            float::word::is_proper(stack::next_word(s, Width::Double)),
+            float::word::is_proper(stack::top_word(s, Width::Double)),
         ),
-        Command::Fix(_) => float::is_proper(stack::top_word(s, Width::Double)),
+        Command::Fix(_) => float::word::is_proper(stack::top_word(s, Width::Double)),
         Command::Nop => true,
         Command::Add(_) => true,
         Command::Sub(_) => true,
@@ -204,6 +204,6 @@ pub fn operands_are_proper(s: [u8; 16], command: Command) -> bool
         Command::Pop(_) => true,
         Command::Xch(_) => true,
         Command::Pupi => true,
-        Command::Sqrt => float::is_proper(stack::top_word(s, Width::Double)),
+        Command::Sqrt => float::word::is_proper(stack::top_word(s, Width::Double)),
     }
 }

@@ -2,7 +2,7 @@
 // and the float operations.
 use codes::FloatOp;
 use fixed::Fixed;
-use float::Rounded;
+use float::Flagged;
 use terms::Width;
 ghost use mathlib.Core.Path.{_≡_};
 ghost use mathlib.Core.Bool.{true};
@@ -26,11 +26,11 @@ fn single(op: FixedOp, b: u16, a: u16) -> Fixed
     ensures { λ r. ⌜ r ≡ fixedOf op (half 16) b a ⌝ }
 {
     match op {
-        FixedOp::Add => fixed::add16(b, a),
-        FixedOp::Sub => fixed::sub16(b, a),
-        FixedOp::Mul => fixed::mul16(b, a),
-        FixedOp::Muu => fixed::muu16(b, a),
-        FixedOp::Div => fixed::div16(b, a),
+        FixedOp::Add => fixed::sum::add16(b, a),
+        FixedOp::Sub => fixed::sum::sub16(b, a),
+        FixedOp::Mul => fixed::product::mul16(b, a),
+        FixedOp::Muu => fixed::product::muu16(b, a),
+        FixedOp::Div => fixed::product::div16(b, a),
     }
 }
 
@@ -39,11 +39,11 @@ fn double(op: FixedOp, b: u32, a: u32) -> Fixed
     ensures { λ r. ⌜ r ≡ fixedOf op (half 32) b a ⌝ }
 {
     match op {
-        FixedOp::Add => fixed::add32(b, a),
-        FixedOp::Sub => fixed::sub32(b, a),
-        FixedOp::Mul => fixed::mul32(b, a),
-        FixedOp::Muu => fixed::muu32(b, a),
-        FixedOp::Div => fixed::div32(b, a),
+        FixedOp::Add => fixed::sum::add32(b, a),
+        FixedOp::Sub => fixed::sum::sub32(b, a),
+        FixedOp::Mul => fixed::product::mul32(b, a),
+        FixedOp::Muu => fixed::product::muu32(b, a),
+        FixedOp::Div => fixed::product::div32(b, a),
     }
 }
 
@@ -64,20 +64,20 @@ pub fn changed(width: Width, a: u32) -> Fixed
     ensures { λ r. ⌜ (r ≡ chs (halfOf width) a) × (r .error < 16) ⌝ }
 {
     match width {
-        Width::Single => fixed::chs16(a as u16),
-        Width::Double => fixed::chs32(a),
+        Width::Single => fixed::product::chs16(a as u16),
+        Width::Double => fixed::product::chs32(a),
     }
 }
 
 // A float operation on proper words. Its error has four bits.
-pub fn float_result(op: FloatOp, b: u32, a: u32) -> Rounded
+pub fn float_result(op: FloatOp, b: u32, a: u32) -> Flagged
     requires { ⌜ (proper b ≡ true) × (proper a ≡ true) ⌝ }
     ensures { λ r. ⌜ (r ≡ floatOf baseRule op b a) × (r .error < 16) ⌝ }
 {
     match op {
-        FloatOp::Add => float::fadd(b, a),
-        FloatOp::Sub => float::fsub(b, a),
-        FloatOp::Mul => float::fmul(b, a),
-        FloatOp::Div => float::fdiv(b, a),
+        FloatOp::Add => float::sum::fadd(b, a),
+        FloatOp::Sub => float::sum::fsub(b, a),
+        FloatOp::Mul => float::product::fmul(b, a),
+        FloatOp::Div => float::product::fdiv(b, a),
     }
 }

@@ -1,7 +1,7 @@
 -- What the operations promise: the exact result where no error bit is set, the exact one modulo 2 ^ n, carry and borrow. Assumes nothing.
 use mathlib.Core.Path.{_≡_, refl, sym, ap, ap₂, _∙_, subst}
 use mathlib.Core.Logic.{_⊎_, ⊎-elim}
-use Prim.Native.Nat.{ℕ, zero, suc, _+_, _-_, _*_, _/_, _%_, _≤_, _<_}
+use Prim.Native.Nat.{ℕ, zero, suc, _+_, _-_, _*_, _/_, _≤_, _<_}
 use native.Mathlib.Nat.{mod-lt, lt-of-le-of-lt, div-add-mod', div-le-self, le-of-lt}
 use native.Mathlib.Omega.{arith}
 use mathlib.Core.Bool.{Bool, true, false, not, _||_, cond}
@@ -10,14 +10,17 @@ use lib.Signed.{mag, quotZ, shrZ}
 use lib.Dec.{leb, ltb, eqb}
 use lib.Ieee.{unlike}
 use borrow.Author.Tests.{lt-ltb, le-ltb, le-leb, lt-leb, eq-eqb, eqb-false, not-false}
+use Rattle.whole.specs.Signed.{withSign}
+use Rattle.whole.proofs.Differences.{either, opposite-difference}
+use Rattle.whole.proofs.Signs.{opposite}
 use Rattle.fixed.specs.declared.Fixed.{Fixed}
-use Rattle.fixed.specs.Parts.{Words, withSign, negativeAt, magnitudeAt}
-use Rattle.fixed.specs.Fixed.{signed, fits, low, overflow, outcome, eitherLeast, addOverflow, subOverflow, mulOverflow, add, sub, mul, muu, div, chs, least, unlessLeast}
-use Rattle.fixed.proofs.Differences.{side, plus, neg-pos, turned}
-use Rattle.fixed.proofs.LowBits.{low-is, sign, low-lt, kept, parted}
-use Rattle.fixed.proofs.Products.{upper-lt, signed-withSign, minus, product, quotient, product-few, abs-some}
+use Rattle.whole.proofs.Signs.{size-of-signed}
+use Rattle.fixed.specs.Parts.{Words, negativeAt, magnitudeAt}
+use Rattle.fixed.specs.Fixed.{signed, fits, low, overflowIf, outcome, eitherLeast, addOverflow, subOverflow, mulOverflow, add, sub, mul, muu, div, chs, isLeast, unlessLeast}
+use Rattle.fixed.proofs.LowBits.{fits-mag, low-is, low-lt, kept, parted}
+use Rattle.fixed.proofs.Products.{upper-lt, signed-withSign, product, quotient, product-few, abs-some}
 
-no-overflow : (t : Bool) → overflow t ≡ 0 → t ≡ false
+no-overflow : (t : Bool) → overflowIf t ≡ 0 → t ≡ false
 no-overflow false e = refl
 no-overflow true e = absurd (omega (arith, e))
 
@@ -31,7 +34,7 @@ add-exact h b a e = kept h (signed h b +ℤ signed h a) (not-false (fits h (sign
 
 pub sub-exact : (h b a : ℕ) → sub h b a .error ≡ 0 → signed h (sub h b a .word) ≡ signed h b -ℤ signed h a
 unfolding sub
-sub-exact h b a e = kept h (signed h b -ℤ signed h a) (not-false (fits h (signed h b -ℤ signed h a)) (or-right (least h a) _ (no-overflow _ e)))
+sub-exact h b a e = kept h (signed h b -ℤ signed h a) (not-false (fits h (signed h b -ℤ signed h a)) (or-right (isLeast h a) _ (no-overflow _ e)))
 
 -- a row that is not that of a least operand
 unless : (h b a : ℕ) (r : Fixed) → unlessLeast h b a r .error ≡ 0 → (eitherLeast h b a ≡ false) × (unlessLeast h b a r ≡ r)
@@ -45,8 +48,8 @@ pub mul-exact : (h b a : ℕ) → mul h b a .error ≡ 0 → signed h (mul h b a
 unfolding mul
 mul-exact h b a e =
     let z = signed h b *ℤ signed h a in
-    let u = unless h b a (outcome (low h z) (overflow (not (fits h z))) false) e in
-    let f : overflow (not (fits h z)) ≡ 0 = sym (ap (λ (r : Fixed). r .error) (u .1)) ∙ e in
+    let u = unless h b a (outcome (low h z) (overflowIf (not (fits h z))) false) e in
+    let f : overflowIf (not (fits h z)) ≡ 0 = sym (ap (λ (r : Fixed). r .error) (u .1)) ∙ e in
     ap (λ (r : Fixed). signed h (r .word)) (u .1) ∙ kept h z (not-false (fits h z) (no-overflow (not (fits h z)) f))
 
 or-left : (s t : Bool) → s || t ≡ false → s ≡ false
@@ -66,22 +69,23 @@ small : (h w : ℕ) → (w ≡ h → ⊥) → w < 2 * h → magnitudeAt h w < h
 small h w n l =
     ⊎-elim
     (λ (k : w < h). rw (lt-leb h w k) k)
-    (λ (k : h ≤ w). rw (le-leb h w k) (⊎-elim (λ (g : h < w). omega arith) (λ (g : w ≤ h). absurd (n (omega arith))) (side h w)))
-    (side w h)
+    (λ (k : h ≤ w). rw (le-leb h w k) (⊎-elim (λ (g : h < w). omega arith) (λ (g : w ≤ h). absurd (n (omega arith))) (either h w)))
+    (either w h)
 
 -- neither operand is least: the magnitudes are below h
 module _ (h b a : ℕ) (W : Words h b a) (N : eitherLeast h b a ≡ false) where
   left-small : magnitudeAt h b < h
-  left-small = small h b (eqb-false b h (or-left (least h b) (least h a) N)) (W .left)
+  left-small = small h b (eqb-false b h (or-left (isLeast h b) (isLeast h a) N)) (W .left)
 
   right-small : magnitudeAt h a < h
-  right-small = small h a (eqb-false a h (or-right (least h b) (least h a) N)) (W .right)
+  right-small = small h a (eqb-false a h (or-right (isLeast h b) (isLeast h a) N)) (W .right)
 
   quotient-fits : fits h (quotZ (signed h b) (signed h a)) ≡ true
   quotient-fits =
       let s = unlike (negativeAt h b) (negativeAt h a) in
       let m = magnitudeAt h b / magnitudeAt h a in
       ap (fits h) (quotient h b a W)
+      ∙ fits-mag h (withSign s m)
       ∙ lt-ltb (mag (withSign s m)) h (lt-of-le-of-lt (mag-withSign s m) (lt-of-le-of-lt (div-le-self (magnitudeAt h b) (magnitudeAt h a)) left-small))
 
   upper-fits : fits h (shrZ (signed h b *ℤ signed h a) (2 * h)) ≡ true
@@ -90,6 +94,7 @@ module _ (h b a : ℕ) (W : Words h b a) (N : eitherLeast h b a ≡ false) where
       let m = magnitudeAt h b * magnitudeAt h a in
       let few = lt-of-le-of-lt (mag-withSign s m) (product-few h (magnitudeAt h b) (magnitudeAt h a) (W .some) (le-of-lt left-small) (le-of-lt right-small)) in
       ap (λ (z : ℤ). fits h (shrZ z (2 * h))) (product h b a W)
+      ∙ fits-mag h (shrZ (withSign s m) (2 * h))
       ∙ ap (λ (n : ℕ). ltb n h) (mag-shr (withSign s m) (2 * h))
       ∙ lt-ltb (mag (withSign s m) / (2 * h)) h (upper-lt h (mag (withSign s m)) (W .some) few)
 
@@ -109,9 +114,9 @@ div-exact h b a W e = go (eqb a 0) e
 pub chs-exact : (h a : ℕ) → 0 < h → a < 2 * h → chs h a .error ≡ 0 → signed h (chs h a .word) ≡ negℤ (signed h a)
 unfolding chs
 chs-exact h a p l e =
-    let m = small h a (eqb-false a h (no-overflow (least h a) e)) l in
+    let m = small h a (eqb-false a h (no-overflow (isLeast h a) e)) l in
     kept h (negℤ (signed h a))
-    (ap (λ (z : ℤ). fits h (negℤ z)) (signed-withSign h a l) ∙ ap (fits h) (minus (negativeAt h a) (magnitudeAt h a)) ∙ lt-ltb (mag (withSign (not (negativeAt h a)) (magnitudeAt h a))) h (lt-of-le-of-lt (mag-withSign (not (negativeAt h a)) (magnitudeAt h a)) m))
+    (ap (λ (z : ℤ). fits h (negℤ z)) (signed-withSign h a l) ∙ ap (fits h) (opposite (negativeAt h a) (magnitudeAt h a)) ∙ fits-mag h (withSign (not (negativeAt h a)) (magnitudeAt h a)) ∙ lt-ltb (mag (withSign (not (negativeAt h a)) (magnitudeAt h a))) h (lt-of-le-of-lt (mag-withSign (not (negativeAt h a)) (magnitudeAt h a)) m))
 
 -- MUU and MUL together hold the whole product
 pub muu-exact : (h b a : ℕ) → Words h b a → muu h b a .error ≡ 0 → signed h b *ℤ signed h a ≡ signed h (muu h b a .word) *ℤ pos (2 * h) +ℤ pos (mul h b a .word)
@@ -122,18 +127,13 @@ muu-exact h b a W e =
     parted h z (W .some)
     ∙ ap₂ (λ (x : ℤ) (y : ℕ). x *ℤ pos (2 * h) +ℤ pos y)
     (sym (ap (λ (r : Fixed). signed h (r .word)) (u .1) ∙ kept h (shrZ z (2 * h)) (upper-fits h b a W (u .0))))
-    (sym (ap (λ (t : Bool). cond t (outcome h 1 false) (outcome (low h z) (overflow (not (fits h z))) false) .word) (u .0)))
+    (sym (ap (λ (t : Bool). cond t (outcome h 1 false) (outcome (low h z) (overflowIf (not (fits h z))) false) .word) (u .0)))
 
 pub div-nonzero : (h b a : ℕ) → div h b a .error ≡ 0 → a ≡ 0 → ⊥
 unfolding div
 div-nonzero h b a e z = absurd (omega (arith, sym (ap (λ (t : Bool). cond t (outcome b 8 false) (unlessLeast h b a (outcome (low h (quotZ (signed h b) (signed h a))) 0 false)) .error) (eq-eqb a 0 z)) ∙ e))
 
 -- ---- the quotient is cut toward zero
-
-abs-withSign : (s : Bool) (m : ℕ) → natAbs (withSign s m) ≡ m
-abs-withSign false m = refl
-abs-withSign true zero = refl
-abs-withSign true (suc m) = refl
 
 -- q is b / a cut toward zero: |q| * |a| <= |b| < (|q| + 1) * |a|, and q is negative only where one of b and a is
 pub record CutTowardZero (q : ℤ) (oneNegative : Bool) (b a : ℤ) : Type 0 where
@@ -157,16 +157,16 @@ div-cut h b a W e = subst (λ (z : ℤ). CutTowardZero z s (signed h b) (signed 
     n = magnitudeAt h a
 
     abs-signed : (w : ℕ) → w < 2 * h → natAbs (signed h w) ≡ magnitudeAt h w
-    abs-signed w l = ap natAbs (signed-withSign h w l) ∙ abs-withSign (negativeAt h w) (magnitudeAt h w)
+    abs-signed w l = ap natAbs (signed-withSign h w l) ∙ size-of-signed (negativeAt h w) (magnitudeAt h w)
 
     between : (m / n * n ≤ m) × (m < (m / n + 1) * n)
     between = cut-between m n (abs-some h a n refl (div-nonzero h b a e) (W .right))
 
     shaped : CutTowardZero (withSign s (m / n)) s (signed h b) (signed h a)
     shaped = record {
-      at-most = rw (abs-withSign s (m / n), abs-signed b (W .left), abs-signed a (W .right)) (between .0);
-      above = rw (abs-withSign s (m / n), abs-signed b (W .left), abs-signed a (W .right)) (between .1);
-      signs = sym (ap (withSign s) (abs-withSign s (m / n)));
+      at-most = rw (size-of-signed s (m / n), abs-signed b (W .left), abs-signed a (W .right)) (between .0);
+      above = rw (size-of-signed s (m / n), abs-signed b (W .left), abs-signed a (W .right)) (between .1);
+      signs = sym (ap (withSign s) (size-of-signed s (m / n)));
     }
 
 -- ---- every result is a word
@@ -208,8 +208,8 @@ pub chs-least : (h : ℕ) → 0 < h → chs h h ≡ outcome h 1 false
 unfolding chs
 chs-least h p =
     let e : signed h h ≡ subℕ h (2 * h) = rw (le-ltb h h (omega arith)) in
-    ap₂ (λ (w : ℕ) (t : Bool). outcome w (overflow t) false)
-    (ap (λ (z : ℤ). low h (negℤ z)) e ∙ ap (low h) (turned h (2 * h)) ∙ low-is h (2 * h) h h 0 0 (omega arith) (omega arith))
+    ap₂ (λ (w : ℕ) (t : Bool). outcome w (overflowIf t) false)
+    (ap (λ (z : ℤ). low h (negℤ z)) e ∙ ap (low h) (opposite-difference h (2 * h)) ∙ low-is h (2 * h) h h 0 0 (omega arith) (omega arith))
     (eq-eqb h h refl)
 
 -- ---- the exact result modulo 2 ^ n: it is a multiple of 2 ^ n more than the word
@@ -250,7 +250,7 @@ div-carry h b a = cond-carry (eqb a 0) _ _ refl (cond-carry (eitherLeast h b a) 
 
 -- ---- an error number has four bits
 
-overflow-few : (t : Bool) → overflow t < 16
+overflow-few : (t : Bool) → overflowIf t < 16
 overflow-few true = omega arith
 overflow-few false = omega arith
 
@@ -280,4 +280,4 @@ div-few h b a = cond-few (eqb a 0) _ _ (omega arith) (cond-few (eitherLeast h b 
 
 pub chs-few : (h a : ℕ) → chs h a .error < 16
 unfolding chs
-chs-few h a = overflow-few (least h a)
+chs-few h a = overflow-few (isLeast h a)

@@ -1,5 +1,4 @@
 -- The laws of the arithmetic, and what stands beside the proofs of the functions.
-pub mod Differences
 pub mod LowBits
 pub mod Sums
 pub mod Products

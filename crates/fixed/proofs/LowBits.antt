@@ -1,32 +1,44 @@
 -- The range of a width, the low bits of a whole number, and what a word stands for. Assumes nothing.
-use mathlib.Core.Path.{_≡_, sym, ap, _∙_}
+use mathlib.Core.Path.{_≡_, refl, sym, ap, _∙_}
 use mathlib.Core.Logic.{_⊎_, ⊎-elim}
-use Prim.Native.Nat.{ℕ, suc, _+_, _-_, _*_, _/_, _%_, _≤_, _<_}
+use Prim.Native.Nat.{ℕ, zero, suc, _+_, _-_, _*_, _/_, _%_, _≤_, _<_}
 use native.Mathlib.Nat.{mod-add-div', mod-lt, mod-eq-of-lt, add-mul-mod-self-right, pos-of-ne-zero, div-add-mod'}
 use native.Mathlib.Omega.{arith}
-use mathlib.Core.Bool.{Bool, true, false, not, cond}
+use mathlib.Core.Bool.{Bool, true, false, not, _&&_, cond}
 use lib.IntN.{ℤ, pos, negsuc, subℕ, _+ℤ_, _*ℤ_}
-use lib.Signed.{shrZ}
+use lib.Signed.{mag, shrZ}
 use lib.Dec.{leb, ltb}
 use borrow.Author.Tests.{lt-ltb, le-ltb, le-leb, lt-leb, ltb-true}
-use Rattle.fixed.specs.Parts.{withSign}
-use Rattle.fixed.specs.Fixed.{signed, fits, low}
-use Rattle.fixed.proofs.Differences.{side, sub-lt, sub-ge, plus, neg-pos}
+use Rattle.whole.specs.Signed.{withSign}
+use Rattle.whole.proofs.Differences.{either, sub-lt, sub-ge, sum-differences, neg-pos, pos-is}
+use Rattle.fixed.specs.Fixed.{signed, fits, LowBits, low}
 
 -- ---- a difference in the range, and its low bits
+-- `mag` is k both for k and for -(k + 1), and those from -h to h - 1 have it below h
+pub fits-mag : (h : ℕ) (z : ℤ) → fits h z ≡ ltb (mag z) h
+fits-mag zero (pos k) = ap (λ (t : Bool). t && ltb k 0) (le-leb 0 k (omega arith))
+fits-mag (suc h) (pos k) = refl
+fits-mag zero (negsuc k) = sym (le-ltb k 0 (omega arith))
+fits-mag (suc h) (negsuc k) = ⊎-elim below above (either h k)
+  where
+    below : h < k → leb k h && true ≡ ltb k (suc h)
+    below g = ap (λ (t : Bool). t && true) (lt-leb k h g) ∙ sym (le-ltb k (suc h) (omega arith))
+
+    above : k ≤ h → leb k h && true ≡ ltb k (suc h)
+    above g = ap (λ (t : Bool). t && true) (le-leb k h g) ∙ sym (lt-ltb k (suc h) (omega arith))
 
 pub fits-in : (h x y : ℕ) → x < y + h → y ≤ x + h → fits h (subℕ x y) ≡ true
 fits-in h x y p q =
     ⊎-elim
-    (λ (k : x < y). ap (fits h) (sub-lt x y k) ∙ lt-ltb (y - suc x) h (omega arith))
-    (λ (k : y ≤ x). ap (fits h) (sub-ge x y k) ∙ lt-ltb (x - y) h (omega arith))
-    (side x y)
+    (λ (k : x < y). ap (fits h) (sub-lt x y k) ∙ fits-mag h _ ∙ lt-ltb (y - suc x) h (omega arith))
+    (λ (k : y ≤ x). ap (fits h) (sub-ge x y k) ∙ fits-mag h _ ∙ lt-ltb (x - y) h (omega arith))
+    (either x y)
 
 pub fits-above : (h x y : ℕ) → y + h ≤ x → fits h (subℕ x y) ≡ false
-fits-above h x y p = ap (fits h) (sub-ge x y (omega arith)) ∙ le-ltb (x - y) h (omega arith)
+fits-above h x y p = ap (fits h) (sub-ge x y (omega arith)) ∙ fits-mag h _ ∙ le-ltb (x - y) h (omega arith)
 
 pub fits-below : (h x y : ℕ) → x + h < y → fits h (subℕ x y) ≡ false
-fits-below h x y p = ap (fits h) (sub-lt x y (omega arith)) ∙ le-ltb (y - suc x) h (omega arith)
+fits-below h x y p = ap (fits h) (sub-lt x y (omega arith)) ∙ fits-mag h _ ∙ le-ltb (y - suc x) h (omega arith)
 
 low-up : (h x y r q : ℕ) → r < 2 * h → x ≡ y + (r + q * (2 * h)) → low h (subℕ x y) ≡ r
 unfolding low
@@ -50,7 +62,7 @@ low-down h x y r q p e =
 
 -- x - y is r, up to multiples of 2h
 pub low-is : (h x y r i j : ℕ) → r < 2 * h → x + i * (2 * h) ≡ y + r + j * (2 * h) → low h (subℕ x y) ≡ r
-low-is h x y r i j p e = ⊎-elim below above (side j i)
+low-is h x y r i j p e = ⊎-elim below above (either j i)
   where
     above : i ≤ j → low h (subℕ x y) ≡ r
     above k = let f : j * (2 * h) ≡ (i + (j - i)) * (2 * h) = ap (λ (n : ℕ). n * (2 * h)) (omega arith) in low-up h x y r (j - i) p (omega arith)
@@ -89,22 +101,16 @@ over-up h x y r e =
     ⊎-elim
     (λ (k : r < h). lt-leb h r k ∙ sym (ap not (fits-in h x y (omega arith) (omega arith))))
     (λ (k : h ≤ r). le-leb h r k ∙ sym (ap not (fits-above h x y (omega arith))))
-    (side r h)
+    (either r h)
 
 pub over-down : (h x y r : ℕ) → r < 2 * h → x + 2 * h ≡ y + r → ltb r h ≡ not (fits h (subℕ x y))
 over-down h x y r p e =
     ⊎-elim
     (λ (k : r < h). lt-ltb r h k ∙ sym (ap not (fits-below h x y (omega arith))))
     (λ (k : h ≤ r). le-ltb r h k ∙ sym (ap not (fits-in h x y (omega arith) (omega arith))))
-    (side r h)
+    (either r h)
 
 -- ---- m or -m: its low bits, its upper bits, its range
-
-pub sign-is : (m : ℕ) → withSign true m ≡ subℕ 0 m
-sign-is m = neg-pos m
-
-pos-is : (m : ℕ) → pos m ≡ subℕ m 0
-pos-is m = sym (sub-ge m 0 (omega arith) ∙ ap pos (omega arith))
 
 module _ (h m : ℕ) (some : 0 < h) where
   pub rest : m % (2 * h) < 2 * h
@@ -115,7 +121,7 @@ module _ (h m : ℕ) (some : 0 < h) where
   low-none false e = sym e
   low-none true e =
       let w = mod-add-div' m (2 * h) in
-      sym (ap (low h) (sign-is m) ∙ low-is h 0 m 0 (m / (2 * h)) 0 (omega arith) (omega arith))
+      sym (ap (low h) (neg-pos m) ∙ low-is h 0 m 0 (m / (2 * h)) 0 (omega arith) (omega arith))
 
   pub low-pos : (s : Bool) → s ≡ false → m % (2 * h) ≡ low h (withSign s m)
   unfolding low
@@ -126,15 +132,15 @@ module _ (h m : ℕ) (some : 0 < h) where
       let w = mod-add-div' m (2 * h) in
       let l = rest in
       let k : 0 < m % (2 * h) = pos-of-ne-zero n in
-      sym (ap (λ (t : Bool). low h (withSign t m)) f ∙ ap (low h) (sign-is m) ∙ low-is h 0 m (2 * h - m % (2 * h)) (suc (m / (2 * h))) 0 (omega arith) (omega arith))
+      sym (ap (λ (t : Bool). low h (withSign t m)) f ∙ ap (low h) (neg-pos m) ∙ low-is h 0 m (2 * h - m % (2 * h)) (suc (m / (2 * h))) 0 (omega arith) (omega arith))
 
   pub exceeds-neg : (s : Bool) → s ≡ true → ltb h m ≡ not (fits h (withSign s m))
   exceeds-neg s f =
       ⊎-elim
       (λ (k : h < m). lt-ltb h m k ∙ sym (ap not (fits-below h 0 m (omega arith))))
       (λ (k : m ≤ h). le-ltb h m k ∙ sym (ap not (fits-in h 0 m (omega arith) (omega arith))))
-      (side h m)
-      ∙ sym (ap (λ (z : ℤ). not (fits h z)) (ap (λ (t : Bool). withSign t m) f ∙ sign-is m))
+      (either h m)
+      ∙ sym (ap (λ (z : ℤ). not (fits h z)) (ap (λ (t : Bool). withSign t m) f ∙ neg-pos m))
 
   pub exceeds-pos : (s : Bool) → s ≡ false → leb h m ≡ not (fits h (withSign s m))
   exceeds-pos s f = over-up h m 0 m (omega arith) ∙ sym (ap (λ (z : ℤ). not (fits h z)) (ap (λ (t : Bool). withSign t m) f ∙ pos-is m))
@@ -151,11 +157,11 @@ low-lt h (negsuc k) p = omega arith
 pub kept : (h : ℕ) (z : ℤ) → fits h z ≡ true → signed h (low h z) ≡ z
 unfolding low
 kept h (pos k) f =
-    let l : k < h = ltb-true k h f in
+    let l : k < h = ltb-true k h (sym (fits-mag h (pos k)) ∙ f) in
     let e : k % (2 * h) ≡ k = mod-eq-of-lt (omega arith) in
     rw (e, lt-ltb k h l)
 kept h (negsuc k) f =
-    let l : k < h = ltb-true k h f in
+    let l : k < h = ltb-true k h (sym (fits-mag h (negsuc k)) ∙ f) in
     let e : 2 * h - suc (k % (2 * h)) ≡ 2 * h - suc k = ap (λ (n : ℕ). 2 * h - suc n) (mod-eq-of-lt (omega arith)) in
     rw (e, le-ltb (2 * h - suc k) h (omega arith)) (sub-lt (2 * h - suc k) (2 * h) (omega arith) ∙ ap negsuc (omega arith))
 
@@ -166,7 +172,7 @@ word-back h w l =
     ⊎-elim
     (λ (k : w < h). rw (lt-ltb w h k) (mod-eq-of-lt l))
     (λ (k : h ≤ w). rw (le-ltb w h k) (ap (low h) (sub-lt w (2 * h) l) ∙ ap (λ (n : ℕ). 2 * h - suc n) (mod-eq-of-lt (omega arith)) ∙ omega arith))
-    (side w h)
+    (either w h)
 
 -- a whole number is its upper part, rounded down, times 2h, and its low bits
 pub parted : (h : ℕ) (z : ℤ) → 0 < h → z ≡ shrZ z (2 * h) *ℤ pos (2 * h) +ℤ pos (low h z)
@@ -179,6 +185,10 @@ parted h (negsuc k) p =
     let w = div-add-mod' k (2 * h) in
     sym (ap (λ (z : ℤ). z +ℤ pos (2 * h - suc r)) (neg-pos (suc q * (2 * h)))
     ∙ ap (λ (z : ℤ). subℕ 0 (suc q * (2 * h)) +ℤ z) (sym (sub-ge (2 * h - suc r) 0 (omega arith) ∙ ap pos (omega arith)))
-    ∙ plus 0 (suc q * (2 * h)) (2 * h - suc r) 0
+    ∙ sum-differences 0 (suc q * (2 * h)) (2 * h - suc r) 0
     ∙ sub-lt (0 + (2 * h - suc r)) (suc q * (2 * h) + 0) (omega arith)
     ∙ ap negsuc (omega arith))
+
+-- the function finds the low bits
+pub low-bits : (h : ℕ) (z : ℤ) → 0 < h → LowBits h z (low h z)
+low-bits h z p = record { word = low-lt h z p; multiple = shrZ z (2 * h); whole = parted h z p }

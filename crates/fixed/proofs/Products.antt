@@ -2,18 +2,19 @@
 use mathlib.Core.Path.{_≡_, refl, sym, ap, ap₂, _∙_}
 use mathlib.Core.Logic.{_⊎_, ⊎-elim}
 use Prim.Native.Nat.{ℕ, zero, suc, _-_, _*_, _/_, _%_, _≤_, _<_}
-use native.Mathlib.Nat.{mod-eq-of-lt, pos-of-ne-zero, mul-pos, mul-le-mul, le-trans, lt-of-le-of-lt, div-lt-iff-lt-mul, zero-div, div-zero, zero-mod, zero-mul, mul-zero}
+use native.Mathlib.Nat.{mod-eq-of-lt, pos-of-ne-zero, mul-pos, mul-le-mul, le-trans, lt-of-le-of-lt, div-lt-iff-lt-mul, zero-div, div-zero, zero-mod}
 use native.Mathlib.Omega.{arith}
 use mathlib.Core.Bool.{Bool, true, false, not}
-use lib.IntN.{ℤ, pos, negℤ, negℤ-negℤ, _*ℤ_}
+use lib.IntN.{ℤ, pos, negℤ, _*ℤ_}
 use lib.Signed.{quotZ, shrZ}
 use lib.Dec.{eqb, lit<}
 use lib.Ieee.{unlike}
 use borrow.Author.Tests.{lt-ltb, le-ltb, le-leb, lt-leb, eq-eqb, ne-eqb, leb-true, leb-false}
-use Rattle.fixed.specs.Parts.{Words, withSign, negativeAt, magnitudeAt}
-use Rattle.fixed.specs.Fixed.{signed, fits, low, overflow, outcome, eitherLeast, mul, muu, div, chs}
-use Rattle.fixed.proofs.Differences.{side, same, neg-pos}
-use Rattle.fixed.proofs.LowBits.{sign}
+use Rattle.whole.specs.Signed.{withSign}
+use Rattle.whole.proofs.Differences.{either, same, neg-pos}
+use Rattle.whole.proofs.Signs.{times, opposite}
+use Rattle.fixed.specs.Parts.{Words, negativeAt, magnitudeAt}
+use Rattle.fixed.specs.Fixed.{signed, fits, low, overflowIf, outcome, eitherLeast, mul, muu, div, chs}
 
 pub upper-lt : (h m : ℕ) → 0 < h → m < 2 * h * h → m / (2 * h) < h
 upper-lt h m p l = div-lt-iff-lt-mul {k = 2 * h} {x = m} {y = h} (omega arith) .1 (omega arith)
@@ -53,18 +54,7 @@ signed-withSign h w l =
     ⊎-elim
     (λ (k : w < h). rw (lt-ltb w h k, lt-leb h w k))
     (λ (k : h ≤ w). rw (le-ltb w h k, le-leb h w k) (same w (2 * h) 0 (2 * h - w) (omega arith) ∙ sym (neg-pos (2 * h - w))))
-    (side w h)
-
-pub times : (s t : Bool) (m n : ℕ) → withSign s m *ℤ withSign t n ≡ withSign (unlike s t) (m * n)
-times false false m n = refl
-times true false zero n = rw (zero-mul n)
-times true false (suc m) n = refl
-times false true m zero = rw (mul-zero m)
-times false true m (suc n) = refl
-times true true zero zero = refl
-times true true zero (suc n) = rw (zero-mul (suc n))
-times true true (suc m) zero = rw (mul-zero (suc m))
-times true true (suc m) (suc n) = refl
+    (either w h)
 
 pub over : (s t : Bool) (m n : ℕ) → quotZ (withSign s m) (withSign t n) ≡ withSign (unlike s t) (m / n)
 over false false m n = refl
@@ -76,10 +66,6 @@ over true true zero zero = refl
 over true true zero (suc n) = rw (zero-div (suc n))
 over true true (suc m) zero = rw (div-zero (suc m))
 over true true (suc m) (suc n) = refl
-
-pub minus : (s : Bool) (m : ℕ) → negℤ (withSign s m) ≡ withSign (not s) m
-minus false m = refl
-minus true m = negℤ-negℤ (pos m)
 
 module _ (h b a : ℕ) (W : Words h b a) where
   pub product : signed h b *ℤ signed h a ≡ withSign (unlike (negativeAt h b) (negativeAt h a)) (magnitudeAt h b * magnitudeAt h a)
@@ -112,9 +98,9 @@ module _ (h b a : ℕ) (W : Words h b a) where
     exact-quotient : withSign s (x / y) ≡ quotZ (signed h b) (signed h a)
     exact-quotient = (λ i. withSign (S i) (X i / Y i)) ∙ sym quotient
 
-    pub mul-all : (w e : ℕ) (o : Bool) → w ≡ low h (withSign s (x * y)) → o ≡ not (fits h (withSign s (x * y))) → e ≡ overflow o → outcome w e false ≡ mul h b a
+    pub mul-all : (w e : ℕ) (o : Bool) → w ≡ low h (withSign s (x * y)) → o ≡ not (fits h (withSign s (x * y))) → e ≡ overflowIf o → outcome w e false ≡ mul h b a
     unfolding mul
-    mul-all w e o p q r = rw (sym E ∙ F) (λ i. outcome ((p ∙ ap (low h) exact-product) i) ((r ∙ ap overflow (q ∙ ap (λ (z : ℤ). not (fits h z)) exact-product)) i) false)
+    mul-all w e o p q r = rw (sym E ∙ F) (λ i. outcome ((p ∙ ap (low h) exact-product) i) ((r ∙ ap overflowIf (q ∙ ap (λ (z : ℤ). not (fits h z)) exact-product)) i) false)
 
     pub muu-all : (w : ℕ) → w ≡ low h (shrZ (withSign s (x * y)) (2 * h)) → outcome w 0 false ≡ muu h b a
     unfolding muu
@@ -124,17 +110,17 @@ module _ (h b a : ℕ) (W : Words h b a) where
     unfolding div
     div-all w n p = rw (ne-eqb a 0 n, sym E ∙ F) (λ i. outcome ((p ∙ ap (low h) exact-quotient) i) 0 false)
 
-pub chs-all : (h a w e x : ℕ) (s : Bool) → a < 2 * h → s ≡ negativeAt h a → x ≡ magnitudeAt h a → w ≡ low h (withSign (not s) x) → e ≡ overflow (eqb a h) → outcome w e false ≡ chs h a
+pub chs-all : (h a w e x : ℕ) (s : Bool) → a < 2 * h → s ≡ negativeAt h a → x ≡ magnitudeAt h a → w ≡ low h (withSign (not s) x) → e ≡ overflowIf (eqb a h) → outcome w e false ≡ chs h a
 unfolding chs
 chs-all h a w e x s l S X p q =
-    λ i. outcome ((p ∙ (λ j. low h (withSign (not (S j)) (X j))) ∙ ap (low h) (sym (ap negℤ (signed-withSign h a l) ∙ minus (negativeAt h a) (magnitudeAt h a)))) i) (q i) false
+    λ i. outcome ((p ∙ (λ j. low h (withSign (not (S j)) (X j))) ∙ ap (low h) (sym (ap negℤ (signed-withSign h a l) ∙ opposite (negativeAt h a) (magnitudeAt h a)))) i) (q i) false
 
 pub abs-some : (h w x : ℕ) → x ≡ magnitudeAt h w → (w ≡ 0 → ⊥) → w < 2 * h → 0 < x
 abs-some h w x e n l =
     ⊎-elim
     (λ (k : w < h). let f : x ≡ w = e ∙ rw (lt-leb h w k) in let g : 0 < w = pos-of-ne-zero n in omega arith)
     (λ (k : h ≤ w). let f : x ≡ 2 * h - w = e ∙ rw (le-leb h w k) in omega arith)
-    (side w h)
+    (either w h)
 
 pub product-few : (h x y : ℕ) → 0 < h → x ≤ h → y ≤ h → x * y < 2 * h * h
 product-few h x y p k l =

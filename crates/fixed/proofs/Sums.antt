@@ -8,9 +8,9 @@ use mathlib.Core.Bool.{Bool, true, false, not, _||_}
 use lib.IntN.{ℤ, negℤ, subℕ, _+ℤ_, _-ℤ_}
 use lib.Dec.{leb, ltb}
 use borrow.Author.Tests.{lt-ltb, le-ltb, le-leb, lt-leb, eq-eqb, ne-eqb}
+use Rattle.whole.proofs.Differences.{either, sum-differences, opposite-difference}
 use Rattle.fixed.specs.Parts.{Words}
-use Rattle.fixed.specs.Fixed.{signed, fits, low, addOverflow, subOverflow, overflow, outcome, add, sub}
-use Rattle.fixed.proofs.Differences.{side, plus, turned}
+use Rattle.fixed.specs.Fixed.{signed, fits, low, addOverflow, subOverflow, overflowIf, outcome, add, sub}
 use Rattle.fixed.proofs.LowBits.{low-is, sign, signed-is, sign-pos, sign-neg, inside, over-up, over-down}
 
 -- ---- the sum
@@ -23,7 +23,7 @@ module _ (h b a r : ℕ) (W : Words h b a) (R : r ≡ (b + a) % (2 * h)) where
   whole = sym (mod-add-div' (b + a) (2 * h)) ∙ ap (λ (n : ℕ). n + (b + a) / (2 * h) * (2 * h)) (sym R)
 
   sum-is : signed h b +ℤ signed h a ≡ subℕ (b + a) (sign h b * (2 * h) + sign h a * (2 * h))
-  sum-is = ap₂ _+ℤ_ (signed-is h b) (signed-is h a) ∙ plus b (sign h b * (2 * h)) a (sign h a * (2 * h))
+  sum-is = ap₂ _+ℤ_ (signed-is h b) (signed-is h a) ∙ sum-differences b (sign h b * (2 * h)) a (sign h a * (2 * h))
 
   pub sum-low : r ≡ low h (signed h b +ℤ signed h a)
   sum-low =
@@ -54,11 +54,11 @@ module _ (h b a r : ℕ) (W : Words h b a) (R : r ≡ (b + a) % (2 * h)) where
       ⊎-elim
       (λ (k : b + a < 2 * h). let e : r ≡ b + a = R ∙ mod-eq-of-lt k in le-ltb r b (omega arith) ∙ sym (lt-leb (2 * h) (b + a) k))
       (λ (k : 2 * h ≤ b + a). let e : r ≡ b + a - 2 * h = R ∙ mod-eq-sub-mod k ∙ mod-eq-of-lt (omega arith) in lt-ltb r b (omega arith) ∙ sym (le-leb (2 * h) (b + a) k))
-      (side (b + a) (2 * h))
+      (either (b + a) (2 * h))
 
-  pub sum-all : (e : ℕ) (o : Bool) → e ≡ overflow o → o ≡ addOverflow h b a → outcome r e (ltb r b) ≡ add h b a
+  pub sum-all : (e : ℕ) (o : Bool) → e ≡ overflowIf o → o ≡ addOverflow h b a → outcome r e (ltb r b) ≡ add h b a
   unfolding add
-  sum-all e o p q = λ i. outcome (sum-low i) ((p ∙ ap overflow q) i) (sum-carry i)
+  sum-all e o p q = λ i. outcome (sum-low i) ((p ∙ ap overflowIf q) i) (sum-carry i)
 
 -- ---- the difference
 
@@ -69,8 +69,8 @@ module _ (h b a r : ℕ) (W : Words h b a) (near : r < 2 * h) (R : (r + a) % (2 
   diff-is : signed h b -ℤ signed h a ≡ subℕ (b + sign h a * (2 * h)) (sign h b * (2 * h) + a)
   diff-is =
       ap₂ (λ (x y : ℤ). x +ℤ negℤ y) (signed-is h b) (signed-is h a)
-      ∙ ap (λ (y : ℤ). subℕ b (sign h b * (2 * h)) +ℤ y) (turned a (sign h a * (2 * h)))
-      ∙ plus b (sign h b * (2 * h)) (sign h a * (2 * h)) a
+      ∙ ap (λ (y : ℤ). subℕ b (sign h b * (2 * h)) +ℤ y) (opposite-difference a (sign h a * (2 * h)))
+      ∙ sum-differences b (sign h b * (2 * h)) (sign h a * (2 * h)) a
 
   pub diff-low : r ≡ low h (signed h b -ℤ signed h a)
   diff-low =
@@ -88,7 +88,7 @@ module _ (h b a r : ℕ) (W : Words h b a) (near : r < 2 * h) (R : (r + a) % (2 
       ⊎-elim
       (λ (k : r + a < 2 * h). inl (sym R ∙ mod-eq-of-lt k))
       (λ (k : 2 * h ≤ r + a). let e : b ≡ r + a - 2 * h = sym R ∙ mod-eq-sub-mod k ∙ mod-eq-of-lt (omega arith) in inr (omega arith))
-      (side (r + a) (2 * h))
+      (either (r + a) (2 * h))
 
   pub diff-least : a ≡ h → true ≡ subOverflow h b a
   diff-least e = sym (ap (λ (t : Bool). t || not (fits h (signed h b -ℤ signed h a))) (eq-eqb a h e))
@@ -105,6 +105,6 @@ module _ (h b a r : ℕ) (W : Words h b a) (near : r < 2 * h) (R : (r + a) % (2 
   pub diff-nn : (a ≡ h → ⊥) → h ≤ b → h ≤ a → false ≡ subOverflow h b a
   diff-nn n p q = inside h (b + 1 * (2 * h)) (1 * (2 * h) + a) (omega arith) (omega arith) ∙ sym (diff-over 1 1 n (sign-neg h b p) (sign-neg h a q))
 
-  pub diff-all : (e : ℕ) (o : Bool) → e ≡ overflow o → o ≡ subOverflow h b a → outcome r e (ltb b a) ≡ sub h b a
+  pub diff-all : (e : ℕ) (o : Bool) → e ≡ overflowIf o → o ≡ subOverflow h b a → outcome r e (ltb b a) ≡ sub h b a
   unfolding sub
-  diff-all e o p q = λ i. outcome (diff-low i) ((p ∙ ap overflow q) i) (ltb b a)
+  diff-all e o p q = λ i. outcome (diff-low i) ((p ∙ ap overflowIf q) i) (ltb b a)

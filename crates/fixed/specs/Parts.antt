@@ -1,7 +1,6 @@
--- What the functions below the arithmetic speak of: two words, a number with a sign, a word's sign and magnitude. Definitions only. Assumes nothing.
+-- What the functions below the arithmetic speak of, and 01 does not: two words, a word's sign and its magnitude. Definitions only. Assumes nothing.
 use Prim.Native.Nat.{ℕ, _-_, _*_, _≤_, _<_}
-use mathlib.Core.Bool.{Bool, true, false, cond}
-use lib.IntN.{ℤ, pos, negℤ}
+use mathlib.Core.Bool.{Bool, cond}
 use lib.Dec.{leb}
 
 -- b and a are words, of at most 32 bits
@@ -10,11 +9,6 @@ pub record Words (h b a : ℕ) : Type 0 where
   pub narrow : h ≤ 2147483648
   pub left : b < 2 * h
   pub right : a < 2 * h
-
--- m or -m
-abbrev pub withSign : Bool → ℕ → ℤ
-withSign true m = negℤ (pos m)
-withSign false m = pos m
 
 abbrev pub negativeAt : ℕ → ℕ → Bool
 negativeAt h w = leb h w

@@ -12,15 +12,19 @@ use lib.Dec.{leb, ltb, lit<, lit≤}
 use lib.IntN.{ℤ, pos, natAbs, _*ℤ_}
 use lib.Ieee.{unlike}
 use lib.Pow.{pow-pos}
-use Rattle.float.specs.declared.Rounded.{Rounded}
-use Rattle.float.specs.Word.{negative, size88, withSign, value}
-use Rattle.float.specs.Cut.{Rule, Down, lost, kept, digitsOf, cutSize, cut}
+use Rattle.whole.specs.Signed.{withSign}
+use Rattle.whole.proofs.Differences.{either}
+use Rattle.whole.proofs.Signs.{times, size-of-signed}
+use Rattle.float.specs.declared.Flagged.{Flagged}
+use Rattle.float.specs.Word.{negative, size88, value}
+use Rattle.terms.specs.declared.Rule.{Rule}
+use Rattle.terms.specs.declared.Rule.the-variants.{Cut}
+use Rattle.float.specs.Cut.{lost, kept, digitsOf, cutSize, cut}
 use Rattle.float.specs.Convert.{integer, fltd, flts, wholePart, complement, fix}
-use Rattle.float.specs.Exact.{Exactly, Taken, Fixed}
+use Rattle.float.specs.Exact.{Exactly, Truncated, Fixes}
 use Rattle.float.proofs.Powers.{parted}
 use Rattle.float.proofs.Pair.{cut-zero}
-use Rattle.float.proofs.Differences.{either}
-use Rattle.float.proofs.Signs.{product, size-of-signed, cut-sign}
+use Rattle.float.proofs.Signs.{cut-sign}
 use Rattle.float.proofs.Values.{grid, error-in, cut-stored, cut-value}
 use Rattle.float.proofs.Steps.{exactly, lost-least, lost-most}
 use Rattle.float.proofs.Kept.{fits-exact}
@@ -37,7 +41,7 @@ no-error : (r : Rule) (s : Bool) (x : ℕ) → x ≤ 2147483648 → (cutSize r s
 no-error r s x h = ⊎-elim none some (eq-zero-or-pos x)
   where
     none : x ≡ 0 → (cutSize r s (x * 2 ^ 200) 1) .error ≡ 0
-    none e = ap (λ (y : Rounded). y .error) (cut-zero r s (x * 2 ^ 200) 1 (ap (λ (y : ℕ). y * 2 ^ 200) e ∙ zero-mul (2 ^ 200)))
+    none e = ap (λ (y : Flagged). y .error) (cut-zero r s (x * 2 ^ 200) 1 (ap (λ (y : ℕ). y * 2 ^ 200) e ∙ zero-mul (2 ^ 200)))
 
     some : 0 < x → (cutSize r s (x * 2 ^ 200) 1) .error ≡ 0
     some p =
@@ -48,7 +52,7 @@ no-error r s x h = ⊎-elim none some (eq-zero-or-pos x)
         let k = digits-near (kept r n 1) (lost n 1) in
         let k0 = k .0 in
         let k1 = k .1 in
-        ap (λ (y : Rounded). y .error) (cut-stored r s n 1 (mul-pos p (pow-pos 200))) ∙ error-in (digitsOf (kept r n 1) (lost n 1)) (omega arith) (omega arith)
+        ap (λ (y : Flagged). y .error) (cut-stored r s n 1 (mul-pos p (pow-pos 200))) ∙ error-in (digitsOf (kept r n 1) (lost n 1)) (omega arith) (omega arith)
 
 -- what a number of two's complement stands for, as a sign and a magnitude
 integer-parts : (half a : ℕ) → a < 2 * half → (s : Bool) × (x : ℕ) × (integer half a ≡ withSign s x) × (x ≤ half)
@@ -61,7 +65,7 @@ integer-parts half a h = go (leb half a) (leb-true half a) (leb-false half a)
 integer-error : (r : Rule) (half a : ℕ) → half ≤ 2147483648 → a < 2 * half → (cut r (integer half a) 1) .error ≡ 0
 integer-error r half a H h =
     let p = integer-parts half a h in
-    ap (λ (z : ℤ). (cut r z 1) .error) (p .2) ∙ ap (λ (y : Rounded). y .error) (cut-sign r (p .0) (p .1) 1) ∙ no-error r (p .0) (p .1) (le-trans (p .3) H)
+    ap (λ (z : ℤ). (cut r z 1) .error) (p .2) ∙ ap (λ (y : Flagged). y .error) (cut-sign r (p .0) (p .1) 1) ∙ no-error r (p .0) (p .1) (le-trans (p .3) H)
 
 pub fltd-no-error : (r : Rule) (a : ℕ) → a < 4294967296 → (fltd r a) .error ≡ 0
 unfolding fltd
@@ -72,7 +76,7 @@ unfolding flts
 flts-no-error r a h = integer-error r (2 ^ 15) a (lit≤ tt) h
 
 -- FLTD and FLTS give exactly the cut of A's value, whose exponent is from 1 to 32
-integer-exactly : (half a : ℕ) → half ≤ 2147483648 → a < 2 * half → Exactly (integer half a) 1 (pos 1) (pos 32) (cut Down (integer half a) 1)
+integer-exactly : (half a : ℕ) → half ≤ 2147483648 → a < 2 * half → Exactly (integer half a) 1 (pos 1) (pos 32) (cut Cut (integer half a) 1)
 integer-exactly half a H h =
     exactly (integer half a) 1 177 208 (le-refl 1) (lit< tt) (λ p. (
       le-trans (le-of-eq (mul-one (2 ^ 200) ∙ sym (one-mul (2 ^ 200)))) (mul-le-mul-right (2 ^ 200) p),
@@ -82,11 +86,11 @@ integer-exactly half a H h =
     small : natAbs (integer half a) ≤ half
     small = let q = integer-parts half a h in le-trans (le-of-eq (ap natAbs (q .2) ∙ size-of-signed (q .0) (q .1))) (q .3)
 
-pub fltd-exactly : (a : ℕ) → a < 4294967296 → Exactly (integer (2 ^ 31) a) 1 (pos 1) (pos 32) (fltd Down a)
+pub fltd-exactly : (a : ℕ) → a < 4294967296 → Exactly (integer (2 ^ 31) a) 1 (pos 1) (pos 32) (fltd Cut a)
 unfolding fltd
 fltd-exactly a h = integer-exactly (2 ^ 31) a (le-refl 2147483648) h
 
-pub flts-exactly : (a : ℕ) → a < 65536 → Exactly (integer (2 ^ 15) a) 1 (pos 1) (pos 32) (flts Down a)
+pub flts-exactly : (a : ℕ) → a < 65536 → Exactly (integer (2 ^ 15) a) 1 (pos 1) (pos 32) (flts Cut a)
 unfolding flts
 flts-exactly a h = integer-exactly (2 ^ 15) a (lit≤ tt) h
 
@@ -100,9 +104,9 @@ flts-exact r a h =
     let c : flts r a ≡ cutSize r s (x * 2 ^ 200) 1 = unfold flts in ap (λ (z : ℤ). cut r z 1) (p .2) ∙ cut-sign r s x 1 in
     let v = cut-value r s (x * 2 ^ 200) 1 (le-refl 1) (no-error r s x (le-trans small (lit≤ {m = 2 ^ 15} {n = 2147483648} tt))) in
     let g : grid r (x * 2 ^ 200) 1 ≡ x * 2 ^ 200 = fits-exact r (x * 2 ^ 200) 1 x 200 (le-refl 1) (lt-of-le-of-lt small (lit< tt)) (sym (mul-one (x * 2 ^ 200))) in
-    ap (λ (y : Rounded). value (y .word)) c ∙ v .0
+    ap (λ (y : Flagged). value (y .word)) c ∙ v .0
     ∙ ap (λ (y : ℕ). withSign s y) (shrink (size88 ((cutSize r s (x * 2 ^ 200) 1) .word)) (x * 2 ^ 88) (v .1 ∙ g ∙ parted x 200 88 112 refl))
-    ∙ sym (ap (λ (z : ℤ). z *ℤ pos (2 ^ 88)) (p .2) ∙ product s false x (2 ^ 88) ∙ alone s (x * 2 ^ 88))
+    ∙ sym (ap (λ (z : ℤ). z *ℤ pos (2 ^ 88)) (p .2) ∙ times s false x (2 ^ 88) ∙ alone s (x * 2 ^ 88))
   where
     shrink : (y z : ℕ) → y * 2 ^ 112 ≡ z * 2 ^ 112 → y ≡ z
     shrink y z e = omega arith
@@ -131,10 +135,10 @@ complement-is half (suc n) true h =
     let b : 2 * half - (2 * half - suc n) ≡ suc n = omega arith in
     (rw (e, le-leb half (2 * half - suc n) (omega arith)) (ap (λ (x : ℕ). withSign true x) b), subst (λ (x : ℕ). x < 2 * half) (sym e) (omega arith))
 
-pub fix-law : (half a : ℕ) → Fixed half a (fix half a)
+pub fix-law : (half a : ℕ) → Fixes half a (fix half a)
 fix-law half a = ⊎-elim within over (either (wholePart a) half)
   where
-    within : wholePart a < half → Fixed half a (fix half a)
+    within : wholePart a < half → Fixes half a (fix half a)
     within h =
         let c = complement-is half (wholePart a) (negative a) h in
         let p = whole-part a in
@@ -142,7 +146,7 @@ fix-law half a = ⊎-elim within over (either (wholePart a) half)
         let n : natAbs (integer half (complement half (negative a) (wholePart a))) ≡ wholePart a = ap natAbs (c .0) ∙ size-of-signed (negative a) (wholePart a) in
         inl (
           h,
-          subst (λ (r : Rounded). Taken half a r) (sym f) (record {
+          subst (λ (r : Flagged). Truncated half a r) (sym f) (record {
             none = refl;
             fits = c .1;
             sign = c .0 ∙ ap (λ (x : ℕ). withSign (negative a) x) (sym n);
@@ -151,13 +155,13 @@ fix-law half a = ⊎-elim within over (either (wholePart a) half)
           }),
         )
 
-    over : half ≤ wholePart a → Fixed half a (fix half a)
+    over : half ≤ wholePart a → Fixes half a (fix half a)
     over h = inr (h, unfold fix in rw (le-leb half (wholePart a) h))
 
 -- a word of 32 bits stays one, and the error has four bits
 pub fix-bounds : (half a : ℕ) → half ≤ 2147483648 → a < 4294967296 → ((fix half a) .word < 4294967296) × ((fix half a) .error < 16)
 fix-bounds half a H A = go (fix-law half a)
   where
-    go : Fixed half a (fix half a) → ((fix half a) .word < 4294967296) × ((fix half a) .error < 16)
+    go : Fixes half a (fix half a) → ((fix half a) .word < 4294967296) × ((fix half a) .error < 16)
     go (inl w) = let f = w .1 .fits in let e = w .1 .none in (omega arith, omega arith)
-    go (inr w) = (subst (λ (r : Rounded). r .word < 4294967296) (sym (w .1)) A, subst (λ (r : Rounded). r .error < 16) (sym (w .1)) (lit< tt))
+    go (inr w) = (subst (λ (r : Flagged). r .word < 4294967296) (sym (w .1)) A, subst (λ (r : Flagged). r .error < 16) (sym (w .1)) (lit< tt))

@@ -7,7 +7,8 @@ use native.Mathlib.Omega.{arith}
 use borrow.Author.Tests.{le-leb, lt-leb}
 use lib.Pow.{pow-add, pow-pos, pow-mono, shl-exact}
 use Rattle.float.specs.Word.{negative, biased, mantissa}
-use Rattle.float.specs.Cut.{Rule, cutSize, cut}
+use Rattle.terms.specs.declared.Rule.{Rule}
+use Rattle.float.specs.Cut.{cutSize, cut}
 use Rattle.float.specs.Convert.{integer, wholePart, complement, fix}
 use Rattle.float.proofs.Powers.{parted}
 use Rattle.float.proofs.Signs.{cut-sign}

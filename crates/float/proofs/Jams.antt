@@ -11,7 +11,9 @@ use borrow.Author.Tests.{lt-ltb}
 use lib.Pow.{pow-add, pow-pos, pow-mono}
 use lib.Ieee.{nearest, size}
 use lib.Ieee.Nearest.{div-same}
-use Rattle.float.specs.Cut.{Rule, Down, Near, whole, lost, kept, cutSize}
+use Rattle.terms.specs.declared.Rule.{Rule}
+use Rattle.terms.specs.declared.Rule.the-variants.{Cut, Nearest}
+use Rattle.float.specs.Cut.{whole, lost, kept, cutSize}
 use Rattle.float.specs.Jam.{Jammed}
 use Rattle.float.proofs.Powers.{sub-mul}
 use Rattle.float.proofs.Pair.{whole-same, lost-is, cuts-one}
@@ -100,8 +102,8 @@ module _ (n u t h : ℕ) (U : 0 < u) (H : 0 < h) (odd : t % 2 ≡ 1) (lo : t * u
           compare-gt (n % (u * (4 * h)) * 2) (u * (4 * h)) (omega arith) ∙ sym (compare-gt (t % (4 * h) * 2) (4 * h) (omega arith))
 
   pub jam-whole : (r : Rule) → whole r n (u * (4 * h)) ≡ whole r t (4 * h)
-  jam-whole Down = quot
-  jam-whole Near = ap (λ (x : ℕ). nearest x (compare (n % (u * (4 * h)) * 2) (u * (4 * h)))) quot ∙ ap (λ (o : Ordering). nearest (t / (4 * h)) o) halves
+  jam-whole Cut = quot
+  jam-whole Nearest = ap (λ (x : ℕ). nearest x (compare (n % (u * (4 * h)) * 2) (u * (4 * h)))) quot ∙ ap (λ (o : Ordering). nearest (t / (4 * h)) o) halves
 
 -- ---- equal fractions are cut alike
 pub same-cut : (r : Rule) (a b c d : ℕ) → 0 < b → 0 < d → a * d ≡ c * b → (kept r a b ≡ kept r c d) × (lost a b ≡ lost c d)
@@ -175,7 +177,7 @@ jam-cut r n d t x D big (inl e) = same-cut r n d (t * 2 ^ x) 1 D (le-refl 1) (mu
 jam-cut r n d t x D big (inr w) =
     let N = t * 2 ^ x in
     let k = lost N 1 in
-    let m = kept Down N 1 in
+    let m = kept Cut N 1 in
     let p : 0 < 2 ^ x = pow-pos x in
     let g = cuts-one N 1 (le-refl 1) (le-trans (mul-le-mul-right 1 (small big)) (mul-le-mul-left t p)) in
     let b : 8388608 * 2 ^ k ≤ N = le-trans (mul-le-mul-right (2 ^ k) (g .0)) (le-trans (le-of-eq (ap (λ (z : ℕ). m * z) (sym (one-mul (2 ^ k))))) (g .2)) in

@@ -12,20 +12,24 @@ use lib.IntN.{ℤ, pos, negsuc, natAbs, _*ℤ_}
 use lib.Pow.{pow-add, pow-pos}
 use lib.Ieee.{size, nearest}
 use lib.Ieee.Digits.{size-le}
-use Rattle.float.specs.declared.Rounded.{Rounded}
-use Rattle.float.specs.Word.{negative, biased, mantissa, size88, withSign, value, FloatWord}
-use Rattle.float.specs.Cut.{Rule, Down, Near, whole, lost, packed, stored, below0, cutSize, cut}
+use Rattle.whole.specs.Signed.{withSign}
+use Rattle.whole.proofs.Signs.{size-of-signed}
+use Rattle.float.specs.declared.Flagged.{Flagged}
+use Rattle.float.specs.Word.{negative, biased, mantissa, size88, value, FloatWord}
+use Rattle.terms.specs.declared.Rule.{Rule}
+use Rattle.terms.specs.declared.Rule.the-variants.{Cut, Nearest}
+use Rattle.float.specs.Cut.{whole, lost, packed, stored, below0, cutSize, cut}
 use Rattle.float.proofs.Powers.{parted}
 use Rattle.float.proofs.Proper.{proper-cases}
 use Rattle.float.proofs.Pair.{whole-same, lost-is, cut-of, cut-zero}
 use Rattle.float.proofs.Jams.{same-cut, stands-cut}
-use Rattle.float.proofs.Signs.{signed-parts, size-of-signed, times-size, cut-sign}
+use Rattle.float.proofs.Signs.{signed-parts, times-size, cut-sign}
 use Rattle.float.proofs.Values.{grid, error-in}
 
 -- ---- under either rule a whole number stays
 whole-one : (r : Rule) (q : ℕ) → whole r q 1 ≡ q
-whole-one Down q = div-one q
-whole-one Near q = ap₂ (λ (x y : ℕ). nearest x (compare (y * 2) 1)) (div-one q) (mod-one q)
+whole-one Cut q = div-one q
+whole-one Nearest q = ap₂ (λ (x y : ℕ). nearest x (compare (y * 2) 1)) (div-one q) (mod-one q)
 
 pub whole-exact : (r : Rule) (q u : ℕ) → 0 < u → whole r (q * u) u ≡ q
 whole-exact r q u U = whole-same r (q * u) u q 1 U (le-refl 1) (mul-one (q * u)) ∙ whole-one r q
@@ -137,5 +141,5 @@ own-value r w z d W D e = go (proper-cases w (W .is-proper))
 -- two proper words of one value are one word
 pub same-word : (v w : ℕ) → FloatWord v → FloatWord w → value v ≡ value w → v ≡ w
 same-word v w A B e =
-    ap (λ (x : Rounded). x .word)
-    (sym (own-value Down v (value v) (2 ^ 88) A (pow-pos 88) refl) ∙ own-value Down w (value v) (2 ^ 88) B (pow-pos 88) (ap (λ (z : ℤ). z *ℤ pos (2 ^ 88)) (sym e)))
+    ap (λ (x : Flagged). x .word)
+    (sym (own-value Cut v (value v) (2 ^ 88) A (pow-pos 88) refl) ∙ own-value Cut w (value v) (2 ^ 88) B (pow-pos 88) (ap (λ (z : ℤ). z *ℤ pos (2 ^ 88)) (sym e)))

@@ -2,12 +2,11 @@
 pub mod Powers
 pub mod Pair
 pub mod Jams
-pub mod Differences
 pub mod Signs
 pub mod Proper
-pub mod Sum
-pub mod Sides
-pub mod Quotient
+pub mod SumStands
+pub mod SumCut
+pub mod ProductCut
 pub mod Fix
 pub mod Values
 pub mod Order
@@ -19,7 +18,7 @@ pub mod Kept
 pub mod Conversions
 pub mod Moved
 pub mod WholeRoot
-pub mod RootLoop
-pub mod Root
+pub mod Means
+pub mod RootCut
 pub mod RootExact
 pub mod Bench

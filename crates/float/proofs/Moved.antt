@@ -8,10 +8,10 @@ use native.Mathlib.Omega.{arith}
 use lib.IntN.{ℤ, pos, negℤ, subℕ, _+ℤ_, _-ℤ_}
 use lib.Signed.{_≤ℤ_}
 use lib.Ieee.{up, down}
-use Rattle.float.specs.declared.Rounded.{Rounded}
+use Rattle.whole.proofs.Differences.{either, above, beneath, parts, le-differences, less-difference}
+use Rattle.float.specs.declared.Flagged.{Flagged}
 use Rattle.float.specs.Word.{biased, exponent, mantissa, size88}
 use Rattle.float.specs.Exact.{Steps, Cuts, IsSize}
-use Rattle.float.proofs.Differences.{either, above, beneath, parts, le-differences, less-difference}
 use Rattle.float.proofs.OnePair.{scale}
 
 -- the magnitude of every word is m * 2 ^ (e - 24)
@@ -37,7 +37,7 @@ places e = ⊎-elim low (λ h. inr (inl (from 64 0 (omega arith)))) (either (abo
     low : above e < beneath e + 64 → ((negℤ (pos 64) ≤ℤ e) × (e ≤ℤ pos 63)) ⊎ ((pos 64 ≤ℤ e) ⊎ (e ≤ℤ negℤ (pos 65)))
     low h = ⊎-elim (λ (k : above e + 64 < beneath e). inr (inr (to 0 65 (omega arith)))) (λ (k : beneath e ≤ above e + 64). inl (from 0 64 (omega arith), to 63 0 (omega arith))) (either (above e + 64) (beneath e))
 
-module _ (e : ℤ) (r : Rounded) (s : Steps e r) where
+module _ (e : ℤ) (r : Flagged) (s : Steps e r) where
   clash : {A : Type 0} (x y : ℕ) → r .error ≡ x → r .error ≡ y → (x ≡ y → ⊥) → A
   clash x y a b n = absurd (n (sym a ∙ b))
 
@@ -69,7 +69,7 @@ module _ (e : ℤ) (r : Rounded) (s : Steps e r) where
       go (inr (inr w)) = (w, s .under w .1)
 
 -- ---- the value of a cut
-module _ {z : ℤ} {d : ℕ} {lo hi : ℤ} {r : Rounded} (c : Cuts z d lo hi r) where
+module _ {z : ℤ} {d : ℕ} {lo hi : ℤ} {r : Flagged} (c : Cuts z d lo hi r) where
   sized : (e : ℤ) → exponent (r .word) ≡ e → IsSize (size88 (r .word)) (c .m) e
   sized e h = subst₂ (λ (m : ℕ) (x : ℤ). IsSize (size88 (r .word)) m x) (c .digits) h (word-size (r .word))
 

@@ -10,10 +10,10 @@ use lib.IntN.{ℤ, pos, negsuc, subℕ, _+ℤ_, _-ℤ_, +ℤ-negℤ-cancel, -ℤ
 use lib.Pow.{pow-add, pow-pos}
 use lib.Ieee.{up, down, size}
 use lib.Ieee.Digits.{size-lt}
-use Rattle.float.specs.Cut.{Down, kept, lost}
-use Rattle.float.specs.Exact.{Pair}
+use Rattle.whole.proofs.Differences.{either, sub-lt, sub-ge, same, above, beneath, parts}
+use Rattle.terms.specs.declared.Rule.the-variants.{Cut}
+use Rattle.float.specs.Cut.{Pair, kept, lost}
 use Rattle.float.proofs.Pair.{PairAt, cuts-only, cuts-one}
-use Rattle.float.proofs.Differences.{either, sub-lt, sub-ge, same, above, beneath, parts}
 
 -- ---- 2 ^ (k - J), as a fraction
 pub scale : (k J : ℕ) → up (subℕ k J) * 2 ^ J ≡ 2 ^ k * down (subℕ k J)
@@ -95,7 +95,7 @@ pub a-pair : (n d : ℕ) → 0 < n → 0 < d → (m : ℕ) × (e : ℤ) × Pair 
 a-pair n d N D =
     let J = 23 + size d in
     let k = lost (n * 2 ^ J) d in
-    let m = kept Down (n * 2 ^ J) d in
+    let m = kept Cut (n * 2 ^ J) d in
     let e = subℕ k J +ℤ pos 24 in
     (m, e, from-scale n d m k J e (+ℤ-negℤ-cancel (subℕ k J) (pos 24)) (cuts-one (n * 2 ^ J) d D large))
   where

@@ -10,14 +10,17 @@ use lib.IntN.{ℤ, pos, negℤ, natAbs, _*ℤ_, +ℤ-comm}
 use lib.Signed.{_≤ℤ_}
 use lib.Ieee.{unlike}
 use lib.Pow.{pow-pos}
-use Rattle.float.specs.declared.Rounded.{Rounded}
-use Rattle.float.specs.Word.{negative, biased, mantissa, size88, withSign, value}
-use Rattle.float.specs.Cut.{Rule, below0, cutSize, cut}
+use Rattle.whole.specs.Signed.{withSign}
+use Rattle.whole.proofs.Differences.{le-sum-left, le-sum-right, le-opposite}
+use Rattle.whole.proofs.Signs.{opposite, times}
+use Rattle.float.specs.declared.Flagged.{Flagged}
+use Rattle.float.specs.Word.{negative, biased, mantissa, size88, value}
+use Rattle.terms.specs.declared.Rule.{Rule}
+use Rattle.float.specs.Cut.{below0, cutSize, cut}
 use Rattle.float.specs.Float.{exactSum, exactDifference, exactProduct, dividend, divisor, add, sub, mul, div}
 use Rattle.float.specs.Order.{Le, LeBy}
 use Rattle.float.proofs.Pair.{grid-mono}
-use Rattle.float.proofs.Differences.{le-sum-left, le-sum-right, le-opposite}
-use Rattle.float.proofs.Signs.{signed-parts, times-size, signed-le, le-signed, opposite, product, cut-sign}
+use Rattle.float.proofs.Signs.{signed-parts, times-size, signed-le, le-signed, cut-sign}
 use Rattle.float.proofs.Values.{grid, grid-zero, cut-value}
 
 -- ---- magnitudes with a sign
@@ -72,10 +75,10 @@ cut-keeps r z z' d d' D D' h e e' =
     let n' = natAbs z' in
     let c : cut r z d ≡ cutSize r s (n * 2 ^ 200) d = ap (λ (y : ℤ). cut r y d) (signed-parts z) ∙ cut-sign r s n d in
     let c' : cut r z' d' ≡ cutSize r t (n' * 2 ^ 200) d' = ap (λ (y : ℤ). cut r y d') (signed-parts z') ∙ cut-sign r t n' d' in
-    let v = cut-value r s (n * 2 ^ 200) d D (sym (ap (λ (x : Rounded). x .error) c) ∙ e) in
-    let v' = cut-value r t (n' * 2 ^ 200) d' D' (sym (ap (λ (x : Rounded). x .error) c') ∙ e') in
+    let v = cut-value r s (n * 2 ^ 200) d D (sym (ap (λ (x : Flagged). x .error) c) ∙ e) in
+    let v' = cut-value r t (n' * 2 ^ 200) d' D' (sym (ap (λ (x : Flagged). x .error) c') ∙ e') in
     let l = le-signed s t (n * d') (n' * d) (subst₂ (λ (x y : ℤ). x ≤ℤ y) (times-size z d') (times-size z' d) h) in
-    subst₂ (λ (x y : Rounded). Le (x .word) (y .word)) (sym c) (sym c')
+    subst₂ (λ (x y : Flagged). Le (x .word) (y .word)) (sym c) (sym c')
     (subst₂ (λ (x y : ℤ). x ≤ℤ y) (sym (v .0)) (sym (v' .0))
     (signed-le s t (size88 ((cutSize r s (n * 2 ^ 200) d) .word)) (size88 ((cutSize r t (n' * 2 ^ 200) d') .word))
     (kept-order r n d n' d' D D' s t (size88 ((cutSize r s (n * 2 ^ 200) d) .word)) (size88 ((cutSize r t (n' * 2 ^ 200) d') .word)) (v .1) (v' .1) l)))
@@ -102,7 +105,7 @@ turn-factor x y k h = subst₂ (λ (u v : ℤ). u ≤ℤ v) (swap y) (swap x) (l
 
     swap : (z : ℤ) → negℤ (z *ℤ pos k) ≡ z *ℤ withSign true k
     swap z =
-        ap negℤ (times-size z k) ∙ negated (below0 z) (natAbs z * k) ∙ sym (product (below0 z) true (natAbs z) k)
+        ap negℤ (times-size z k) ∙ negated (below0 z) (natAbs z * k) ∙ sym (times (below0 z) true (natAbs z) k)
         ∙ ap (λ (u : ℤ). u *ℤ withSign true k) (sym (signed-parts z))
 
 -- a factor with a sign: the order is kept, or turned round where the factor is negative
@@ -163,7 +166,7 @@ div-cut r b a nz = rw (ne-eqb (mantissa a) 0 nz)
 
 dividend-is : (b a : ℕ) → value b *ℤ withSign (negative a) 1 ≡ dividend b a
 unfolding value
-dividend-is b a = product (negative b) (negative a) (size88 b) 1 ∙ ap (λ (x : ℕ). withSign (unlike (negative b) (negative a)) x) (mul-one (size88 b))
+dividend-is b a = times (negative b) (negative a) (size88 b) 1 ∙ ap (λ (x : ℕ). withSign (unlike (negative b) (negative a)) x) (mul-one (size88 b))
 
 -- dividing by a constant keeps the order, by a negative one turns it round
 pub div-order : (r : Rule) (b b' a : ℕ) → Le b b' → (div r b a) .error ≡ 0 → (div r b' a) .error ≡ 0 → LeBy (negative a) ((div r b a) .word) ((div r b' a) .word)

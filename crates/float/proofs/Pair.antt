@@ -12,19 +12,21 @@ use lib.Ieee.{size}
 use lib.Ieee.Digits.{size-lt, size-le, size-reaches}
 use lib.Ieee.Fits.{kept-lt, nearest-le}
 use lib.Ieee.Nearest.{closest-mono, nearest-ge, div-mono}
-use Rattle.float.specs.Cut.{Rule, Down, Near, whole, lost, kept, stored, zeroWord, cutSize}
+use Rattle.terms.specs.declared.Rule.{Rule}
+use Rattle.terms.specs.declared.Rule.the-variants.{Cut, Nearest}
+use Rattle.float.specs.Cut.{whole, lost, kept, stored, zeroWord, cutSize}
 
 pub whole-mono : (r : Rule) (a b c d : ℕ) → 0 < b → 0 < d → a * d ≤ c * b → whole r a b ≤ whole r c d
-whole-mono Down a b c d B D h = div-mono a b c d B D h
-whole-mono Near a b c d B D h = closest-mono a b c d B D h
+whole-mono Cut a b c d B D h = div-mono a b c d B D h
+whole-mono Nearest a b c d B D h = closest-mono a b c d B D h
 
 pub whole-ge : (r : Rule) (n d : ℕ) → n / d ≤ whole r n d
-whole-ge Down n d = le-refl (n / d)
-whole-ge Near n d = nearest-ge (n / d) (compare (n % d * 2) d)
+whole-ge Cut n d = le-refl (n / d)
+whole-ge Nearest n d = nearest-ge (n / d) (compare (n % d * 2) d)
 
 pub whole-le : (r : Rule) (n d : ℕ) → whole r n d ≤ suc (n / d)
-whole-le Down n d = le-suc (n / d)
-whole-le Near n d = nearest-le (n / d) (compare (n % d * 2) d)
+whole-le Cut n d = le-suc (n / d)
+whole-le Nearest n d = nearest-le (n / d) (compare (n % d * 2) d)
 
 -- equal fractions
 pub whole-same : (r : Rule) (a b c d : ℕ) → 0 < b → 0 < d → a * d ≡ c * b → whole r a b ≡ whole r c d
@@ -97,14 +99,14 @@ abbrev pub PairAt : ℕ → ℕ → ℕ → ℕ → Type 0
 PairAt n d m k = (8388608 ≤ m) × (m < 16777216) × (m * (d * 2 ^ k) ≤ n) × (n < suc m * (d * 2 ^ k))
 
 -- at most one pair
-pub cuts-only : (n d m k : ℕ) → 0 < d → PairAt n d m k → (kept Down n d ≡ m) × (lost n d ≡ k)
+pub cuts-only : (n d m k : ℕ) → 0 < d → PairAt n d m k → (kept Cut n d ≡ m) × (lost n d ≡ k)
 cuts-only n d m k D h =
     let e : lost n d ≡ k =
     lost-is n d k D (le-trans (mul-le-mul-right (d * 2 ^ k) (h .0)) (h .2)) (lt-of-lt-of-le (h .3) (mul-le-mul-right (d * 2 ^ k) (h .1))) in
     (ap (λ (x : ℕ). n / (d * 2 ^ x)) e ∙ div-eq-of-lt-le (d * 2 ^ k) (h .2) (subst (λ (x : ℕ). n < x * (d * 2 ^ k)) (sym (add-one m)) (h .3)), e)
 
 -- and there is one, where the magnitude is at least 2 ^ 23 fine units
-pub cuts-one : (n d : ℕ) → 0 < d → 8388608 * d ≤ n → PairAt n d (kept Down n d) (lost n d)
+pub cuts-one : (n d : ℕ) → 0 < d → 8388608 * d ≤ n → PairAt n d (kept Cut n d) (lost n d)
 cuts-one n d D h =
     let k = lost n d in
     let u : 0 < d * 2 ^ k = mul-pos D (pow-pos k) in (
@@ -114,9 +116,9 @@ cuts-one n d D h =
       subst (λ (x : ℕ). n < x) (sym (suc-mul (n / (d * 2 ^ k)) (d * 2 ^ k))) (lt-div-mul-add u),
     )
   where
-    low : (0 ≡ lost n d) ⊎ (0 < lost n d) → 8388608 ≤ kept Down n d
+    low : (0 ≡ lost n d) ⊎ (0 < lost n d) → 8388608 ≤ kept Cut n d
     low (inl e) = subst (λ (x : ℕ). 8388608 ≤ n / (d * 2 ^ x)) e (le-div-iff-mul-le (mul-pos D (pow-pos 0)) .1 (le-trans (le-of-eq (ap (λ (x : ℕ). 8388608 * x) (mul-one d))) h))
-    low (inr l) = kept-ge Down n d l
+    low (inr l) = kept-ge Cut n d l
 
 -- ---- what a program that normalises by leading zeros computes: the magnitude is mag * 2 ^ x, its top bit brought to bit 63 by the shift s
 pub normed : (r : Rule) (mag x s k : ℕ) → x + 40 ≡ s + k → 2 ^ 63 ≤ mag * 2 ^ s → mag * 2 ^ s < 2 ^ 64

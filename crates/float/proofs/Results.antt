@@ -9,9 +9,10 @@ use borrow.Author.Tests.{le-leb, ltb-true, eqb-false}
 use lib.Dec.{ltb, leb, eqb, lit<, lit≤}
 use lib.IntN.{ℤ, pos, natAbs}
 use lib.Pow.{pow-pos, pow-mono}
-use Rattle.float.specs.declared.Rounded.{Rounded}
+use Rattle.float.specs.declared.Flagged.{Flagged}
 use Rattle.float.specs.Word.{biased, mantissa, size88, FloatWord}
-use Rattle.float.specs.Cut.{Rule, lost, kept, whole, mantissaOf, digitsOf, packed, stored, zeroWord, below0, cutSize, cut}
+use Rattle.terms.specs.declared.Rule.{Rule}
+use Rattle.float.specs.Cut.{lost, kept, whole, mantissaOf, digitsOf, packed, stored, zeroWord, below0, cutSize, cut}
 use Rattle.float.specs.Float.{exactSum, exactDifference, exactProduct, dividend, divisor, add, sub, mul, div, Result}
 use Rattle.float.specs.Convert.{integer, fltd, flts}
 use Rattle.float.proofs.Pair.{whole-ge, kept-le, kept-ge, cut-zero}
@@ -49,11 +50,11 @@ pub zero-result : Result zeroWord
 zero-result = record { word = record { fits = lit< tt; is-proper = refl }; small = lit< tt }
 
 pub cut-result : (r : Rule) (s : Bool) (n d : ℕ) → 0 < d → (n ≡ 0) ⊎ (8388608 * d ≤ n) → Result (cutSize r s n d)
-cut-result r s n d D (inl z) = subst (λ (x : Rounded). Result x) (sym (cut-zero r s n d z)) zero-result
+cut-result r s n d D (inl z) = subst (λ (x : Flagged). Result x) (sym (cut-zero r s n d z)) zero-result
 cut-result r s n d D (inr h) =
     let N : 0 < n = lt-of-lt-of-le D (le-trans (more D) h) in
     let m = mantissa-big (kept r n d) (kept-big r n d D h) (kept-le r n d) in
-    subst (λ (x : Rounded). Result x) (sym (cut-stored r s n d N)) (packed-result s (mantissaOf (kept r n d)) (digitsOf (kept r n d) (lost n d)) (m .0) (m .1))
+    subst (λ (x : Flagged). Result x) (sym (cut-stored r s n d N)) (packed-result s (mantissaOf (kept r n d)) (digitsOf (kept r n d) (lost n d)) (m .0) (m .1))
   where
     more : 0 < d → d ≤ 8388608 * d
     more g = omega arith
@@ -101,7 +102,7 @@ div-result r b a B = go (eqb (mantissa a) 0) refl
     go true e = unfold div in rw e (record { word = B; small = lit< tt })
     go false e =
         let nz = eqb-false (mantissa a) 0 e in
-        subst (λ (x : Rounded). Result x) (sym (div-cut r b a nz)) (exact-result r (dividend b a) (divisor a) (size-pos a nz) (size-le a))
+        subst (λ (x : Flagged). Result x) (sym (div-cut r b a nz)) (exact-result r (dividend b a) (divisor a) (size-pos a nz) (size-le a))
 
 pub fltd-result : (r : Rule) (a : ℕ) → Result (fltd r a)
 unfolding fltd

@@ -10,14 +10,17 @@ use lib.IntN.{ℤ, pos, subℕ, _+ℤ_, _-ℤ_, _*ℤ_, -ℤ-+ℤ-cancel}
 use lib.Signed.{_≤ℤ_}
 use lib.Ieee.{up, down}
 use lib.Pow.{pow-add, pow-pos}
-use Rattle.float.specs.declared.Rounded.{Rounded}
-use Rattle.float.specs.Word.{negative, size88, withSign, value, proper, FloatWord}
-use Rattle.float.specs.Cut.{Rule, Down, lost, kept, digitsOf, stored, cutSize}
+use Rattle.whole.specs.Signed.{withSign}
+use Rattle.whole.proofs.Differences.{sum-differences, same, above, beneath, parts, le-differences, less-difference}
+use Rattle.float.specs.declared.Flagged.{Flagged}
+use Rattle.float.specs.Word.{negative, size88, value, proper, FloatWord}
+use Rattle.terms.specs.declared.Rule.{Rule}
+use Rattle.terms.specs.declared.Rule.the-variants.{Cut}
+use Rattle.float.specs.Cut.{lost, kept, digitsOf, stored, cutSize}
 use Rattle.float.specs.Float.{Result}
 use Rattle.float.specs.Order.{Le}
 use Rattle.float.specs.Root.{wholeRoot, rootHalves, radicand, sqrt, squareExponent, RootPair, Roots, ExactlyRoot}
 use Rattle.float.proofs.Powers.{parted}
-use Rattle.float.proofs.Differences.{sum-differences, same, above, beneath, parts, le-differences, less-difference}
 use Rattle.float.proofs.Signs.{signed-le, le-signed, cut-scaled}
 use Rattle.float.proofs.Pair.{PairAt, cuts-only, cuts-one, cut-of, grid-mono}
 use Rattle.float.proofs.Jams.{stands-cut}
@@ -28,7 +31,7 @@ use Rattle.float.proofs.Results.{zero-result, cut-result}
 use Rattle.float.proofs.Conversions.{digits-near}
 use Rattle.float.proofs.Kept.{own-value}
 use Rattle.float.proofs.WholeRoot.{is-root, root-ge, root-lt, halves-square, halves-near, halves-mono}
-use Rattle.float.proofs.Root.{root-negative, root-cut, root-none}
+use Rattle.float.proofs.RootCut.{root-negative, root-cut, root-none}
 
 -- ---- the pair of the root of n * 2 ^ (j + j), at k digits
 abbrev pub RootAt : ℕ → ℕ → ℕ → ℕ → Type 0
@@ -135,18 +138,18 @@ halves-pair N m k p =
     (p .0, p .1, omega arith, omega arith)
 
 -- ---- SQRT under the base's rule: the one pair, no error, e from -32 to 32
-root-is : (a : ℕ) → negative a ≡ false → 2 ^ 23 ≤ size88 a → Roots (size88 a) (sqrt Down a)
+root-is : (a : ℕ) → negative a ≡ false → 2 ^ 23 ≤ size88 a → Roots (size88 a) (sqrt Cut a)
 root-is a s h =
     let n = rootHalves (radicand a) in
-    let m = kept Down n 2 in
+    let m = kept Cut n 2 in
     let k = lost n 2 in
     let lo = lost-least n 2 144 (lit< tt) (root-low a h) in
     let hi = lost-most n 2 208 (lit< tt) (root-high a) in
     let big : 8388608 * 2 ≤ n = le-trans (lit≤ {m = 8388608 * 2} {n = 2 ^ (23 + 144) * 2} tt) (root-low a h) in
     let c = cuts-one n 2 (lit< tt) big in
-    let e : sqrt Down a ≡ stored false m k = root-cut Down a s ∙ cut-of Down false n 2 m k (lt-of-lt-of-le (lit< {m = 0} {n = 8388608 * 2} tt) big) (c .1) (refl, refl) in
+    let e : sqrt Cut a ≡ stored false m k = root-cut Cut a s ∙ cut-of Cut false n 2 m k (lt-of-lt-of-le (lit< {m = 0} {n = 8388608 * 2} tt) big) (c .1) (refl, refl) in
     let w = steps false m k (c .1) (lt-of-le-of-lt hi (lit< tt)) .within (le-differences 112 176 k 176 (omega arith)) (le-differences k 176 239 176 (omega arith)) in
-    subst (λ (r : Rounded). Roots (size88 a) r) (sym e)
+    subst (λ (r : Flagged). Roots (size88 a) r) (sym e)
     (record {
       m = m;
       e = subℕ k 176;
@@ -159,12 +162,12 @@ root-is a s h =
       most = le-differences k 176 208 176 (omega arith);
     })
 
-pub root-exactly : (a : ℕ) → proper a ≡ true → ExactlyRoot a (sqrt Down a)
+pub root-exactly : (a : ℕ) → proper a ≡ true → ExactlyRoot a (sqrt Cut a)
 root-exactly a p = go (negative a) refl (eq-zero-or-pos (size88 a))
   where
-    go : (s : Bool) → negative a ≡ s → (size88 a ≡ 0) ⊎ (0 < size88 a) → ExactlyRoot a (sqrt Down a)
-    go true s z = inr (inl (s, sym (root-negative Down a s)))
-    go false s (inl z) = inl (z, root-none Down a s z)
+    go : (s : Bool) → negative a ≡ s → (size88 a ≡ 0) ⊎ (0 < size88 a) → ExactlyRoot a (sqrt Cut a)
+    go true s z = inr (inl (s, sym (root-negative Cut a s)))
+    go false s (inl z) = inl (z, root-none Cut a s z)
     go false s (inr l) = inr (inr (s, root-is a s (size-ge a p l)))
 
 -- ---- under either rule there is neither overflow nor underflow
@@ -172,7 +175,7 @@ pub root-no-error : (r : Rule) (a : ℕ) → proper a ≡ true → negative a �
 root-no-error r a p s = go (eq-zero-or-pos (size88 a))
   where
     go : (size88 a ≡ 0) ⊎ (0 < size88 a) → (sqrt r a) .error ≡ 0
-    go (inl z) = ap (λ (x : Rounded). x .error) (root-none r a s z)
+    go (inl z) = ap (λ (x : Flagged). x .error) (root-none r a s z)
     go (inr l) =
         let n = rootHalves (radicand a) in
         let b = root-low a (size-ge a p l) in
@@ -181,17 +184,17 @@ root-no-error r a p s = go (eq-zero-or-pos (size88 a))
         let k = digits-near (kept r n 2) (lost n 2) in
         let k0 = k .0 in
         let k1 = k .1 in
-        ap (λ (x : Rounded). x .error) (root-cut r a s ∙ cut-stored r false n 2 (lt-of-lt-of-le (lit< {m = 0} {n = 2 ^ (23 + 144) * 2} tt) b))
+        ap (λ (x : Flagged). x .error) (root-cut r a s ∙ cut-stored r false n 2 (lt-of-lt-of-le (lit< {m = 0} {n = 2 ^ (23 + 144) * 2} tt) b))
         ∙ error-in (digitsOf (kept r n 2) (lost n 2)) (omega arith) (omega arith)
 
 pub root-result : (r : Rule) (a : ℕ) → FloatWord a → Result (sqrt r a)
 root-result r a A = go (negative a) refl (eq-zero-or-pos (size88 a))
   where
     go : (s : Bool) → negative a ≡ s → (size88 a ≡ 0) ⊎ (0 < size88 a) → Result (sqrt r a)
-    go true s z = subst (λ (x : Rounded). Result x) (root-negative r a s) (record { word = A; small = lit< tt })
-    go false s (inl z) = subst (λ (x : Rounded). Result x) (sym (root-none r a s z)) zero-result
+    go true s z = subst (λ (x : Flagged). Result x) (root-negative r a s) (record { word = A; small = lit< tt })
+    go false s (inl z) = subst (λ (x : Flagged). Result x) (sym (root-none r a s z)) zero-result
     go false s (inr l) =
-        subst (λ (x : Rounded). Result x) (sym (root-cut r a s))
+        subst (λ (x : Flagged). Result x) (sym (root-cut r a s))
         (cut-result r false (rootHalves (radicand a)) 2 (lit< tt) (inr (le-trans (lit≤ {m = 8388608 * 2} {n = 2 ^ (23 + 144) * 2} tt) (root-low a (size-ge a (A .is-proper) l)))))
 
 -- ---- the order of two words not below zero
@@ -199,12 +202,12 @@ pub root-keeps : (r : Rule) (a b : ℕ) → proper a ≡ true → proper b ≡ t
 root-keeps r a b A B s t h =
     let c = root-cut r a s in
     let d = root-cut r b t in
-    let v = cut-value r false (rootHalves (radicand a)) 2 (lit< tt) (sym (ap (λ (x : Rounded). x .error) c) ∙ root-no-error r a A s) in
-    let w = cut-value r false (rootHalves (radicand b)) 2 (lit< tt) (sym (ap (λ (x : Rounded). x .error) d) ∙ root-no-error r b B t) in
+    let v = cut-value r false (rootHalves (radicand a)) 2 (lit< tt) (sym (ap (λ (x : Flagged). x .error) c) ∙ root-no-error r a A s) in
+    let w = cut-value r false (rootHalves (radicand b)) 2 (lit< tt) (sym (ap (λ (x : Flagged). x .error) d) ∙ root-no-error r b B t) in
     let l : size88 a ≤ size88 b = sizes in
     let m : rootHalves (radicand a) ≤ rootHalves (radicand b) = halves-mono (radicand a) (radicand b) (mul-le-mul-right (2 ^ 312) l) in
     let g = grid-mono r (rootHalves (radicand a)) 2 (rootHalves (radicand b)) 2 (lit< tt) (lit< tt) (mul-le-mul-right 2 m) in
-    subst₂ (λ (x y : Rounded). Le (x .word) (y .word)) (sym c) (sym d)
+    subst₂ (λ (x y : Flagged). Le (x .word) (y .word)) (sym c) (sym d)
     (subst₂ (λ (x y : ℤ). x ≤ℤ y) (sym (v .0)) (sym (w .0)) (signed-le false false _ _ (level _ _ (subst₂ (λ (x y : ℕ). x ≤ y) (sym (v .1)) (sym (w .1)) g))))
   where
     level : (x y : ℕ) → x * 2 ^ 112 ≤ y * 2 ^ 112 → x + 0 ≤ y + 0

@@ -7,13 +7,15 @@ use borrow.Author.Tests.{le-leb, lt-leb, leb-true, leb-false, eqb-true}
 use lib.Dec.{leb, eqb, lit<}
 use lib.IntN.{ℤ, negℤ, _+ℤ_}
 use lib.Signed.{_≤ℤ_}
-use Rattle.float.specs.Word.{negative, biased, mantissa, size88, withSign, value, FloatWord}
-use Rattle.float.specs.Cut.{Rule, cut}
+use Rattle.whole.specs.Signed.{withSign}
+use Rattle.whole.proofs.Differences.{le-opposite}
+use Rattle.whole.proofs.Signs.{opposite}
+use Rattle.float.specs.Word.{negative, biased, mantissa, size88, value, FloatWord}
+use Rattle.terms.specs.declared.Rule.{Rule}
+use Rattle.float.specs.Cut.{cut}
 use Rattle.float.specs.Float.{add, sub}
 use Rattle.float.specs.Convert.{chsf}
 use Rattle.float.specs.Order.{Le}
-use Rattle.float.proofs.Differences.{le-opposite}
-use Rattle.float.proofs.Signs.{opposite}
 
 flip-down : (w : ℕ) → 2147483648 ≤ w → 8388608 ≤ mantissa w → chsf w ≡ w - 2147483648
 unfolding chsf

@@ -12,17 +12,20 @@ use lib.IntN.{ℤ, pos, negsuc, negℤ, natAbs, subℕ, _+ℤ_}
 use lib.Ieee.{size, unlike}
 use lib.Ieee.Digits.{size-le}
 use lib.Pow.{pow-add, pow-pos, pow-mono}
-use Rattle.float.specs.declared.Rounded.{Rounded}
-use Rattle.float.specs.Word.{negative, biased, exponent, mantissa, size88, withSign, value, proper}
-use Rattle.float.specs.Cut.{Rule, Down, lost, kept, packed, errorAt, stored, below0, cut}
+use Rattle.whole.specs.Signed.{withSign}
+use Rattle.whole.proofs.Differences.{same, le-differences, differences-le, less-difference, more-difference, size-difference}
+use Rattle.whole.proofs.Signs.{sum-signs, opposite, times, size-of-signed}
+use Rattle.float.specs.declared.Flagged.{Flagged}
+use Rattle.float.specs.Word.{negative, biased, exponent, mantissa, size88, value, proper}
+use Rattle.terms.specs.declared.Rule.{Rule}
+use Rattle.terms.specs.declared.Rule.the-variants.{Cut}
+use Rattle.float.specs.Cut.{lost, kept, packed, errorAt, stored, below0, cut}
 use Rattle.float.specs.Float.{exactSum, exactDifference, exactProduct, dividend, divisor, add, sub, mul, div}
 use Rattle.float.specs.Exact.{Steps, Cuts, Exactly}
 use Rattle.float.proofs.Powers.{mul-digits}
 use Rattle.float.proofs.Proper.{proper-norm}
 use Rattle.float.proofs.Pair.{size-gt, cuts-one, cut-of, cut-zero}
 use Rattle.float.proofs.OnePair.{from-scale}
-use Rattle.float.proofs.Differences.{same, le-differences, differences-le, less-difference, more-difference, size-difference}
-use Rattle.float.proofs.Signs.{sum-signs, opposite, product, size-of-signed}
 use Rattle.float.proofs.Values.{packed-mantissa, packed-biased, packed-sign, error-in}
 use Rattle.float.proofs.Order.{size-pos, div-cut}
 
@@ -65,26 +68,26 @@ lost-most n d i D h = count (size (n / d)) (size-le (n / d) (24 + i) (div-lt-iff
 
 -- an exact value z / d whose magnitude loses from i to j digits, in fine units
 pub exactly : (z : ℤ) (d i j : ℕ) → 0 < d → j < 368 → (0 < natAbs z → (2 ^ (23 + i) * d ≤ natAbs z * 2 ^ 200) × (natAbs z * 2 ^ 200 < 2 ^ (24 + j) * d))
-    → Exactly z d (subℕ i 176) (subℕ j 176) (cut Down z d)
+    → Exactly z d (subℕ i 176) (subℕ j 176) (cut Cut z d)
 exactly z d i j D J h = go (eq-zero-or-pos (natAbs z))
   where
     nought : (y : ℤ) → natAbs y ≡ 0 → y ≡ pos 0
     nought (pos n) e = ap pos e
     nought (negsuc n) e = absurd (omega arith)
 
-    go : (natAbs z ≡ 0) ⊎ (0 < natAbs z) → Exactly z d (subℕ i 176) (subℕ j 176) (cut Down z d)
-    go (inl e) = inl (nought z e, unfold cut in cut-zero Down (below0 z) (natAbs z * 2 ^ 200) d (ap (λ (x : ℕ). x * 2 ^ 200) e ∙ zero-mul (2 ^ 200)))
+    go : (natAbs z ≡ 0) ⊎ (0 < natAbs z) → Exactly z d (subℕ i 176) (subℕ j 176) (cut Cut z d)
+    go (inl e) = inl (nought z e, unfold cut in cut-zero Cut (below0 z) (natAbs z * 2 ^ 200) d (ap (λ (x : ℕ). x * 2 ^ 200) e ∙ zero-mul (2 ^ 200)))
     go (inr p) =
         let n = natAbs z * 2 ^ 200 in
-        let m = kept Down n d in
+        let m = kept Cut n d in
         let k = lost n d in
         let b = h p in
         let lo = lost-least n d i D (b .0) in
         let hi = lost-most n d j D (b .1) in
         let c = cuts-one n d D (le-trans (mul-le-mul-right d (pow-mono {i = 23} {j = 23 + i} (omega arith))) (b .0)) in
-        let e : cut Down z d ≡ stored (below0 z) m k = unfold cut in cut-of Down (below0 z) n d m k (mul-pos p (pow-pos 200)) (c .1) (refl, refl) in
+        let e : cut Cut z d ≡ stored (below0 z) m k = unfold cut in cut-of Cut (below0 z) n d m k (mul-pos p (pow-pos 200)) (c .1) (refl, refl) in
         inr
-        (subst (λ (r : Rounded). Cuts z d (subℕ i 176) (subℕ j 176) r) (sym e)
+        (subst (λ (r : Flagged). Cuts z d (subℕ i 176) (subℕ j 176) r) (sym e)
         (record {
           m = m;
           e = subℕ k 176;
@@ -125,21 +128,21 @@ both-below : (a b c p : ℕ) → c ≤ a + b → a < p → b < p → c < p + p
 both-below a b c p h k l = omega arith
 
 -- a sum's magnitude X, times 2 ^ 88, is from 1 to below 2 ^ 152
-sum-exactly : (s t : Bool) (i j : ℕ) → i < 2 ^ 151 → j < 2 ^ 151 → Exactly (withSign s i +ℤ withSign t j) (2 ^ 88) (negℤ (pos 87)) (pos 64) (cut Down (withSign s i +ℤ withSign t j) (2 ^ 88))
+sum-exactly : (s t : Bool) (i j : ℕ) → i < 2 ^ 151 → j < 2 ^ 151 → Exactly (withSign s i +ℤ withSign t j) (2 ^ 88) (negℤ (pos 87)) (pos 64) (cut Cut (withSign s i +ℤ withSign t j) (2 ^ 88))
 sum-exactly s t i j I J =
     exactly (withSign s i +ℤ withSign t j) (2 ^ 88) 89 240 (pow-pos 88) (lit< tt) (λ p. (
       le-trans (le-of-eq (sym (one-mul (2 ^ 200)))) (mul-le-mul-right (2 ^ 200) p),
       mul-lt-mul-of-pos-right (both-below i j (natAbs (withSign s i +ℤ withSign t j)) (2 ^ 151) (sum-size s t i j) I J) (pow-pos 200),
     ))
 
-pub add-exactly : (b a : ℕ) → Exactly (exactSum b a) (2 ^ 88) (negℤ (pos 87)) (pos 64) (add Down b a)
+pub add-exactly : (b a : ℕ) → Exactly (exactSum b a) (2 ^ 88) (negℤ (pos 87)) (pos 64) (add Cut b a)
 unfolding add value
 add-exactly b a = sum-exactly (negative b) (negative a) (size88 b) (size88 a) (size-lt b) (size-lt a)
 
-pub sub-exactly : (b a : ℕ) → Exactly (exactDifference b a) (2 ^ 88) (negℤ (pos 87)) (pos 64) (sub Down b a)
+pub sub-exactly : (b a : ℕ) → Exactly (exactDifference b a) (2 ^ 88) (negℤ (pos 87)) (pos 64) (sub Cut b a)
 unfolding sub value
 sub-exactly b a =
-    subst (λ (z : ℤ). Exactly (value b +ℤ z) (2 ^ 88) (negℤ (pos 87)) (pos 64) (cut Down (value b +ℤ z) (2 ^ 88))) (sym (opposite (negative a) (size88 a)))
+    subst (λ (z : ℤ). Exactly (value b +ℤ z) (2 ^ 88) (negℤ (pos 87)) (pos 64) (cut Cut (value b +ℤ z) (2 ^ 88))) (sym (opposite (negative a) (size88 a)))
     (sum-exactly (negative b) (not (negative a)) (size88 b) (size88 a) (size-lt b) (size-lt a))
 
 -- ---- products: the magnitude, times 2 ^ 176, is from 2 ^ 46 to below 2 ^ 302
@@ -154,7 +157,7 @@ factor-pos x y h = (left (eq-zero-or-pos x), right (eq-zero-or-pos y))
     right (inl e) = let z : x * y ≡ 0 = ap (λ (u : ℕ). x * u) e ∙ mul-zero x in absurd (omega arith)
     right (inr p) = p
 
-pub mul-exactly : (b a : ℕ) → proper b ≡ true → proper a ≡ true → Exactly (exactProduct b a) (2 ^ 176) (negℤ (pos 129)) (pos 126) (mul Down b a)
+pub mul-exactly : (b a : ℕ) → proper b ≡ true → proper a ≡ true → Exactly (exactProduct b a) (2 ^ 176) (negℤ (pos 129)) (pos 126) (mul Cut b a)
 unfolding mul
 mul-exactly b a B A =
     exactly (exactProduct b a) (2 ^ 176) 47 302 (pow-pos 176) (lit< tt) (λ p.
@@ -165,12 +168,12 @@ mul-exactly b a B A =
     ))
   where
     magnitude : natAbs (exactProduct b a) ≡ size88 b * size88 a
-    magnitude = unfold value in ap natAbs (product (negative b) (negative a) (size88 b) (size88 a)) ∙ size-of-signed (unlike (negative b) (negative a)) (size88 b * size88 a)
+    magnitude = unfold value in ap natAbs (times (negative b) (negative a) (size88 b) (size88 a)) ∙ size-of-signed (unlike (negative b) (negative a)) (size88 b * size88 a)
 
 -- ---- quotients: above 2 ^ -128 and below 2 ^ 128
-pub div-exactly : (b a : ℕ) → proper b ≡ true → proper a ≡ true → (mantissa a ≡ 0 → ⊥) → Exactly (dividend b a) (divisor a) (negℤ (pos 127)) (pos 128) (div Down b a)
+pub div-exactly : (b a : ℕ) → proper b ≡ true → proper a ≡ true → (mantissa a ≡ 0 → ⊥) → Exactly (dividend b a) (divisor a) (negℤ (pos 127)) (pos 128) (div Cut b a)
 div-exactly b a B A nz =
-    subst (λ (r : Rounded). Exactly (dividend b a) (divisor a) (negℤ (pos 127)) (pos 128) r) (sym (div-cut Down b a nz))
+    subst (λ (r : Flagged). Exactly (dividend b a) (divisor a) (negℤ (pos 127)) (pos 128) r) (sym (div-cut Cut b a nz))
     (exactly (dividend b a) (divisor a) 49 304 S (lit< tt) (λ p.
     subst (λ (x : ℕ). (2 ^ 72 * size88 a ≤ x * 2 ^ 200) × (x * 2 ^ 200 < 2 ^ 328 * size88 a)) (sym magnitude) (
       le-trans (mul-le-mul-left (2 ^ 72) (le-of-lt (size-lt a))) (le-trans (le-of-eq refl) (mul-le-mul-right (2 ^ 200) (size-ge b B (subst (λ (x : ℕ). 0 < x) magnitude p)))),

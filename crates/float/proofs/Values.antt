@@ -8,9 +8,12 @@ use native.Mathlib.Omega.{arith}
 use borrow.Author.Tests.{lt-ltb, le-ltb, le-leb, lt-leb, ltb-true, ltb-false, leb-false}
 use lib.Dec.{ltb, leb}
 use lib.Pow.{pow-add, pow-pos}
-use Rattle.float.specs.declared.Rounded.{Rounded}
-use Rattle.float.specs.Word.{negative, biased, mantissa, size88, withSign, value}
-use Rattle.float.specs.Cut.{Rule, Down, Near, whole, lost, kept, mantissaOf, digitsOf, packed, errorAt, stored, cutSize}
+use Rattle.whole.specs.Signed.{withSign}
+use Rattle.float.specs.declared.Flagged.{Flagged}
+use Rattle.float.specs.Word.{negative, biased, mantissa, size88, value}
+use Rattle.terms.specs.declared.Rule.{Rule}
+use Rattle.terms.specs.declared.Rule.the-variants.{Cut, Nearest}
+use Rattle.float.specs.Cut.{whole, lost, kept, mantissaOf, digitsOf, packed, errorAt, stored, cutSize}
 use Rattle.float.proofs.Powers.{parted}
 use Rattle.float.proofs.Pair.{whole-same, kept-le, cut-zero}
 
@@ -90,8 +93,8 @@ unfolding cutSize
 cut-stored r s n d N = rw (lt-ltb 0 n N)
 
 whole-zero : (r : Rule) (d : ℕ) → 0 < d → whole r 0 d ≡ 0
-whole-zero Down d D = zero-div d
-whole-zero Near d D = whole-same Near 0 d 0 1 D (le-refl 1) (zero-mul 1 ∙ sym (zero-mul d))
+whole-zero Cut d D = zero-div d
+whole-zero Nearest d D = whole-same Nearest 0 d 0 1 D (le-refl 1) (zero-mul 1 ∙ sym (zero-mul d))
 
 pub grid-zero : (r : Rule) (d : ℕ) → 0 < d → grid r 0 d ≡ 0
 grid-zero r d D = ap (λ (x : ℕ). x * 2 ^ lost 0 d) (whole-zero r (d * 2 ^ lost 0 d) (mul-pos D (pow-pos (lost 0 d)))) ∙ zero-mul (2 ^ lost 0 d)
@@ -112,15 +115,15 @@ cut-value r s n d D e = go (eq-zero-or-pos n)
     go : (n ≡ 0) ⊎ (0 < n)
         → (withSign (negative ((cutSize r s n d) .word)) (size88 ((cutSize r s n d) .word)) ≡ withSign s (size88 ((cutSize r s n d) .word))) × (size88 ((cutSize r s n d) .word) * 2 ^ 112 ≡ grid r n d)
     go (inl z) =
-        let w : (cutSize r s n d) .word ≡ 0 = ap (λ (x : Rounded). x .word) (cut-zero r s n d z) in
+        let w : (cutSize r s n d) .word ≡ 0 = ap (λ (x : Flagged). x .word) (cut-zero r s n d z) in
         (rw w (nothing s), rw w (none ∙ sym (ap (λ (x : ℕ). grid r x d) z ∙ grid-zero r d D)))
     go (inr p) =
         let q = kept r n d in
         let k = lost n d in
         let st = settled q k (kept-le r n d) in
         let c = cut-stored r s n d p in
-        let f = error-kept (digitsOf q k) (sym (ap (λ (x : Rounded). x .error) c) ∙ e) in
-        let w : (cutSize r s n d) .word ≡ packed s (mantissaOf q) (digitsOf q k) = ap (λ (x : Rounded). x .word) c in (
+        let f = error-kept (digitsOf q k) (sym (ap (λ (x : Flagged). x .error) c) ∙ e) in
+        let w : (cutSize r s n d) .word ≡ packed s (mantissaOf q) (digitsOf q k) = ap (λ (x : Flagged). x .word) c in (
           ap (λ (x : Bool). withSign x (size88 ((cutSize r s n d) .word))) (ap negative w ∙ packed-sign s (mantissaOf q) (digitsOf q k) (st .1)),
           ap (λ (x : ℕ). size88 x * 2 ^ 112) w ∙ size-kept s (mantissaOf q) (digitsOf q k) (st .1) (f .0) (f .1) ∙ st .0,
         )

@@ -1,28 +1,19 @@
--- One addend of a sum, as the program holds it. Definitions only. Assumes nothing.
+-- One addend of a sum, as the program holds it and not as 01 does: one number, the exponent plus 64 above the 24 bits of the mantissa. Definitions only. Assumes nothing.
 use mathlib.Core.Path.{_≡_}
 use mathlib.Core.Logic.{_⊎_}
-use mathlib.Core.Bool.{Bool}
-use Prim.Native.Nat.{ℕ, _*_, _^_, _≤_, _<_}
-use lib.IntN.{ℤ}
-use Rattle.float.specs.declared.Side.{Side}
-use Rattle.float.specs.Word.{size88, withSign}
+use Prim.Native.Nat.{ℕ, _*_, _/_, _%_, _^_, _≤_, _<_}
+use Rattle.float.specs.Word.{size88}
 
--- m has 24 digits, or m and e are 0
-abbrev pub Normal : ℕ → ℕ → Type 0
-Normal m e = ((m ≡ 0) × (e ≡ 0)) ⊎ (8388608 ≤ m)
+-- the addend's magnitude, times 2 ^ 88
+abbrev pub addendSize : ℕ → ℕ
+addendSize k = k % 2 ^ 24 * 2 ^ (k / 2 ^ 24)
 
--- the addend's value, times 2 ^ 88
-abbrev pub sideValue : Side → ℤ
-sideValue s = withSign (s .neg) (s .m * 2 ^ s .e)
+-- the number is 0, or its mantissa has 24 digits
+pub record Addend (k : ℕ) : Type 0 where
+  pub narrow : k < 2 ^ 31
+  pub normal : (k ≡ 0) ⊎ (2 ^ 23 ≤ k % 2 ^ 24)
 
--- the fields of an addend are those of a proper word
-pub record Addend (s : Side) : Type 0 where
-  pub few : s .m < 16777216
-  pub near : s .e < 128
-  pub normal : Normal (s .m) (s .e)
-
--- the addend is the word w, with the sign neg
-pub record Sided (neg : Bool) (w : ℕ) (s : Side) : Type 0 where
-  pub sign : s .neg ≡ neg
-  pub size : s .m * 2 ^ s .e ≡ size88 w
-  pub addend : Addend s
+-- the number is the addend of a word w
+pub record AddendOf (w k : ℕ) : Type 0 where
+  pub size : addendSize k ≡ size88 w
+  pub addend : Addend k

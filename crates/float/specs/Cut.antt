@@ -1,25 +1,38 @@
--- The cut: the exact value, a fraction of whole numbers, brought to a float word and an error. Definitions only. Assumes nothing.
--- Inside a cut a magnitude is counted in fine units of 2 ^ -200, so that every exact value of 01's scales has at least 24 binary digits
--- before the point. A mantissa m at k fine digits is m * 2 ^ k fine units, which is m * 2 ^ (e - 24) for e = k - 176.
-use Prim.Native.Nat.{ℕ, _+_, _-_, _*_, _/_, _%_, _^_}
+-- The cut: an exact value, a fraction of whole numbers, brought to a float word and an error. Definitions only. Assumes nothing.
+use Prim.Native.Nat.{ℕ, _+_, _-_, _*_, _/_, _%_, _^_, _≤_, _<_}
 use mathlib.Core.Bool.{Bool, true, false, cond}
 use lib.Dec.{leb, ltb}
-use lib.IntN.{ℤ, pos, negsuc, natAbs}
-use lib.Ieee.{size}
+use lib.IntN.{ℤ, pos, negsuc, natAbs, _-ℤ_}
+use lib.Ieee.{size, up, down}
 use lib.Ieee.Nearest.{closest}
-use Rattle.float.specs.declared.Rounded.{Rounded}
+use Rattle.terms.specs.declared.Rule.{Rule}
+use Rattle.terms.specs.declared.Rule.the-variants.{Cut, Nearest}
+use Rattle.terms.specs.Errors.{overflow, underflow}
+use Rattle.float.specs.declared.Flagged.{Flagged}
 
--- how a fraction becomes a whole number: Down is 01's cut, Near is kept for a later rule
-pub data Rule : Type 0 where
-  Down : Rule
-  Near : Rule
+-- ---- what 01 says: m and e of the magnitude n / d are the one pair, e unbounded, with m the whole part of n / d * 2 ^ (24 - e) and 2 ^ 23 <= m < 2 ^ 24.
+-- By comparing products: the fraction up x / down x is 2 ^ x, so m * 2 ^ (e - 24) reaches n / d and (m + 1) * 2 ^ (e - 24) passes it
+pub record Pair (n d m : ℕ) (e : ℤ) : Type 0 where
+  pub low : 2 ^ 23 ≤ m
+  pub high : m < 2 ^ 24
+  pub reached : m * (d * up (e -ℤ pos 24)) ≤ n * down (e -ℤ pos 24)
+  pub passed : n * down (e -ℤ pos 24) < (m + 1) * (d * up (e -ℤ pos 24))
+
+-- ---- a function that finds it, under either rule, in whole numbers alone
+-- magnitudes are counted in fine units of 2 ^ -fine, so that every exact value of 01's scales has at least 24 binary digits before the point
+abbrev pub fine : ℕ
+fine = 200
+
+-- so many digits of a number of fine units are lost below the mantissa where e is 0: m * 2 ^ (e - 24) is m * 2 ^ (atZero + e) fine units
+abbrev pub atZero : ℕ
+atZero = fine - 24
 
 -- the whole part of n / d, or the nearest whole number, of two the even one
 abbrev pub whole : Rule → ℕ → ℕ → ℕ
-whole Down n d = n / d
-whole Near n d = closest n d
+whole Cut n d = n / d
+whole Nearest n d = closest n d
 
--- of n / d the 24 leading digits are kept; so many before the point are lost below them
+-- of n / d fine units the 24 leading digits are kept; so many before the point are lost below them
 abbrev pub lost : ℕ → ℕ → ℕ
 lost n d = size (n / d) - 24
 
@@ -31,28 +44,29 @@ kept r n d = whole r n (d * 2 ^ lost n d)
 abbrev pub mantissaOf : ℕ → ℕ
 mantissaOf q = cond (ltb q (2 ^ 24)) q (2 ^ 23)
 
--- k of it: as many digits as were lost, or one more where q was rounded up to 2 ^ 24
+-- the digits lost below m: k, or one more where q was rounded up to 2 ^ 24. e is this less atZero
 abbrev pub digitsOf : ℕ → ℕ → ℕ
 digitsOf q k = cond (ltb q (2 ^ 24)) k (k + 1)
 
--- the word of a sign, m and e = k - 176: e modulo 128 is stored, so e > 63 is stored as e - 128 and e < -64 as e + 128
+-- ---- the word and the error
+-- the word of a sign, m and e = k - atZero. The field of seven bits holds e modulo 128, so e > 63 is stored as e - 128 and e < -64 as e + 128
 unfoldable pub packed : Bool → ℕ → ℕ → ℕ
-packed neg m k = cond neg (2 ^ 31) 0 + (k + 80) % 128 * 2 ^ 24 + m
+packed neg m k = cond neg (2 ^ 31) 0 + (k + (2 * 128 - atZero)) % 128 * 2 ^ 24 + m
 
--- overflow, 1, where e > 63; underflow, 2, where e < -64
+-- overflow where e > 63, underflow where e < -64
 unfoldable pub errorAt : ℕ → ℕ
-errorAt k = cond (leb 240 k) 1 (cond (ltb k 112) 2 0)
+errorAt k = cond (leb (atZero + 64) k) overflow (cond (ltb k (atZero - 64)) underflow 0)
 
--- the word and its error
-abbrev pub stored : Bool → ℕ → ℕ → Rounded
+-- both
+abbrev pub stored : Bool → ℕ → ℕ → Flagged
 stored neg m k = record { word = packed neg m k; error = errorAt k }
 
 -- the zero word, with no error
-abbrev pub zeroWord : Rounded
+abbrev pub zeroWord : Flagged
 zeroWord = record { word = 0; error = 0 }
 
 -- the cut of the magnitude n / d, in fine units, with its sign
-unfoldable pub cutSize : Rule → Bool → ℕ → ℕ → Rounded
+unfoldable pub cutSize : Rule → Bool → ℕ → ℕ → Flagged
 unfolding packed errorAt
 cutSize r neg n d = cond (ltb 0 n) (stored neg (mantissaOf (kept r n d)) (digitsOf (kept r n d) (lost n d))) zeroWord
 
@@ -62,6 +76,6 @@ below0 (pos n) = false
 below0 (negsuc n) = true
 
 -- the cut of the exact value z / d
-unfoldable pub cut : Rule → ℤ → ℕ → Rounded
+unfoldable pub cut : Rule → ℤ → ℕ → Flagged
 unfolding cutSize
-cut r z d = cutSize r (below0 z) (natAbs z * 2 ^ 200) d
+cut r z d = cutSize r (below0 z) (natAbs z * 2 ^ fine) d

@@ -1,34 +1,29 @@
--- What 01 says of a result, by comparing products: the pair m, e of an exact value, and the step of 128. Definitions only. Assumes nothing.
+-- What 01 says of a result, by comparing products: the pair m, e of an exact value, the step of 128, and the whole part. Definitions only. Assumes nothing.
 use mathlib.Core.Path.{_≡_}
 use mathlib.Core.Logic.{_⊎_}
 use Prim.Native.Nat.{ℕ, _+_, _*_, _^_, _≤_, _<_}
 use lib.IntN.{ℤ, pos, negℤ, natAbs, _+ℤ_, _-ℤ_}
 use lib.Signed.{_≤ℤ_}
 use lib.Ieee.{up, down}
-use Rattle.float.specs.declared.Rounded.{Rounded}
-use Rattle.float.specs.Word.{negative, mantissa, exponent, size88, withSign}
-use Rattle.float.specs.Cut.{below0, zeroWord}
+use Rattle.whole.specs.Signed.{withSign}
+use Rattle.terms.specs.Errors.{overflow, underflow}
+use Rattle.float.specs.declared.Flagged.{Flagged}
+use Rattle.float.specs.Word.{negative, mantissa, exponent, size88}
+use Rattle.float.specs.Cut.{Pair, below0, zeroWord}
 use Rattle.float.specs.Convert.{integer, wholePart}
-
--- m and e of the magnitude n / d, e unbounded: m has 24 digits and is the whole part of n / d * 2 ^ (24 - e). The fraction up x / down x is 2 ^ x
-pub record Pair (n d m : ℕ) (e : ℤ) : Type 0 where
-  pub low : 2 ^ 23 ≤ m
-  pub high : m < 2 ^ 24
-  pub reached : m * (d * up (e -ℤ pos 24)) ≤ n * down (e -ℤ pos 24)
-  pub passed : n * down (e -ℤ pos 24) < (m + 1) * (d * up (e -ℤ pos 24))
 
 -- the magnitude x, times 2 ^ 88, is m * 2 ^ (e - 24)
 abbrev pub IsSize : ℕ → ℕ → ℤ → Type 0
 IsSize x m e = x * down (e -ℤ pos 24) ≡ m * (2 ^ 88 * up (e -ℤ pos 24))
 
 -- how an exponent e is stored in the word of r, and the error: 0 as it is, 1 less 128, 2 more 128
-pub record Steps (e : ℤ) (r : Rounded) : Type 0 where
+pub record Steps (e : ℤ) (r : Flagged) : Type 0 where
   pub within : negℤ (pos 64) ≤ℤ e → e ≤ℤ pos 63 → (r .error ≡ 0) × (exponent (r .word) ≡ e)
-  pub over : pos 64 ≤ℤ e → (r .error ≡ 1) × (exponent (r .word) ≡ e -ℤ pos 128)
-  pub under : e ≤ℤ negℤ (pos 65) → (r .error ≡ 2) × (exponent (r .word) ≡ e +ℤ pos 128)
+  pub over : pos 64 ≤ℤ e → (r .error ≡ overflow) × (exponent (r .word) ≡ e -ℤ pos 128)
+  pub under : e ≤ℤ negℤ (pos 65) → (r .error ≡ underflow) × (exponent (r .word) ≡ e +ℤ pos 128)
 
 -- the word of r has the sign of z, the m of the pair of its magnitude over d, and the e after at most one step of 128; e is from lo to hi
-pub record Cuts (z : ℤ) (d : ℕ) (lo hi : ℤ) (r : Rounded) : Type 0 where
+pub record Cuts (z : ℤ) (d : ℕ) (lo hi : ℤ) (r : Flagged) : Type 0 where
   pub m : ℕ
   pub e : ℤ
   pub pair : Pair (natAbs z) d m e
@@ -39,11 +34,11 @@ pub record Cuts (z : ℤ) (d : ℕ) (lo hi : ℤ) (r : Rounded) : Type 0 where
   pub most : e ≤ℤ hi
 
 -- r is what 01 asks for the exact value z / d: the zero word for zero, else its cut
-abbrev pub Exactly : ℤ → ℕ → ℤ → ℤ → Rounded → Type 0
+abbrev pub Exactly : ℤ → ℕ → ℤ → ℤ → Flagged → Type 0
 Exactly z d lo hi r = ((z ≡ pos 0) × (r ≡ zeroWord)) ⊎ Cuts z d lo hi r
 
 -- a whole number R of two's complement, half the least: |R| <= |A| < |R| + 1, with A's sign, and no error
-pub record Taken (half a : ℕ) (r : Rounded) : Type 0 where
+pub record Truncated (half a : ℕ) (r : Flagged) : Type 0 where
   pub none : r .error ≡ 0
   pub fits : r .word < 2 * half
   pub sign : integer half (r .word) ≡ withSign (negative a) (natAbs (integer half (r .word)))
@@ -51,5 +46,5 @@ pub record Taken (half a : ℕ) (r : Rounded) : Type 0 where
   pub passed : size88 a < (natAbs (integer half (r .word)) + 1) * 2 ^ 88
 
 -- what 01 asks of FIXD and FIXS: the whole part where it is below half, A and overflow exactly where it is not
-abbrev pub Fixed : ℕ → ℕ → Rounded → Type 0
-Fixed half a r = ((wholePart a < half) × Taken half a r) ⊎ ((half ≤ wholePart a) × (r ≡ record { word = a; error = 1 }))
+abbrev pub Fixes : ℕ → ℕ → Flagged → Type 0
+Fixes half a r = ((wholePart a < half) × Truncated half a r) ⊎ ((half ≤ wholePart a) × (r ≡ record { word = a; error = overflow }))

@@ -1,4 +1,4 @@
--- A quotient and a remainder in one number, as the program keeps them. Definitions only. Assumes nothing.
+-- A quotient and a remainder in one number, as the program keeps them and 01 does not. Definitions only. Assumes nothing.
 use mathlib.Core.Path.{_≡_}
 use mathlib.Core.Logic.{_⊎_}
 use Prim.Native.Nat.{ℕ, _+_, _%_, _≤_, _<_}

@@ -8,3 +8,4 @@ pub mod Order
 pub mod Exact
 pub mod Jam
 pub mod Addend
+pub mod Traced

@@ -1,45 +1,24 @@
 -- SQRT on words: the root is found exactly, then cut once. Definitions only. Assumes nothing.
 use mathlib.Core.Path.{_≡_}
 use mathlib.Core.Logic.{_⊎_}
-use Prim.Native.Nat.{ℕ, zero, suc, _+_, _*_, _/_, _^_, _≤_, _<_}
-use mathlib.Core.Bool.{Bool, true, false, cond}
+use Prim.Native.Nat.{ℕ, zero, suc, _+_, _-_, _*_, _/_, _^_, _≤_, _<_}
+use mathlib.Core.Bool.{true, false, cond}
 use lib.Dec.{leb, eqb}
 use lib.IntN.{ℤ, pos, negℤ, _+ℤ_, _-ℤ_}
 use lib.Signed.{_≤ℤ_}
 use lib.Ieee.{size, up, down}
-use Rattle.float.specs.declared.Rounded.{Rounded}
+use Rattle.terms.specs.declared.Rule.{Rule}
+use Rattle.terms.specs.Errors.{negativeRoot}
+use Rattle.float.specs.declared.Flagged.{Flagged}
 use Rattle.float.specs.Word.{negative, mantissa, exponent, size88}
-use Rattle.float.specs.Cut.{Rule, zeroWord, cutSize}
+use Rattle.float.specs.Cut.{fine, zeroWord, cutSize}
 
--- the whole part of the root of an n below 4 ^ k: that of n / 4, doubled, and one more where the square of that is at most n
-unfoldable pub rootBelow : ℕ → ℕ → ℕ
-rootBelow zero n = 0
-rootBelow (suc k) n = let s = 2 * rootBelow k (n / 4) in cond (leb ((s + 1) * (s + 1)) n) (s + 1) s
-
--- the whole part of the root of n
-unfoldable pub wholeRoot : ℕ → ℕ
-unfolding rootBelow
-wholeRoot n = rootBelow (size n) n
-
--- twice the root of n: even where the root is whole, else the odd number beside it; all roots between two whole numbers are cut alike
-unfoldable pub rootHalves : ℕ → ℕ
-unfolding wholeRoot
-rootHalves n = 2 * wholeRoot n + cond (eqb (wholeRoot n * wholeRoot n) n) 0 1
-
--- the square of the root in fine units: A's magnitude is size88 / 2 ^ 88, a fine unit squared is 2 ^ -400
-abbrev pub radicand : ℕ → ℕ
-radicand a = size88 a * 2 ^ 312
-
--- SQRT: the root of A, cut; where A is negative, R = A and the error is 4
-unfoldable pub sqrt : Rule → ℕ → Rounded
-unfolding cutSize rootHalves size88
-sqrt r a = cond (negative a) (record { word = a; error = 4 }) (cutSize r false (rootHalves (radicand a)) 2)
-
+-- ---- what ask 1 and 01 say: m and e of the root of n / 2 ^ 88, e unbounded, are the one pair with m the whole part of that root times 2 ^ (24 - e)
+-- and 2 ^ 23 <= m < 2 ^ 24. By comparing squares: that of m * 2 ^ (e - 24) reaches n / 2 ^ 88, that of (m + 1) * 2 ^ (e - 24) passes it
 -- 2 * (e - 24), the exponent of the square of m * 2 ^ (e - 24)
 abbrev pub squareExponent : ℤ → ℤ
 squareExponent e = (e -ℤ pos 24) +ℤ (e -ℤ pos 24)
 
--- m and e of the root of n / 2 ^ 88, e unbounded: m has 24 digits, its square in the scale of e reaches n / 2 ^ 88, and that of m + 1 is above
 pub record RootPair (n m : ℕ) (e : ℤ) : Type 0 where
   pub low : 2 ^ 23 ≤ m
   pub high : m < 2 ^ 24
@@ -47,7 +26,7 @@ pub record RootPair (n m : ℕ) (e : ℤ) : Type 0 where
   pub passed : n * down (squareExponent e) < (m + 1) * (m + 1) * (2 ^ 88 * up (squareExponent e))
 
 -- the word of r is the root of the magnitude n / 2 ^ 88: no sign, no error, the m and e of the pair, e from -32 to 32
-pub record Roots (n : ℕ) (r : Rounded) : Type 0 where
+pub record Roots (n : ℕ) (r : Flagged) : Type 0 where
   pub m : ℕ
   pub e : ℤ
   pub pair : RootPair n m e
@@ -58,6 +37,33 @@ pub record Roots (n : ℕ) (r : Rounded) : Type 0 where
   pub least : negℤ (pos 32) ≤ℤ e
   pub most : e ≤ℤ pos 32
 
--- what ask 1 wants of SQRT: zero for zero, A and error 4 for a negative word, else the root
-abbrev pub ExactlyRoot : ℕ → Rounded → Type 0
-ExactlyRoot a r = ((size88 a ≡ 0) × (r ≡ zeroWord)) ⊎ ((negative a ≡ true) × (r ≡ record { word = a; error = 4 })) ⊎ ((negative a ≡ false) × Roots (size88 a) r)
+-- what ask 1 wants of SQRT: zero for zero, A and the error of a negative root for a negative word, else the root
+abbrev pub ExactlyRoot : ℕ → Flagged → Type 0
+ExactlyRoot a r =
+    ((size88 a ≡ 0) × (r ≡ zeroWord)) ⊎ ((negative a ≡ true) × (r ≡ record { word = a; error = negativeRoot })) ⊎ ((negative a ≡ false) × Roots (size88 a) r)
+
+-- ---- a function that finds it, under either rule, in whole numbers alone
+-- the whole part of the root of an n below 4 ^ k, digit by digit: that of n / 4, doubled, and one more where the square of that is at most n
+unfoldable pub rootBelow : ℕ → ℕ → ℕ
+rootBelow zero n = 0
+rootBelow (suc k) n = let s = 2 * rootBelow k (n / 4) in cond (leb ((s + 1) * (s + 1)) n) (s + 1) s
+
+-- the whole part of the root of n; n has no more binary digits than pairs of them are asked for
+unfoldable pub wholeRoot : ℕ → ℕ
+unfolding rootBelow
+wholeRoot n = rootBelow (size n) n
+
+-- a root counted in halves: 2 * s where it is the whole number s, 2 * s + 1 where it lies between s and s + 1. Whatever lies strictly between
+-- two neighbours is cut, and brought to the nearest word, as the half between them is, since no word and no middle of two words parts them
+unfoldable pub rootHalves : ℕ → ℕ
+unfolding wholeRoot
+rootHalves n = 2 * wholeRoot n + cond (eqb (wholeRoot n * wholeRoot n) n) 0 1
+
+-- what the root is taken of: A's magnitude, size88 a / 2 ^ 88, counted in squares of the fine unit 2 ^ -fine, so that its root counts fine units
+abbrev pub radicand : ℕ → ℕ
+radicand a = size88 a * 2 ^ (2 * fine - 88)
+
+-- SQRT: the root of A, that many halves of a fine unit, cut; where A is negative, R = A and the error is that of a negative root
+unfoldable pub sqrt : Rule → ℕ → Flagged
+unfolding cutSize rootHalves size88
+sqrt r a = cond (negative a) (record { word = a; error = negativeRoot }) (cutSize r false (rootHalves (radicand a)) 2)

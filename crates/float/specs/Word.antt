@@ -1,9 +1,10 @@
 -- Float words: their fields, which of them are proper, and their value. Definitions only. Assumes nothing.
 use mathlib.Core.Path.{_≡_}
 use Prim.Native.Nat.{ℕ, _+_, _*_, _/_, _%_, _^_, _<_}
-use mathlib.Core.Bool.{Bool, true, false, _||_}
+use mathlib.Core.Bool.{Bool, true, _||_}
 use lib.Dec.{leb, eqb}
-use lib.IntN.{ℤ, pos, negℤ, subℕ}
+use lib.IntN.{ℤ, subℕ}
+use Rattle.whole.specs.Signed.{withSign}
 
 -- bit 31, the sign
 abbrev pub negative : ℕ → Bool
@@ -28,11 +29,6 @@ proper w = leb (2 ^ 23) (mantissa w) || eqb w 0
 -- the magnitude m * 2 ^ (e - 24) of the value, times 2 ^ 88
 unfoldable pub size88 : ℕ → ℕ
 size88 w = mantissa w * 2 ^ biased w
-
--- the whole number of a magnitude n that is negative or not
-abbrev pub withSign : Bool → ℕ → ℤ
-withSign true n = negℤ (pos n)
-withSign false n = pos n
 
 -- the value times 2 ^ 88, a whole number
 unfoldable pub value : ℕ → ℤ

@@ -8,7 +8,7 @@ use lib.Ieee.{Float, nan, inf, fin, up, down}
 use lib.Ieee.Fits.{down-pos, up-pos}
 use Rattle.float.specs.Word.{negative, mantissa, size88, value}
 use Rattle.float.proofs.Kept.{same-word}
-use Rattle.host.specs.Values.{Holds, Endless, Large, Small}
+use Rattle.host.specs.Values.{HasWord, Endless, Large, Small}
 use Rattle.host.proofs.Signs.{of-signed, parted}
 use Rattle.host.proofs.Words.{proper-cases, size-zero, size-some, size-lt}
 
@@ -16,7 +16,7 @@ value-same : (w v : ℕ) → size88 w ≡ size88 v → (negative w ≡ negative 
 unfolding value
 value-same w v e s = of-signed (negative w) (negative v) (size88 w) (size88 v) e s
 
-pub one-word : (x : Float) (w v : ℕ) → Holds x w → Holds x v → w ≡ v
+pub one-word : (x : Float) (w v : ℕ) → HasWord x w → HasWord x v → w ≡ v
 one-word nan w v a b = absurd (a .same)
 one-word (inf s) w v a b = absurd (a .same)
 one-word (fin s m e) w v a b =
@@ -26,12 +26,12 @@ one-word (fin s m e) w v a b =
     same-word w v (a .word) (b .word)
     (value-same w v f (⊎-elim (λ h. ⊎-elim (λ k. inl (sym h ∙ k)) (λ z. inr z) (q .1)) (λ z. inr (sym f ∙ z)) (p .1)))
 
-pub held-endless : (x : Float) (w : ℕ) → Holds x w → Endless x → ⊥
+pub held-endless : (x : Float) (w : ℕ) → HasWord x w → Endless x → ⊥
 held-endless nan w a t = a .same
 held-endless (inf s) w a t = a .same
 held-endless (fin s m e) w a t = t
 
-pub held-large : (x : Float) (w : ℕ) → Holds x w → Large x → ⊥
+pub held-large : (x : Float) (w : ℕ) → HasWord x w → Large x → ⊥
 held-large nan w a h = h
 held-large (inf s) w a h = h
 held-large (fin s m e) w a h =
@@ -41,7 +41,7 @@ held-large (fin s m e) w a h =
     let r : d ≡ 2 ^ 151 * down e = mul-right-comm (2 ^ 63) (down e) (2 ^ 88) in
     lt-irrefl d (lt-of-le-of-lt p (subst (λ (n : ℕ). size88 w * down e < n) (sym r) q))
 
-pub held-small : (x : Float) (w : ℕ) → Holds x w → Small x → ⊥
+pub held-small : (x : Float) (w : ℕ) → HasWord x w → Small x → ⊥
 held-small nan w a h = h
 held-small (inf s) w a h = h
 held-small (fin s m e) w a h = ⊎-elim some none (proper-cases w (a .word .is-proper))

@@ -10,8 +10,8 @@ use lib.Ieee.{Float, binary32, ofBits, toBits}
 use lib.Ieee.Bits.{ofBits-fits, ofBits-toBits}
 use Rattle.terms.specs.declared.Refusal.the-variants.{NotFinite, TooLarge, TooSmall}
 use Rattle.float.specs.Word.{negative, mantissa, FloatWord}
-use Rattle.host.specs.Host.{field, bitsOf, wordOf, takenOf}
-use Rattle.host.specs.Values.{Same, Holds, Endless, Large, Small}
+use Rattle.host.specs.Host.{field, hostBits, wordOf, takenOf}
+use Rattle.host.specs.Values.{Same, HasWord, Endless, Large, Small}
 use Rattle.host.specs.declared.Taken.{Taken}
 use Rattle.host.specs.declared.Taken.the-variants.{Word, Refused}
 use Rattle.host.proofs.Signs.{same-value}
@@ -22,7 +22,7 @@ use Rattle.host.proofs.Inward.{parts, Right, held, endless, large, smal
 
 -- ---- each answer, given the value
 module _ (x : Float) (r : Taken) where
-  pub answers-word : (w : ℕ) → Holds x w → Right x r → r ≡ Word w
+  pub answers-word : (w : ℕ) → HasWord x w → Right x r → r ≡ Word w
   answers-word w a (held v e b) = e ∙ ap Word (one-word x v w b a)
   answers-word w a (endless e b) = absurd (held-endless x w a b)
   answers-word w a (large e b) = absurd (held-large x w a b)
@@ -47,16 +47,16 @@ module _ (x : Float) (r : Taken) where
   answers-small a (small e b) = e
   -- ---- out and back
 
-pub word-back : (w : ℕ) → FloatWord w → takenOf (toBits binary32 (ofBits binary32 (bitsOf w))) ≡ Word w
+pub word-back : (w : ℕ) → FloatWord w → takenOf (toBits binary32 (ofBits binary32 (hostBits w))) ≡ Word w
 word-back w f =
-    let x = ofBits binary32 (bitsOf w) in
-    let again : ofBits binary32 (toBits binary32 x) ≡ x = ofBits-toBits binary32 x (ofBits-fits binary32 (bitsOf w)) in
+    let x = ofBits binary32 (hostBits w) in
+    let again : ofBits binary32 (toBits binary32 x) ≡ x = ofBits-toBits binary32 x (ofBits-fits binary32 (hostBits w)) in
     answers-word (ofBits binary32 (toBits binary32 x)) (takenOf (toBits binary32 x)) w
     (record { word = f; same = subst (λ (z : Float). Same z w) (sym again) (same-value x w (word-value w (f .is-proper))) })
     (right (toBits binary32 x))
 
 -- ---- in and back
-word-bits : (p : ℕ) → 62 ≤ field p → field p < 190 → p < 4294967296 → bitsOf (wordOf p) ≡ p
+word-bits : (p : ℕ) → 62 ≤ field p → field p < 190 → p < 4294967296 → hostBits (wordOf p) ≡ p
 word-bits p l h k =
     let c = parts p l h in
     let w = wordOf p in
@@ -68,7 +68,7 @@ word-bits p l h k =
     ∙ rejoined p k
 
 -- unless they are those of -0, the bits of an f32 that became a word are those of the word's f32
-pub bits-back : (p w : ℕ) → p < 4294967296 → (p ≡ 2147483648 → ⊥) → takenOf p ≡ Word w → bitsOf w ≡ p
+pub bits-back : (p w : ℕ) → p < 4294967296 → (p ≡ 2147483648 → ⊥) → takenOf p ≡ Word w → hostBits w ≡ p
 unfolding takenOf
 bits-back p w l n e = go (eqb (field p) 255) (leb 190 (field p)) (eqb (p % 2147483648) 0) (ltb (field p) 62) refl refl refl e
   where
@@ -76,11 +76,11 @@ bits-back p w l n e = go (eqb (field p) 255) (leb 190 (field p)) (eqb (p % 21474
     zeroes z = ⊎-elim (λ (k : p < 2147483648). omega arith) (λ (k : 2147483648 ≤ p). absurd (n (omega arith))) (side p 2147483648)
 
     go : (t₁ t₂ t₃ t₄ : Bool) → leb 190 (field p) ≡ t₂ → eqb (p % 2147483648) 0 ≡ t₃ → ltb (field p) 62 ≡ t₄
-        → cond t₁ (Refused NotFinite) (cond t₂ (Refused TooLarge) (cond t₃ (Word 0) (cond t₄ (Refused TooSmall) (Word (wordOf p))))) ≡ Word w → bitsOf w ≡ p
+        → cond t₁ (Refused NotFinite) (cond t₂ (Refused TooLarge) (cond t₃ (Word 0) (cond t₄ (Refused TooSmall) (Word (wordOf p))))) ≡ Word w → hostBits w ≡ p
     go true t₂ t₃ t₄ e₂ e₃ e₄ e = let z : _≡_ {A = ℕ} 0 1 = (cc) in absurd (omega arith)
     go false true t₃ t₄ e₂ e₃ e₄ e = let z : _≡_ {A = ℕ} 0 1 = (cc) in absurd (omega arith)
-    go false false true t₄ e₂ e₃ e₄ e = let f : 0 ≡ w = (cc) in ap bitsOf (sym f) ∙ sym (zeroes (eqb-true (p % 2147483648) 0 e₃))
+    go false false true t₄ e₂ e₃ e₄ e = let f : 0 ≡ w = (cc) in ap hostBits (sym f) ∙ sym (zeroes (eqb-true (p % 2147483648) 0 e₃))
     go false false false true e₂ e₃ e₄ e = let z : _≡_ {A = ℕ} 0 1 = (cc) in absurd (omega arith)
     go false false false false e₂ e₃ e₄ e =
         let f : wordOf p ≡ w = (cc) in
-        ap bitsOf (sym f) ∙ word-bits p (ltb-false (field p) 62 e₄) (leb-false 190 (field p) e₂) l
+        ap hostBits (sym f) ∙ word-bits p (ltb-false (field p) 62 e₄) (leb-false 190 (field p) e₂) l

@@ -15,7 +15,7 @@ use lib.Ieee.Fits.{down-pos}
 use Rattle.terms.specs.declared.Refusal.the-variants.{NotFinite, TooLarge, TooSmall}
 use Rattle.float.specs.Word.{negative, biased, mantissa, size88}
 use Rattle.host.specs.Host.{field, fraction, wordOf, takenOf}
-use Rattle.host.specs.Values.{Same, Holds, Endless, Large, Small}
+use Rattle.host.specs.Values.{Same, HasWord, Endless, Large, Small}
 use Rattle.host.specs.declared.Taken.{Taken}
 use Rattle.host.specs.declared.Taken.the-variants.{Word, Refused}
 use Rattle.host.proofs.Signs.{united}
@@ -93,7 +93,7 @@ module _ (p : ℕ) where
       large-of (ofBits binary32 p) (negative p) (a * 2 ^ (field p - 1)) (2 ^ 149) (pow-pos 149) (bits-value p l)
       (mul-le-mul {n₁ = 8388608} {m₁ = 2 ^ 189} u (pow-mono {i = 189} {j = field p - 1} (omega arith)))
 
-  zero-right : p % 2147483648 ≡ 0 → Holds (ofBits binary32 p) 0
+  zero-right : p % 2147483648 ≡ 0 → HasWord (ofBits binary32 p) 0
   zero-right e =
       let a = leading (field p) (fraction p) in
       let z : a ≡ 0 = leading-none (field p) (fraction p) (omega arith) (omega arith) in
@@ -117,7 +117,7 @@ module _ (p : ℕ) where
       small-of (ofBits binary32 p) (negative p) (a * 2 ^ (field p - 1)) (2 ^ 149) (pow-pos 149) (bits-value p (omega arith)) (mul-pos u (pow-pos (field p - 1)))
       (mul-lt-mul-of-pos-right {m = a * 2 ^ (field p - 1)} {n = 16777216 * 2 ^ 60} {k = 2 ^ 65} w (pow-pos 65))
 
-  word-right : 62 ≤ field p → field p < 190 → Holds (ofBits binary32 p) (wordOf p)
+  word-right : 62 ≤ field p → field p < 190 → HasWord (ofBits binary32 p) (wordOf p)
   word-right l h =
       let s = negative p in
       let y = (field p + 2) % 128 in
@@ -143,7 +143,7 @@ module _ (p : ℕ) where
 
 -- an answer that is right for an f32's value
 pub data Right (x : Float) (r : Taken) : Type 0 where
-  held : (w : ℕ) → r ≡ Word w → Holds x w → Right x r
+  held : (w : ℕ) → r ≡ Word w → HasWord x w → Right x r
   endless : r ≡ Refused NotFinite → Endless x → Right x r
   large : r ≡ Refused TooLarge → Large x → Right x r
   small : r ≡ Refused TooSmall → Small x → Right x r

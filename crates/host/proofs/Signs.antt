@@ -9,7 +9,8 @@ use lib.IntN.{ℤ, pos, negℤ, negℤ-negℤ}
 use lib.Ieee.{Float, nan, inf, fin, up, down}
 use lib.Ieee.Exact.{HasValue}
 use lib.Ieee.Fits.{down-pos}
-use Rattle.float.specs.Word.{negative, size88, withSign}
+use Rattle.whole.specs.Signed.{withSign}
+use Rattle.float.specs.Word.{negative, size88}
 use Rattle.host.specs.Values.{Same}
 
 pos-same : {a b : ℕ} → pos a ≡ pos b → a ≡ b

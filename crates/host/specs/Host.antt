@@ -20,12 +20,12 @@ abbrev pub fraction : ℕ → ℕ
 fraction p = p % 2 ^ 23
 
 -- the f32 of a proper word: its sign, e + 126 as the field, the mantissa without its leading bit; the zero word gives +0
-abbrev pub bitsOf : ℕ → ℕ
-bitsOf w = cond (eqb w 0) 0 (cond (negative w) (2 ^ 31) 0 + (biased w + 62) * 2 ^ 23 + mantissa w % 2 ^ 23)
+abbrev pub hostBits : ℕ → ℕ
+hostBits w = cond (eqb w 0) 0 (cond (negative w) (2 ^ 31) 0 + (biased w + 62) * 2 ^ 23 + mantissa w % 2 ^ 23)
 
 -- what becomes of a word: a proper one goes to the f32 of its value, any other is refused (4)
 unfoldable pub hostOf : ℕ → Host
-hostOf w = cond (proper w) (Float (ofBits binary32 (bitsOf w))) (Refused Improper)
+hostOf w = cond (proper w) (Float (ofBits binary32 (hostBits w))) (Refused Improper)
 
 -- the word of an f32 with a field of 62 to 189: its sign, e in two's complement, the leading one and the fraction as the mantissa
 abbrev pub wordOf : ℕ → ℕ

@@ -2,7 +2,8 @@
 use Prim.Native.Nat.{ℕ, _*_, _^_, _≤_, _<_}
 use mathlib.Core.Path.{_≡_}
 use lib.Ieee.{Float, nan, inf, fin, up, down}
-use Rattle.float.specs.Word.{negative, size88, withSign, FloatWord}
+use Rattle.whole.specs.Signed.{withSign}
+use Rattle.float.specs.Word.{negative, size88, FloatWord}
 
 -- the value of a finite f32, sign times m times up e / down e, is that of the word w: taken times 2 ^ 88 and times down e they are one whole number
 abbrev pub Same : Float → ℕ → Type 0
@@ -11,7 +12,7 @@ Same (inf s) w = ⊥
 Same (fin s m e) w = withSign s (m * up e * 2 ^ 88) ≡ withSign (negative w) (size88 w * down e)
 
 -- w is a proper word of the f32's value
-pub record Holds (x : Float) (w : ℕ) : Type 0 where
+pub record HasWord (x : Float) (w : ℕ) : Type 0 where
   pub word : FloatWord w
   pub same : Same x w
 

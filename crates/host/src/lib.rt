@@ -4,7 +4,7 @@ ghost use mathlib.Core.Path.{_≡_};
 ghost use mathlib.Core.Bool.{cond};
 ghost use Prim.Native.Nat.{_%_, _^_, _≤_, _<_};
 ghost use Rattle.float.specs.Word.{negative};
-ghost use Rattle.host.specs.Host.{field, bitsOf, hostOf, wordOf, takenOf, hostReply, takenReply};
+ghost use Rattle.host.specs.Host.{field, hostBits, hostOf, wordOf, takenOf, hostReply, takenReply};
 use terms::Refusal;
 
 // A word as an f32: a case that carries the float, or one that carries the refusal.
@@ -34,7 +34,7 @@ fn sign_bit(bits: u32) -> u32
 
 // The bits of the f32 that has a proper word's value; they are never those of an infinity or a NaN.
 fn bits_of(word: u32) -> u32
-    ensures { λ r. ⌜ (r ≡ bitsOf word) × (field r < 255) ⌝ }
+    ensures { λ r. ⌜ (r ≡ hostBits word) × (field r < 255) ⌝ }
 {
     if word == 0 {
         return 0;
@@ -46,7 +46,7 @@ fn bits_of(word: u32) -> u32
 pub fn word_to_f32(word: u32) -> Host
     ensures { λ r. ⌜ r ≡ hostOf word ⌝ }
 {
-    if float::is_proper(word) {
+    if float::word::is_proper(word) {
         Host::Float(f32::from_bits(bits_of(word)))
     } else {
         Host::Refused(Refusal::Improper)

@@ -7,7 +7,7 @@ use Prim.Native.Nat.{ℕ, _+_, _%_}
 use native.Mathlib.Omega.{arith}
 use Rattle.float.specs.Word.{FloatWord}
 use Rattle.float.specs.Order.{Le, LeBy}
-use Rattle.float.specs.Cut.{Rule}
+use Rattle.terms.specs.declared.Rule.{Rule}
 use Rattle.float.proofs.Order.{add-keeps, sub-keeps, sub-turns, mul-order, div-order}
 use Rattle.float.proofs.SignChange.{chsf-turns}
 use lib.ListN.{take}

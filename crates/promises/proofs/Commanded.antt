@@ -13,19 +13,22 @@ use lib.ListN.{length}
 use lib.Seq.{take-at}
 use lib.Ieee.{unlike}
 use lib.Signed.{quotZ, shrZ}
+use Rattle.whole.specs.Signed.{withSign}
+use Rattle.whole.proofs.Differences.{either}
 use Rattle.terms.specs.declared.Width.{Width}
 use Rattle.terms.specs.declared.Width.the-variants.{Single, Double}
 use Rattle.terms.specs.declared.Refusal.the-variants.{Improper}
 use Rattle.terms.specs.Width.{sizeOf}
 use Rattle.fixed.specs.declared.Fixed.{Fixed}
 use Rattle.fixed.specs.Parts.{Words}
-use Rattle.fixed.specs.Fixed.{signed, fits, low, overflow, outcome, eitherLeast, add as xadd, sub as xsub, mul as xmul, muu as xmuu, div as xdiv, chs as xchs}
-use Rattle.fixed.proofs.Differences.{side}
+use Rattle.fixed.specs.Fixed.{signed, fits, low, overflowIf, outcome, eitherLeast, add as xadd, sub as xsub, mul as xmul, muu as xmuu, div as xdiv, chs as xchs}
 use Rattle.fixed.proofs.LowBits.{low-lt, kept, parted}
 use Rattle.fixed.proofs.Sums.{sum-low, diff-low}
-use Rattle.float.specs.declared.Rounded.{Rounded}
-use Rattle.float.specs.Word.{negative, mantissa, proper, withSign, FloatWord}
-use Rattle.float.specs.Cut.{Rule, below0}
+use Rattle.float.specs.declared.Flagged.{Flagged}
+use Rattle.float.specs.Word.{negative, mantissa, proper, FloatWord}
+use Rattle.terms.specs.declared.Rule.{Rule}
+use Rattle.terms.specs.declared.Rule.the-variants.{Cut, Nearest}
+use Rattle.float.specs.Cut.{below0}
 use Rattle.float.specs.Convert.{fltd, flts, fix, wholePart, complement, chsf}
 use Rattle.float.proofs.Results.{add-result, sub-result, mul-result, div-result, fltd-result, flts-result}
 use Rattle.float.proofs.Steps.{div-by-zero}
@@ -37,11 +40,11 @@ use Rattle.codes.specs.declared.Command.the-variants.{Nop, Add, Sub, Mul, Muu, 
 use Rattle.codes.specs.declared.FloatOp.{FloatOp}
 use Rattle.codes.specs.declared.FloatOp.the-variants.{Add as FAdd, Sub as FSub, Mul as FMul, Div as FDiv}
 use Rattle.chip.specs.Status.{statusOf}
-use Rattle.chip.specs.Commands.{baseRule, wordA, wordB, ends, moves, keepsA, losesA, changesA, floats, converts, widens, narrows, floatOf, outcomeOf, properOperands}
+use Rattle.chip.specs.Commands.{baseRule, piOf, wordA, wordB, ends, moves, keepsA, losesA, changesA, floats, converts, widens, narrows, floatOf, outcomeOf, properOperands}
 use Rattle.chip.specs.Step.{done, carried, commandUnder}
 use Rattle.codes.specs.declared.Kind.the-variants.{Known}
 use Rattle.codes.specs.Codes.{kindOf}
-use Rattle.promises.specs.Commands.{least, words, word, statusBy, holding, Leaves, Refuses, Two, FixedRows, WholeNumbers, MoveRows, FloatRows, ConversionRows, Rows, Commands}
+use Rattle.promises.specs.Commands.{piWord, least, words, word, statusBy, holding, Leaves, Refuses, Two, FixedRows, WholeNumbers, MoveRows, FloatRows, ConversionRows, Rows, Commands}
 
 -- ---- the words of a stack are read back
 pub top-is : (w : Width) (a : ℕ) (t : List ℕ) → a < words w → tos (sizeOf w) (word w a t) ≡ a
@@ -98,9 +101,9 @@ module _ (h b a : ℕ) (W : Words h b a) where
   some : 0 < 2 * h
   some = let p = W .some in omega arith
 
-  pub sum-is : xadd h b a ≡ outcome ((b + a) % (2 * h)) (overflow (not (fits h (signed h b +ℤ signed h a)))) (leb (2 * h) (b + a))
+  pub sum-is : xadd h b a ≡ outcome ((b + a) % (2 * h)) (overflowIf (not (fits h (signed h b +ℤ signed h a)))) (leb (2 * h) (b + a))
   unfolding xadd
-  sum-is = ap (λ (x : ℕ). outcome x (overflow (not (fits h (signed h b +ℤ signed h a)))) (leb (2 * h) (b + a))) (sym (sum-low h b a ((b + a) % (2 * h)) W refl))
+  sum-is = ap (λ (x : ℕ). outcome x (overflowIf (not (fits h (signed h b +ℤ signed h a)))) (leb (2 * h) (b + a))) (sym (sum-low h b a ((b + a) % (2 * h)) W refl))
 
   -- B - A modulo 2h, and A, make B
   back : ((b + 2 * h - a) % (2 * h) + a) % (2 * h) ≡ b
@@ -117,7 +120,7 @@ module _ (h b a : ℕ) (W : Words h b a) where
       mod-eq-sub-mod {n = b + 2 * h - a} {m = 2 * h} (omega arith) ∙ ap (λ (x : ℕ). x % (2 * h)) (less-plus b (2 * h) a k) ∙ mod-eq-of-lt (omega arith) in
       let f : (b + 2 * h - a) % (2 * h) + a ≡ b = omega arith in
       ap (λ (x : ℕ). x % (2 * h)) f ∙ mod-eq-of-lt L)
-      (side b a)
+      (either b a)
     where
       plus-less : (x n : ℕ) → x + n - n ≡ x
       plus-less x n = omega arith
@@ -128,11 +131,11 @@ module _ (h b a : ℕ) (W : Words h b a) where
   difference-low : (b + 2 * h - a) % (2 * h) ≡ low h (signed h b -ℤ signed h a)
   difference-low = diff-low h b a ((b + 2 * h - a) % (2 * h)) W (mod-lt (b + 2 * h - a) some) back
 
-  pub difference-is : xsub h b a ≡ outcome ((b + 2 * h - a) % (2 * h)) (overflow (eqb a h || not (fits h (signed h b -ℤ signed h a)))) (ltb b a)
+  pub difference-is : xsub h b a ≡ outcome ((b + 2 * h - a) % (2 * h)) (overflowIf (eqb a h || not (fits h (signed h b -ℤ signed h a)))) (ltb b a)
   unfolding xsub
-  difference-is = ap (λ (x : ℕ). outcome x (overflow (eqb a h || not (fits h (signed h b -ℤ signed h a)))) (ltb b a)) (sym difference-low)
+  difference-is = ap (λ (x : ℕ). outcome x (overflowIf (eqb a h || not (fits h (signed h b -ℤ signed h a)))) (ltb b a)) (sym difference-low)
 
-  product-is : (b ≡ h → ⊥) → (a ≡ h → ⊥) → xmul h b a ≡ outcome (low h (signed h b *ℤ signed h a)) (overflow (not (fits h (signed h b *ℤ signed h a)))) false
+  product-is : (b ≡ h → ⊥) → (a ≡ h → ⊥) → xmul h b a ≡ outcome (low h (signed h b *ℤ signed h a)) (overflowIf (not (fits h (signed h b *ℤ signed h a)))) false
   unfolding xmul
   product-is p q = rw (ne-eqb b h p, ne-eqb a h q)
 
@@ -165,12 +168,12 @@ module _ (h b a : ℕ) (W : Words h b a) where
   least-quotient z e = rw (ne-eqb a 0 z, either-is e)
 
 -- 0 - A
-negation-is : (h a : ℕ) → Words h 0 a → xchs h a ≡ outcome ((2 * h - a) % (2 * h)) (overflow (eqb a h)) false
+negation-is : (h a : ℕ) → Words h 0 a → xchs h a ≡ outcome ((2 * h - a) % (2 * h)) (overflowIf (eqb a h)) false
 unfolding xchs
 negation-is h a W =
     let z : signed h 0 ≡ pos 0 = rw (lt-ltb 0 h (W .some)) in
     let e : (2 * h - a) % (2 * h) ≡ low h (negℤ (signed h a)) = ap (λ (x : ℕ). (x - a) % (2 * h)) (sym (zero-add (2 * h))) ∙ difference-low h 0 a W ∙ ap (λ (x : ℤ). low h (x -ℤ signed h a)) z ∙ ap (low h) (+ℤ-idl (negℤ (signed h a))) in
-    ap (λ (x : ℕ). outcome x (overflow (eqb a h)) false) (sym e)
+    ap (λ (x : ℕ). outcome x (overflowIf (eqb a h)) false) (sym e)
 
 no-divisor : (h b : ℕ) → xdiv h b 0 ≡ outcome b 8 false
 unfolding xdiv
@@ -321,7 +324,7 @@ module _ (rule : Rule) where
     fmul-row = λ b a B A. float-row FMul b a B A (mul-result rule b a .word .fits);
     fdiv-row = λ b a B A. float-row FDiv b a B A (div-result rule b a B .word .fits);
     fdiv-zero = λ b B.
-        subst (λ (r : Rounded). Two rule Double (Float FDiv) b 0 (r .word) (r .error) false 0) (div-by-zero rule b 0 refl)
+        subst (λ (r : Flagged). Two rule Double (Float FDiv) b 0 (r .word) (r .error) false 0) (div-by-zero rule b 0 refl)
         (float-row FDiv b 0 B zero-word (div-result rule b 0 B .word .fits));
     improper = λ op b a B A e cs. refusing rule (Float op) (word Double a (word Double b cs)) (operands op b a cs B A ∙ not-both (proper b) (proper a) e);
     chsf-sets = λ a m l bs. let k : a < 2147483648 = l in chsf-row a (a + 2 ^ 31) bs (omega arith) (omega arith) (set-is a m l);
@@ -334,7 +337,7 @@ module _ (rule : Rule) where
 abbrev pub three : ℕ → ℕ → ℕ → List ℕ → List ℕ
 three a b c ds = word Double a (word Double b (word Double c ds))
 
-module _ (f : ℕ → Rounded) (a b c : ℕ) (A : a < words Double) (ds : List ℕ) where
+module _ (f : ℕ → Flagged) (a b c : ℕ) (A : a < words Double) (ds : List ℕ) where
   given : f (wordA Double (three a b c ds)) ≡ f a
   given = ap f (top-is Double a (word Double b (word Double c ds)) A)
 
@@ -360,13 +363,13 @@ complement-lt half false n h = omega arith
 abbrev five : ℕ → ℕ → ℕ → ℕ → ℕ → List ℕ → List ℕ
 five a b c d e fs = word Single a (word Single b (word Single c (word Single d (word Single e fs))))
 
-widened-to : (f : ℕ → Rounded) (a b c d e : ℕ) → a < words Single → (fs : List ℕ) (r : ℕ) → f a ≡ record { word = r; error = 0 }
+widened-to : (f : ℕ → Flagged) (a b c d e : ℕ) → a < words Single → (fs : List ℕ) (r : ℕ) → f a ≡ record { word = r; error = 0 }
     → widens (five a b c d e fs) (f (wordA Single (five a b c d e fs))) ≡ ends Double (word Double r (word Single b (word Single c (word Single d (word Single e (zeros 4)))))) 0 false
 unfolding widens
 widened-to f a b c d e A fs r F = ap (λ (x : ℕ). widens (five a b c d e fs) (f x)) (top-is Single a (word Single b (word Single c (word Single d (word Single e fs)))) A) ∙ ap (widens (five a b c d e fs)) F
 
 -- a result without error, by its word
-pub no-error : (r : Rounded) → r .error ≡ 0 → r ≡ record { word = r .word; error = 0 }
+pub no-error : (r : Flagged) → r .error ≡ 0 → r ≡ record { word = r .word; error = 0 }
 no-error r e = ap (λ (x : ℕ). record { word = r .word; error = x }) e
 
 module _ (rule : Rule) where
@@ -405,6 +408,15 @@ module _ (rule : Rule) where
   unfolding commandUnder carried
   nop stack code status service is ready = rw (lt-leb 128 status ready, is)
 
+pushed-pi : (rule : Rule) (pi lost : ℕ) (abc : List ℕ) → piOf rule ≡ pi → pi < words Double → length abc ≡ 12 → Leaves rule Pupi (abc ++ bytesOf 4 lost) Double pi 0 false abc
+pushed-pi rule pi lost abc e f h =
+    accepted rule Pupi (abc ++ bytesOf 4 lost) Double pi 0 false abc refl f
+    (ap₂ (λ (x : ℕ) (l : List ℕ). moves Double (word Double x l)) e (take-at abc (bytesOf 4 lost) 12 h))
+
+pupi : (rule : Rule) (lost : ℕ) (abc : List ℕ) → length abc ≡ 12 → Leaves rule Pupi (abc ++ bytesOf 4 lost) Double (piWord rule) 0 false abc
+pupi Cut lost abc h = pushed-pi Cut 0x02c90fda lost abc refl (lit< tt) h
+pupi Nearest lost abc h = pushed-pi Nearest 0x02c90fdb lost abc refl (lit< tt) h
+
 -- ---- the statement
 pub rows : (rule : Rule) → Rows rule
 rows rule = record {
@@ -413,8 +425,7 @@ rows rule = record {
   moves = λ w. move-rows rule w;
   float-point = float-rows rule;
   conversions = conversion-rows rule;
-  pupi-row = λ lost abc h.
-      accepted rule Pupi (abc ++ bytesOf 4 lost) Double 0x02c90fda 0 false abc refl (lit< tt) (ap (λ (l : List ℕ). moves Double (word Double 0x02c90fda l)) (take-at abc (bytesOf 4 lost) 12 h));
+  pupi-row = λ lost abc h. pupi rule lost abc h;
   nop-row = λ stack code status service is ready. nop rule stack code status service is ready;
 }
 

@@ -1,18 +1,19 @@
--- Two's complement over half of the number of words: sizes of differences against it, sums and differences modulo twice it. Assumes nothing.
+-- Two's complement over half of the number of words: what fits by the laws of `fixed`, sums and differences modulo twice it. Assumes nothing.
 use mathlib.Core.Path.{_≡_, refl, sym, ap, subst, _∙_}
 use mathlib.Core.Logic.{⊎-elim}
 use mathlib.Core.Bool.{true, false}
-use Prim.Native.Nat.{ℕ, suc, _+_, _-_, _*_, _%_, _≤_, _<_}
+use Prim.Native.Nat.{ℕ, _+_, _-_, _*_, _%_, _≤_, _<_}
 use native.Mathlib.Nat.{mod-eq-of-lt, mod-eq-sub-mod}
 use native.Mathlib.Omega.{arith}
 use borrow.Author.Tests.{lt-ltb, le-ltb, lt-leb, le-leb}
 use lib.Dec.{lit<, lit≤}
 use lib.IntN.{pos, subℕ}
+use Rattle.whole.proofs.Differences.{either, same, neg-pos}
 use Rattle.terms.specs.declared.Width.{Width}
 use Rattle.terms.specs.declared.Width.the-variants.{Single, Double}
 use Rattle.fixed.specs.Parts.{Words}
 use Rattle.fixed.specs.Fixed.{signed, fits, add, sub, chs}
-use Rattle.fixed.proofs.Differences.{side, sub-lt, sub-ge, same, neg-pos}
+use Rattle.fixed.proofs.LowBits.{fits-in, fits-above, fits-below}
 use Rattle.fixed.proofs.Exact.{mul-carry, muu-carry, div-carry}
 use Rattle.float.specs.Convert.{integer}
 use Rattle.promises.specs.Commands.{least}
@@ -26,20 +27,6 @@ module _ (h : ℕ) where
   above : (a : ℕ) → h ≤ a → signed h a ≡ subℕ a (2 * h)
   above a k = rw (le-ltb a h k)
 
-  -- the size of a difference
-  inside : (x y : ℕ) → y ≤ x + h → x < y + h → fits h (subℕ x y) ≡ true
-  inside x y i j =
-      ⊎-elim
-      (λ (k : x < y). ap (fits h) (sub-lt x y k) ∙ lt-ltb (y - suc x) h (omega arith))
-      (λ (k : y ≤ x). ap (fits h) (sub-ge x y k) ∙ lt-ltb (x - y) h (omega arith))
-      (side x y)
-
-  too-high : (x y : ℕ) → y + h ≤ x → fits h (subℕ x y) ≡ false
-  too-high x y i = ap (fits h) (sub-ge x y (omega arith)) ∙ le-ltb (x - y) h (omega arith)
-
-  too-low : (x y : ℕ) → x + h < y → fits h (subℕ x y) ≡ false
-  too-low x y i = ap (fits h) (sub-lt x y (omega arith)) ∙ le-ltb (y - suc x) h (omega arith)
-
   no-carry : (a : ℕ) → chs h a .carry ≡ false
   unfolding chs
   no-carry a = refl
@@ -49,7 +36,7 @@ module _ (h : ℕ) where
       ⊎-elim
       (λ (k : a < h). rw (lt-leb h a k, lt-ltb a h k))
       (λ (k : h ≤ a). rw (le-leb h a k, le-ltb a h k) (neg-pos (2 * h - a) ∙ same 0 (2 * h - a) a (2 * h) (omega arith)))
-      (side a h)
+      (either a h)
 
   module _ (b a : ℕ) (W : Words h b a) where
     carries : b + a ≡ add h b a .word + bit (add h b a .carry) * (2 * h)
@@ -60,7 +47,7 @@ module _ (h : ℕ) where
         (λ (k : 2 * h ≤ b + a).
         let e : (b + a) % (2 * h) ≡ b + a - 2 * h = mod-eq-sub-mod k ∙ mod-eq-of-lt (omega arith) in
         rw (le-leb (2 * h) (b + a) k, e) (omega arith))
-        (side (b + a) (2 * h)))
+        (either (b + a) (2 * h)))
 
     borrows : b + bit (sub h b a .carry) * (2 * h) ≡ sub h b a .word + a
     borrows =
@@ -72,7 +59,7 @@ module _ (h : ℕ) where
         (λ (k : a ≤ b).
         let e : (b + 2 * h - a) % (2 * h) ≡ b + 2 * h - a - 2 * h = mod-eq-sub-mod (omega arith) ∙ mod-eq-of-lt (omega arith) in
         rw (le-ltb b a k, e) (omega arith))
-        (side b a))
+        (either b a))
 
 -- ---- the statement
 module _ (w : Width) (is : least w ≡ halfOf w) (some : 0 < halfOf w) (narrow : halfOf w ≤ 2147483648) where
@@ -82,9 +69,9 @@ module _ (w : Width) (is : least w ≡ halfOf w) (some : 0 < halfOf w) (narrow :
     words-are = ap (λ (n : ℕ). 2 * n) is;
     value-below = λ a k. ap (λ (n : ℕ). signed n a) is ∙ below (halfOf w) a k;
     value-above = λ a k. ap (λ (n : ℕ). signed n a) is ∙ above (halfOf w) a k;
-    fits-inside = λ x y i j. ap (λ (n : ℕ). fits n (subℕ x y)) is ∙ inside (halfOf w) x y i j;
-    fits-above = λ x y i. ap (λ (n : ℕ). fits n (subℕ x y)) is ∙ too-high (halfOf w) x y i;
-    fits-below = λ x y i. ap (λ (n : ℕ). fits n (subℕ x y)) is ∙ too-low (halfOf w) x y i;
+    fits-inside = λ x y i j. ap (λ (n : ℕ). fits n (subℕ x y)) is ∙ fits-in (halfOf w) x y j i;
+    fits-above = λ x y i. ap (λ (n : ℕ). fits n (subℕ x y)) is ∙ fits-above (halfOf w) x y i;
+    fits-below = λ x y i. ap (λ (n : ℕ). fits n (subℕ x y)) is ∙ fits-below (halfOf w) x y i;
     carry-out = λ b a i j.
         subst (λ (n : ℕ). b + a ≡ add n b a .word + bit (add n b a .carry) * (2 * halfOf w)) (sym is)
         (carries (halfOf w) b a (record { some = some; narrow = narrow; left = i; right = j }));

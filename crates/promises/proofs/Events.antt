@@ -9,9 +9,9 @@ use lib.Dec.{eqb}
 use lib.ListN.{take}
 use Rattle.terms.specs.declared.Width.the-variants.{Double}
 use Rattle.terms.specs.Refusal.{numberOf}
-use Rattle.float.specs.declared.Rounded.{Rounded}
+use Rattle.float.specs.declared.Flagged.{Flagged}
 use Rattle.float.specs.Word.{FloatWord}
-use Rattle.float.specs.Cut.{Rule}
+use Rattle.terms.specs.declared.Rule.{Rule}
 use Rattle.float.specs.Float.{Result}
 use Rattle.float.proofs.Results.{add-result, sub-result, mul-result, div-result}
 use Rattle.float.proofs.SignChange.{chsf-word}
@@ -89,7 +89,7 @@ work-result rule (TakeFrom c) w C W = sub-result rule c w
 work-result rule Change w C W = record { word = chsf-word w W; small = omega arith }
 
 -- what events do to a state: r is the word that stands on top afterwards, and the error that a quiet run shows to be none
-pub record Does (rule : Rule) (s : State) (es : List Event) (r : Rounded) : Type 0 where
+pub record Does (rule : Rule) (s : State) (es : List Event) (r : Flagged) : Type 0 where
   pub all-answered : answered rule s es ≡ true
   pub tops : Tops (r .word) (after rule s es)
   pub no-error : quiet rule s es ≡ true → r .error ≡ 0
@@ -100,7 +100,7 @@ module _ (rule : Rule) where
   does-none s w T = record { all-answered = refl; tops = T; no-error = λ q. refl }
 
   -- an event that is answered 0 comes first
-  does-then : {s s' : State} {e : Event} {es : List Event} {r : Rounded} → answerTo rule s e ≡ done 0 s' → Does rule s' es r → Does rule s (e ∷ es) r
+  does-then : {s s' : State} {e : Event} {es : List Event} {r : Flagged} → answerTo rule s e ≡ done 0 s' → Does rule s' es r → Does rule s (e ∷ es) r
   does-then {s} {s'} {e} {es} {r} h d = record {
     all-answered = subst (λ (x : Answer). (eqb (numberOf (x .refusal)) 0 && answered rule (x .state) es) ≡ true) (sym h) (d .all-answered);
     tops = subst (λ (x : Answer). Tops (r .word) (after rule (x .state) es)) (sym h) (d .tops);
@@ -108,11 +108,11 @@ module _ (rule : Rule) where
   }
 
   -- four bytes pushed come first
-  does-pushes : (c : ℕ) {l : List ℕ} {u : ℕ} {v : Bool} {es : List Event} {r : Rounded} → u < 128 → Does rule (idle (bytesOf 4 c ++ under l) u v) es r → Does rule (idle l u v) (pushesOf 4 c ++ es) r
+  does-pushes : (c : ℕ) {l : List ℕ} {u : ℕ} {v : Bool} {es : List Event} {r : Flagged} → u < 128 → Does rule (idle (bytesOf 4 c ++ under l) u v) es r → Does rule (idle l u v) (pushesOf 4 c ++ es) r
   does-pushes c h d = does-then (one-push _ _ _ _ _ h) (does-then (one-push _ _ _ _ _ h) (does-then (one-push _ _ _ _ _ h) (does-then (one-push _ _ _ _ _ h) d)))
 
   -- one command that ends with a word on top and an error
-  ended : {s : State} {code : ℕ} {r : Rounded} {t : List ℕ} {v : Bool} → Result r
+  ended : {s : State} {code : ℕ} {r : Flagged} {t : List ℕ} {v : Bool} → Result r
       → commandUnder rule s code ≡ done 0 (idle (bytesOf 4 (r .word) ++ t) (statusOf Double (bytesOf 4 (r .word) ++ t) (r .error) false) v) → Does rule s (command code ∷ []) r
   ended {s} {code} {r} {t} {v} F e =
       let l = bytesOf 4 (r .word) ++ t in

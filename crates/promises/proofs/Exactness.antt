@@ -8,13 +8,16 @@ use native.Mathlib.Omega.{arith}
 use lib.IntN.{ℤ, pos, natAbs, _*ℤ_}
 use lib.Ieee.{unlike}
 use lib.Pow.{pow-pos}
-use Rattle.float.specs.Word.{mantissa, withSign, value, FloatWord}
-use Rattle.float.specs.Cut.{Down, below0}
+use Rattle.whole.specs.Signed.{withSign}
+use Rattle.whole.proofs.Signs.{times}
+use Rattle.float.specs.Word.{mantissa, value, FloatWord}
+use Rattle.terms.specs.declared.Rule.the-variants.{Cut}
+use Rattle.float.specs.Cut.{below0}
 use Rattle.float.specs.Float.{exactSum, exactDifference, exactProduct, dividend, divisor, add, sub, mul, div}
 use Rattle.float.specs.Convert.{wholePart, fix}
-use Rattle.float.specs.Exact.{Taken, Fixed}
+use Rattle.float.specs.Exact.{Truncated, Fixes}
 use Rattle.float.proofs.OnePair.{a-pair, one-pair}
-use Rattle.float.proofs.Signs.{times-size, product}
+use Rattle.float.proofs.Signs.{times-size}
 use Rattle.float.proofs.Order.{size-pos, div-cut}
 use Rattle.float.proofs.Steps.{add-exactly, sub-exactly, mul-exactly, div-exactly, div-by-zero}
 use Rattle.float.proofs.Results.{add-result, sub-result, mul-result, div-result, fltd-result, flts-result}
@@ -26,41 +29,41 @@ use Rattle.promises.specs.Exact.{clean, Exact}
 -- a whole number times two factors
 twice : (z : ℤ) (x y : ℕ) → z *ℤ pos x *ℤ pos y ≡ z *ℤ pos (x * y)
 twice z x y =
-    ap (λ (u : ℤ). u *ℤ pos y) (times-size z x) ∙ product (below0 z) false (natAbs z * x) y
+    ap (λ (u : ℤ). u *ℤ pos y) (times-size z x) ∙ times (below0 z) false (natAbs z * x) y
     ∙ ap₂ withSign (alone (below0 z)) (mul-assoc (natAbs z) x y) ∙ sym (times-size z (x * y))
   where
     alone : (s : Bool) → unlike s false ≡ s
     alone true = refl
     alone false = refl
 
-sum-kept : (b a w : ℕ) → FloatWord w → value w ≡ exactSum b a → add Down b a ≡ clean w
+sum-kept : (b a w : ℕ) → FloatWord w → value w ≡ exactSum b a → add Cut b a ≡ clean w
 unfolding add
-sum-kept b a w W e = own-value Down w (exactSum b a) (2 ^ 88) W (pow-pos 88) (ap (λ (z : ℤ). z *ℤ pos (2 ^ 88)) e)
+sum-kept b a w W e = own-value Cut w (exactSum b a) (2 ^ 88) W (pow-pos 88) (ap (λ (z : ℤ). z *ℤ pos (2 ^ 88)) e)
 
-difference-kept : (b a w : ℕ) → FloatWord w → value w ≡ exactDifference b a → sub Down b a ≡ clean w
+difference-kept : (b a w : ℕ) → FloatWord w → value w ≡ exactDifference b a → sub Cut b a ≡ clean w
 unfolding sub
-difference-kept b a w W e = own-value Down w (exactDifference b a) (2 ^ 88) W (pow-pos 88) (ap (λ (z : ℤ). z *ℤ pos (2 ^ 88)) e)
+difference-kept b a w W e = own-value Cut w (exactDifference b a) (2 ^ 88) W (pow-pos 88) (ap (λ (z : ℤ). z *ℤ pos (2 ^ 88)) e)
 
-product-kept : (b a w : ℕ) → FloatWord w → value w *ℤ pos (2 ^ 88) ≡ exactProduct b a → mul Down b a ≡ clean w
+product-kept : (b a w : ℕ) → FloatWord w → value w *ℤ pos (2 ^ 88) ≡ exactProduct b a → mul Cut b a ≡ clean w
 unfolding mul
-product-kept b a w W e = own-value Down w (exactProduct b a) (2 ^ 176) W (pow-pos 176)
+product-kept b a w W e = own-value Cut w (exactProduct b a) (2 ^ 176) W (pow-pos 176)
     (sym (twice (value w) (2 ^ 88) (2 ^ 88)) ∙ ap (λ (z : ℤ). z *ℤ pos (2 ^ 88)) e)
 
-quotient-kept : (b a w : ℕ) → FloatWord w → (mantissa a ≡ 0 → ⊥) → value w *ℤ pos (divisor a) ≡ dividend b a *ℤ pos (2 ^ 88) → div Down b a ≡ clean w
-quotient-kept b a w W nz e = div-cut Down b a nz ∙ own-value Down w (dividend b a) (divisor a) W (size-pos a nz) e
+quotient-kept : (b a w : ℕ) → FloatWord w → (mantissa a ≡ 0 → ⊥) → value w *ℤ pos (divisor a) ≡ dividend b a *ℤ pos (2 ^ 88) → div Cut b a ≡ clean w
+quotient-kept b a w W nz e = div-cut Cut b a nz ∙ own-value Cut w (dividend b a) (divisor a) W (size-pos a nz) e
 
 -- below half, or not
-taken : (half a : ℕ) → wholePart a < half → Taken half a (fix half a)
+taken : (half a : ℕ) → wholePart a < half → Truncated half a (fix half a)
 taken half a h = go (fix-law half a)
   where
-    go : Fixed half a (fix half a) → Taken half a (fix half a)
+    go : Fixes half a (fix half a) → Truncated half a (fix half a)
     go (inl t) = t .1
     go (inr t) = let k = t .0 in absurd (omega arith)
 
 over : (half a : ℕ) → half ≤ wholePart a → fix half a ≡ record { word = a; error = 1 }
 over half a h = go (fix-law half a)
   where
-    go : Fixed half a (fix half a) → fix half a ≡ record { word = a; error = 1 }
+    go : Fixes half a (fix half a) → fix half a ≡ record { word = a; error = 1 }
     go (inl t) = let k = t .0 in absurd (omega arith)
     go (inr t) = t .1
 
@@ -73,12 +76,12 @@ exact = record {
     difference = λ b a B A. sub-exactly b a;
     product = λ b a B A. mul-exactly b a (B .is-proper) (A .is-proper);
     quotient = λ b a B A nz. div-exactly b a (B .is-proper) (A .is-proper) nz;
-    by-zero = λ b a A z. div-by-zero Down b a z;
+    by-zero = λ b a A z. div-by-zero Cut b a z;
   };
   words = record {
-    proper-sum = λ b a. (add-result Down b a .word, sub-result Down b a .word);
-    proper-product = λ b a. mul-result Down b a .word;
-    proper-quotient = λ b a B. div-result Down b a B .word;
+    proper-sum = λ b a. (add-result Cut b a .word, sub-result Cut b a .word);
+    proper-product = λ b a. mul-result Cut b a .word;
+    proper-quotient = λ b a B. div-result Cut b a B .word;
     proper-change = λ a A. chsf-word a A;
     sum-kept = sum-kept;
     difference-kept = difference-kept;
@@ -88,10 +91,10 @@ exact = record {
     opposite = chsf-value;
   };
   conversions = record {
-    flts-exact = λ a h. flts-exact Down a h;
+    flts-exact = λ a h. flts-exact Cut a h;
     fltd-cut = λ a h. fltd-exactly a h;
-    no-error = λ a. (λ h. flts-no-error Down a h, λ h. fltd-no-error Down a h);
-    proper-floats = λ a. (flts-result Down a .word, fltd-result Down a .word);
+    no-error = λ a. (λ h. flts-no-error Cut a h, λ h. fltd-no-error Cut a h);
+    proper-floats = λ a. (flts-result Cut a .word, fltd-result Cut a .word);
     fixd-taken = λ a h. taken (2 ^ 31) a h;
     fixs-taken = λ a h. taken (2 ^ 15) a h;
     fixd-over = λ a h. over (2 ^ 31) a h;

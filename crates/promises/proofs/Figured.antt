@@ -7,10 +7,11 @@ use Prim.Native.Nat.{ℕ, _+_, _-_, _*_, _/_, _%_, _^_, _≤_, _<_}
 use native.Mathlib.Omega.{arith}
 use borrow.Author.Tests.{le-leb, lt-leb, ne-eqb}
 use lib.IntN.{pos, negℤ}
-use Rattle.float.specs.Word.{negative, biased, mantissa, proper, size88, withSign, value}
+use Rattle.whole.specs.Signed.{withSign}
+use Rattle.whole.proofs.Differences.{either}
+use Rattle.float.specs.Word.{negative, biased, mantissa, proper, size88, value}
 use Rattle.stack.specs.Stack.{bytesOf, lowFirst}
 use Rattle.codes.specs.Codes.{kindOf}
-use Rattle.fixed.proofs.Differences.{side}
 use Rattle.promises.specs.Figures.{chart, from, wordWith, Figures}
 
 codes : map kindOf (from 128 0) ≡ chart
@@ -73,7 +74,7 @@ fields w h =
     let v = w - 2147483648 in
     let e = below-half v (omega arith) in
     (true, (v / 16777216 + 64) % 128, v % 16777216, omega arith, omega arith, omega arith))
-    (side w 2147483648)
+    (either w 2147483648)
 
 -- proper words
 leading : (w : ℕ) → 8388608 ≤ w % 16777216 → proper w ≡ true

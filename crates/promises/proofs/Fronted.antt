@@ -14,7 +14,8 @@ use Rattle.chip.specs.declared.State.{State}
 use Rattle.records.specs.declared.head.Event.{Event}
 use Rattle.records.specs.declared.head.Event.the-variants.{Push, Pop, Command, Status, Reset, Acknowledge}
 use Rattle.records.specs.declared.head.Head.the-variants.{Stop}
-use Rattle.records.specs.Record.{wordAt, answeredOf, headNumber, rowOf, headOf, Holds, stopped, turnOf}
+use Rattle.little.specs.Little.{wordAt}
+use Rattle.records.specs.Record.{answeredOf, headNumber, rowOf, headOf, Holds, stopped, turnOf}
 use Rattle.records.specs.Run.{ended}
 use Rattle.files.proofs.Tests.{either-lt, either-eq}
 use Rattle.records.proofs.Heads.{short, low, high, cut, whole, head-is}

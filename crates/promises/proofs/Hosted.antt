@@ -8,8 +8,8 @@ use lib.Ieee.{Float, binary32, ofBits, toBits}
 use lib.Ieee.Bits.{ofBits-fits, ofBits-toBits, toBits-ofBits}
 use lib.Ieee.Exact.{HasValue}
 use Rattle.float.specs.Word.{negative, proper, size88}
-use Rattle.host.specs.Host.{bitsOf, takenOf, hostReply, takenReply}
-use Rattle.host.specs.Values.{Holds, Endless, Large, Small}
+use Rattle.host.specs.Host.{hostBits, takenOf, hostReply, takenReply}
+use Rattle.host.specs.Values.{HasWord, Endless, Large, Small}
 use Rattle.host.specs.declared.Taken.{Taken}
 use Rattle.host.specs.declared.Taken.the-variants.{Word}
 use Rattle.host.proofs.Outward.{word-value, goes, stays, plain}
@@ -20,12 +20,12 @@ use Rattle.promises.specs.Host.{outward, inward, number, Gives, ValueKep
 
 -- the f32 of a word
 abbrev out : ℕ → Float
-out w = ofBits binary32 (bitsOf w)
+out w = ofBits binary32 (hostBits w)
 
 -- it is the f32 that the reply's bits stand for
 again : (w : ℕ) → proper w ≡ true → out w ≡ ofBits binary32 (outward w .bits)
 again w e =
-    sym (ofBits-toBits binary32 (out w) (ofBits-fits binary32 (bitsOf w))) ∙ ap (λ h. ofBits binary32 (hostReply h .bits)) (sym (goes w e))
+    sym (ofBits-toBits binary32 (out w) (ofBits-fits binary32 (hostBits w))) ∙ ap (λ h. ofBits binary32 (hostReply h .bits)) (sym (goes w e))
 
 pub value-kept : ValueKept
 value-kept w l = (
@@ -43,7 +43,7 @@ bitsIn r = takenReply r .bits
 -- why an answer to x has a number: 0 with a proper word of its value, or 10, 11, 12
 abbrev Because : Float → Taken → ℕ → Type 0
 Because x r n =
-    cond (eqb n 0) ((r ≡ Word (bitsIn r)) × Holds x (bitsIn r))
+    cond (eqb n 0) ((r ≡ Word (bitsIn r)) × HasWord x (bitsIn r))
     (cond (eqb n 10) (Endless x)
     (cond (eqb n 11) (Large x)
     (cond (eqb n 12) (Small x) ⊥)))
@@ -52,7 +52,7 @@ module _ (x : Float) (r : Taken) where
   because : Right x r → Because x r (numberIn r)
   because (held w e b) =
       let f : w ≡ bitsIn r = sym (ap bitsIn e) in
-      subst (Because x r) (sym (ap numberIn e)) (e ∙ ap Word f, subst (Holds x) f b)
+      subst (Because x r) (sym (ap numberIn e)) (e ∙ ap Word f, subst (HasWord x) f b)
   because (endless e b) = subst (Because x r) (sym (ap numberIn e)) b
   because (large e b) = subst (Because x r) (sym (ap numberIn e)) b
   because (small e b) = subst (Because x r) (sym (ap numberIn e)) b
@@ -63,13 +63,13 @@ module _ (x : Float) (r : Taken) where
   answered (large e b) = inr (inr (inl (ap numberIn e)))
   answered (small e b) = inr (inr (inr (ap numberIn e)))
 
-  gives-word : (w : ℕ) → Holds x w → Right x r → Gives (takenReply r) w
+  gives-word : (w : ℕ) → HasWord x w → Right x r → Gives (takenReply r) w
   gives-word w a h =
       let e : r ≡ Word w = answers-word x r w a h in
       record { done = ap numberIn e; bits-are = ap bitsIn e }
 
-  word-given : (w : ℕ) → Gives (takenReply r) w → Right x r → Holds x w
-  word-given w g h = subst (Holds x) (g .bits-are) (subst (Because x r) (g .done) (because h) .1)
+  word-given : (w : ℕ) → Gives (takenReply r) w → Right x r → HasWord x w
+  word-given w g h = subst (HasWord x) (g .bits-are) (subst (Because x r) (g .done) (because h) .1)
 
 pub accepted-exactly : AcceptedExactly
 accepted-exactly p l w =
@@ -95,10 +95,10 @@ word-comes-back w f =
     subst (λ (n : ℕ). Gives (inward n) w) (sym e) record { done = ap numberIn b; bits-are = ap bitsIn b }
 
 -- the reply to a proper word carries the bits of its f32
-gives-float : (w p : ℕ) → p < 2 ^ 32 → proper w ≡ true → bitsOf w ≡ p → Gives (outward w) p
+gives-float : (w p : ℕ) → p < 2 ^ 32 → proper w ≡ true → hostBits w ≡ p → Gives (outward w) p
 gives-float w p l e f =
-    let same : toBits binary32 (out w) ≡ bitsOf w =
-    toBits-ofBits binary32 (bitsOf w) (subst (λ (n : ℕ). n < 2 ^ 32) (sym f) l) (plain w (out w) (goes w e)) in
+    let same : toBits binary32 (out w) ≡ hostBits w =
+    toBits-ofBits binary32 (hostBits w) (subst (λ (n : ℕ). n < 2 ^ 32) (sym f) l) (plain w (out w) (goes w e)) in
     record { done = ap (λ h. number (hostReply h)) (goes w e); bits-are = ap (λ h. hostReply h .bits) (goes w e) ∙ same ∙ f }
 
 minus-zero : inward (2 ^ 31) .bits ≡ 0

@@ -9,12 +9,12 @@ use lib.Dec.{lit<}
 use lib.IntN.{ℤ, pos, natAbs, _*ℤ_}
 use lib.Ieee.{size}
 use Rattle.terms.specs.declared.Width.the-variants.{Double}
-use Rattle.float.specs.declared.Rounded.{Rounded}
+use Rattle.float.specs.declared.Flagged.{Flagged}
 use Rattle.float.specs.Word.{negative, proper, size88, value, FloatWord}
-use Rattle.float.specs.Cut.{Rule}
+use Rattle.terms.specs.declared.Rule.{Rule}
 use Rattle.float.specs.Float.{exactProduct}
 use Rattle.float.specs.Root.{sqrt}
-use Rattle.float.proofs.Root.{root-negative, root-none}
+use Rattle.float.proofs.RootCut.{root-negative, root-none}
 use Rattle.float.proofs.RootExact.{one-root, root-exactly, root-no-error, root-result, root-keeps, root-exact}
 use Rattle.stack.specs.Stack.{zeros}
 use Rattle.codes.specs.declared.Command.the-variants.{Sqrt}
@@ -32,7 +32,7 @@ module _ (rule : Rule) where
   operand : (a : ℕ) (bs : List ℕ) → a < words Double → properOperands Sqrt (word Double a bs) ≡ proper a
   operand a bs A = ap proper (top-is Double a bs A)
 
-  found : (a : ℕ) (bs : List ℕ) → a < words Double → (r : Rounded) → sqrt rule a ≡ r → sqrt rule (wordA Double (word Double a bs)) ≡ r
+  found : (a : ℕ) (bs : List ℕ) → a < words Double → (r : Flagged) → sqrt rule a ≡ r → sqrt rule (wordA Double (word Double a bs)) ≡ r
   found a bs A r e = ap (sqrt rule) (top-is Double a bs A) ∙ e
 
   rooted : (a b c : ℕ) → FloatWord a → negative a ≡ false → (ds : List ℕ)
@@ -63,7 +63,7 @@ module _ (rule : Rule) where
     zero-row = λ b c ds.
         accepted rule Sqrt (three 0 b c ds) Double 0 0 false (word Double b (word Double c (zeros 4)))
         (operand 0 (word Double b (word Double c ds)) (lit< tt)) (lit< tt)
-        (rooted 0 b c zero-word refl ds ∙ ap (λ (r : Rounded). ends Double (three (r .word) b c (zeros 4)) 0 false) none);
+        (rooted 0 b c zero-word refl ds ∙ ap (λ (r : Flagged). ends Double (three (r .word) b c (zeros 4)) 0 false) none);
     zero-status = refl;
     negative-row = λ a b c A s ds.
         let bs = word Double b (word Double c ds) in

@@ -12,7 +12,7 @@ use Rattle.terms.specs.declared.Refusal.the-variants.{Done, HalfWord}
 use Rattle.terms.specs.declared.Width.{Width}
 use Rattle.terms.specs.declared.Width.the-variants.{Single, Double}
 use Rattle.terms.specs.Width.{sizeOf}
-use Rattle.float.specs.Cut.{Rule}
+use Rattle.terms.specs.declared.Rule.{Rule}
 use Rattle.stack.specs.Stack.{numberFrom, bytesOf, Bytes, pushed, popped}
 use Rattle.stack.proofs.Words.{bytes-take, bytes-drop, number-below}
 use Rattle.codes.specs.declared.Command.{Command}

@@ -5,10 +5,10 @@ use mathlib.Core.Bool.{Bool, true, false, _&&_, cond}
 use mathlib.Core.List.{List, [], _∷_, _++_}
 use lib.Dec.{eqb}
 use lib.ListN.{replicate}
-use Rattle.float.specs.declared.Rounded.{Rounded}
+use Rattle.float.specs.declared.Flagged.{Flagged}
 use Rattle.float.specs.Word.{negative, FloatWord}
 use Rattle.float.specs.Order.{Le}
-use Rattle.float.specs.Cut.{Rule}
+use Rattle.terms.specs.declared.Rule.{Rule}
 use Rattle.float.specs.Float.{add, sub, mul, div}
 use Rattle.float.specs.Convert.{chsf}
 use Rattle.stack.specs.Stack.{tos}
@@ -101,7 +101,7 @@ reversing (k ∷ ks) = cond (isReversing k) 1 0 + reversing ks
 
 -- ---- the word that a chain makes of a word, by demand 2's definitions alone
 -- B is the word and A the constant; taking from a constant has them change places
-abbrev pub workOf : Rule → Step → ℕ → Rounded
+abbrev pub workOf : Rule → Step → ℕ → Flagged
 workOf rule (Add c) w = add rule w c
 workOf rule (Subtract c) w = sub rule w c
 workOf rule (Multiply c) w = mul rule w c

@@ -10,14 +10,17 @@ use lib.IntN.{ℤ, pos, natAbs, _+ℤ_, _-ℤ_, _*ℤ_}
 use lib.ListN.{length}
 use lib.Ieee.{unlike}
 use lib.Signed.{quotZ, shrZ}
+use Rattle.whole.specs.Signed.{withSign}
 use Rattle.terms.specs.declared.Refusal.{Refusal}
 use Rattle.terms.specs.declared.Refusal.the-variants.{Improper}
 use Rattle.terms.specs.declared.Width.{Width}
 use Rattle.terms.specs.declared.Width.the-variants.{Single, Double}
 use Rattle.terms.specs.Width.{sizeOf, bitsOf}
-use Rattle.fixed.specs.Fixed.{half, signed, fits, low, overflow}
-use Rattle.float.specs.Word.{negative, mantissa, proper, withSign, FloatWord}
-use Rattle.float.specs.Cut.{Rule, below0}
+use Rattle.fixed.specs.Fixed.{half, signed, fits, low, overflowIf}
+use Rattle.float.specs.Word.{negative, mantissa, proper, FloatWord}
+use Rattle.terms.specs.declared.Rule.{Rule}
+use Rattle.terms.specs.declared.Rule.the-variants.{Cut, Nearest}
+use Rattle.float.specs.Cut.{below0}
 use Rattle.float.specs.Float.{add, sub, mul, div}
 use Rattle.float.specs.Convert.{fltd, flts, wholePart, complement}
 use Rattle.stack.specs.Stack.{bytesOf, zeros}
@@ -83,13 +86,13 @@ Two rule w k b a r error carry bottom = (cs : List ℕ) → Leaves rule k (word 
 pub record FixedRows (rule : Rule) (w : Width) : Type 0 where
   -- ADD: low n bits of B + A; overflow if the exact sum does not fit; carry out; bottom holds A
   pub add-row : (b a : ℕ) → b < words w → a < words w
-      → Two rule w (Add w) b a ((b + a) % words w) (overflow (not (fitsIn w (valueIn w b +ℤ valueIn w a)))) (leb (words w) (b + a)) a
+      → Two rule w (Add w) b a ((b + a) % words w) (overflowIf (not (fitsIn w (valueIn w b +ℤ valueIn w a)))) (leb (words w) (b + a)) a
   -- SUB: low n bits of B - A; overflow if the exact difference does not fit, and for every B where A is least; borrow; bottom holds A
   pub sub-row : (b a : ℕ) → b < words w → a < words w
-      → Two rule w (Sub w) b a ((b + words w - a) % words w) (overflow (eqb a (least w) || not (fitsIn w (valueIn w b -ℤ valueIn w a)))) (ltb b a) a
+      → Two rule w (Sub w) b a ((b + words w - a) % words w) (overflowIf (eqb a (least w) || not (fitsIn w (valueIn w b -ℤ valueIn w a)))) (ltb b a) a
   -- MUL: low half of the product; overflow if the exact product does not fit; bottom 0
   pub mul-row : (b a : ℕ) → b < words w → a < words w → (b ≡ least w → ⊥) → (a ≡ least w → ⊥)
-      → Two rule w (Mul w) b a (lowIn w (valueIn w b *ℤ valueIn w a)) (overflow (not (fitsIn w (valueIn w b *ℤ valueIn w a)))) false 0
+      → Two rule w (Mul w) b a (lowIn w (valueIn w b *ℤ valueIn w a)) (overflowIf (not (fitsIn w (valueIn w b *ℤ valueIn w a)))) false 0
   -- MUU: upper half of the product, floor of product / 2^n; no error; as MUL
   pub muu-row : (b a : ℕ) → b < words w → a < words w → (b ≡ least w → ⊥) → (a ≡ least w → ⊥)
       → Two rule w (Muu w) b a (lowIn w (shrZ (valueIn w b *ℤ valueIn w a) (words w))) 0 false 0
@@ -104,7 +107,7 @@ pub record FixedRows (rule : Rule) (w : Width) : Type 0 where
   -- DIV, A not 0, A or B least: least, overflow
   pub div-least : (b a : ℕ) → b < words w → a < words w → (a ≡ 0 → ⊥) → (b ≡ least w) ⊎ (a ≡ least w) → Two rule w (Div w) b a (least w) 1 false 0
   -- CHSS, CHSD: 0 - A, least stays and overflows; only A replaced
-  pub chs-row : (a : ℕ) → a < words w → (bs : List ℕ) → Leaves rule (Chs w) (word w a bs) w ((words w - a) % words w) (overflow (eqb a (least w))) false bs
+  pub chs-row : (a : ℕ) → a < words w → (bs : List ℕ) → Leaves rule (Chs w) (word w a bs) w ((words w - a) % words w) (overflowIf (eqb a (least w))) false bs
   pub chs-least : (words w - least w) % words w ≡ least w
 
 -- what the low bits of a whole number, and B / A cut toward zero, are
@@ -167,6 +170,11 @@ pub record ConversionRows (rule : Rule) : Type 0 where
   -- FIXD, FIXS of a word that is not proper: 4
   pub fix-improper : (w : Width) (a : ℕ) → a < words Double → proper a ≡ false → (bs : List ℕ) → Refuses rule (Fix w) (word Double a bs) Improper
 
+-- pi as a word, under each rule
+abbrev pub piWord : Rule → ℕ
+piWord Cut = 0x02c90fda
+piWord Nearest = 0x02c90fdb
+
 -- ---- the statement
 pub record Rows (rule : Rule) : Type 0 where
   pub fixed-point : (w : Width) → FixedRows rule w
@@ -174,8 +182,8 @@ pub record Rows (rule : Rule) : Type 0 where
   pub moves : (w : Width) → MoveRows rule w
   pub float-point : FloatRows rule
   pub conversions : ConversionRows rule
-  -- PUPI: pushes 02C90FDA, bottom 32-bit word lost
-  pub pupi-row : (lost : ℕ) (abc : List ℕ) → length abc ≡ 12 → Leaves rule Pupi (abc ++ bytesOf 4 lost) Double 0x02c90fda 0 false abc
+  -- PUPI: pushes pi, 02C90FDA where results are cut, bottom 32-bit word lost
+  pub pupi-row : (lost : ℕ) (abc : List ℕ) → length abc ≡ 12 → Leaves rule Pupi (abc ++ bytesOf 4 lost) Double (piWord rule) 0 false abc
   -- NOP clears the whole status, and leaves the stack
   pub nop-row : (stack : List ℕ) (code status : ℕ) (service : Bool) → kindOf (code % 128) ≡ Known Nop → status < 128
       → commandUnder rule (holding stack status service) code ≡ done 0 (holding stack 0 (leb 128 code))

@@ -3,15 +3,16 @@
 use Prim.Native.Nat.{ℕ, _+_, _*_, _^_, _≤_, _<_}
 use mathlib.Core.Path.{_≡_}
 use lib.IntN.{ℤ, pos, negℤ, _*ℤ_}
-use Rattle.float.specs.declared.Rounded.{Rounded}
+use Rattle.float.specs.declared.Flagged.{Flagged}
 use Rattle.float.specs.Word.{mantissa, size88, value, FloatWord}
 use Rattle.float.specs.Float.{exactSum, exactDifference, exactProduct, dividend, divisor, add, sub, mul, div}
 use Rattle.float.specs.Convert.{integer, fltd, flts, wholePart, fixd, fixs, chsf}
-use Rattle.float.specs.Exact.{Pair, Exactly, Taken}
+use Rattle.float.specs.Cut.{Pair}
+use Rattle.float.specs.Exact.{Exactly, Truncated}
 use Rattle.chip.specs.Commands.{baseRule}
 
 -- a result that is the word w, with no error bit
-abbrev pub clean : ℕ → Rounded
+abbrev pub clean : ℕ → Flagged
 clean w = record { word = w; error = 0 }
 
 -- ---- the pair m, e of a magnitude n / d, e unbounded, by comparing products
@@ -58,8 +59,8 @@ pub record Conversions : Type 0 where
   pub no-error : (a : ℕ) → (a < 2 ^ 16 → (flts baseRule a) .error ≡ 0) × (a < 2 ^ 32 → (fltd baseRule a) .error ≡ 0)
   pub proper-floats : (a : ℕ) → FloatWord ((flts baseRule a) .word) × FloatWord ((fltd baseRule a) .word)
   -- FIXD, FIXS: |R| <= |A| < |R| + 1 with A's sign where the whole part is at most 2^31-1 or 32,767
-  pub fixd-taken : (a : ℕ) → wholePart a < 2 ^ 31 → Taken (2 ^ 31) a (fixd a)
-  pub fixs-taken : (a : ℕ) → wholePart a < 2 ^ 15 → Taken (2 ^ 15) a (fixs a)
+  pub fixd-taken : (a : ℕ) → wholePart a < 2 ^ 31 → Truncated (2 ^ 31) a (fixd a)
+  pub fixs-taken : (a : ℕ) → wholePart a < 2 ^ 15 → Truncated (2 ^ 15) a (fixs a)
   -- over that, A unchanged and overflow
   pub fixd-over : (a : ℕ) → 2 ^ 31 ≤ wholePart a → fixd a ≡ record { word = a; error = 1 }
   pub fixs-over : (a : ℕ) → 2 ^ 15 ≤ wholePart a → fixs a ≡ record { word = a; error = 1 }

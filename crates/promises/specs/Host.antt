@@ -8,7 +8,7 @@ use lib.Ieee.Exact.{HasValue}
 use Rattle.terms.specs.Refusal.{numberOf}
 use Rattle.float.specs.Word.{negative, proper, size88, FloatWord}
 use Rattle.host.specs.Host.{hostOf, takenOf, hostReply, takenReply}
-use Rattle.host.specs.Values.{Holds, Endless, Large, Small}
+use Rattle.host.specs.Values.{HasWord, Endless, Large, Small}
 use Rattle.host.specs.declared.Reply.{Reply}
 
 -- the reply to a word that is to be made an f32, and to an f32's bits that are to be made a word
@@ -36,7 +36,7 @@ ValueKept =
 
 -- An f32 is answered 0 with a word exactly if that is a proper word of its value.
 abbrev pub AcceptedExactly : Type 0
-AcceptedExactly = (p : ℕ) → p < 2 ^ 32 → (w : ℕ) → Gives (inward p) w ↔ Holds (ofBits binary32 p) w
+AcceptedExactly = (p : ℕ) → p < 2 ^ 32 → (w : ℕ) → Gives (inward p) w ↔ HasWord (ofBits binary32 p) w
 
 -- Every f32 is answered 0, 10, 11 or 12, and 10, 11 and 12 exactly where 01 has them; no f32 has two of these, nor one of them and a proper word of its value.
 abbrev pub Answered : ℕ → Type 0
@@ -47,7 +47,7 @@ Apart x =
     (Endless x → Large x → ⊥)
     × (Endless x → Small x → ⊥)
     × (Large x → Small x → ⊥)
-    × ((w : ℕ) → Holds x w → (Endless x → ⊥) × (Large x → ⊥) × (Small x → ⊥))
+    × ((w : ℕ) → HasWord x w → (Endless x → ⊥) × (Large x → ⊥) × (Small x → ⊥))
 
 abbrev pub RefusedExactly : Type 0
 RefusedExactly =

@@ -8,7 +8,7 @@ use lib.IntN.{ℤ, pos, _*ℤ_}
 use Rattle.terms.specs.declared.Refusal.the-variants.{Improper}
 use Rattle.terms.specs.declared.Width.the-variants.{Double}
 use Rattle.float.specs.Word.{negative, proper, value, FloatWord}
-use Rattle.float.specs.Cut.{Rule}
+use Rattle.terms.specs.declared.Rule.{Rule}
 use Rattle.float.specs.Float.{exactProduct}
 use Rattle.float.specs.Order.{Le}
 use Rattle.float.specs.Root.{sqrt, RootPair, ExactlyRoot}

@@ -2,3 +2,4 @@
 pub mod Refusal
 pub mod Width
 pub mod Limits
+pub mod Errors

@@ -1,5 +1,5 @@
-// The words of document 01 that every layer uses: its refusals with their numbers,
-// the two widths of a stack word, and the limits, each under a name.
+// The words of document 01 that every layer uses: its refusals with their numbers, the two widths
+// of a stack word, the rules of a float result, the errors and the limits, each under a name.
 ghost use mathlib.Core.Path.{_≡_};
 ghost use Prim.Native.Nat.{_≤_};
 ghost use Rattle.terms.specs.Refusal.{numberOf};
@@ -19,6 +19,18 @@ pub const MOST_PAYLOAD: usize = 16;
 pub const LEAST_LENGTH: usize = 2;
 
 pub const MOST_LENGTH: usize = 18;
+
+// The errors, as bits 4 to 1 of the status say them: 0001, 0010, 0100, 1000.
+pub const OVERFLOW: u8 = 1;
+
+pub const UNDERFLOW: u8 = 2;
+
+pub const NEGATIVE_ROOT: u8 = 4;
+
+pub const DIVIDE_BY_ZERO: u8 = 8;
+
+// Pi as a float word, cut.
+pub const PI: u32 = 0x02c9_0fda;
 
 // Every case of 01's table of refusals, in its order.
 pub enum Refusal {
@@ -43,6 +55,13 @@ pub enum Refusal {
 pub enum Width {
     Single,
     Double,
+}
+
+// How an exact float value is brought to 24 bits: cut, or to the nearest word, of two the one with
+// the even mantissa. The definitions alone speak of it; the code cuts.
+pub enum Rule {
+    Cut,
+    Nearest,
 }
 
 // 01's number of a refusal.

@@ -24,18 +24,18 @@ fn main_answer(op: u32, p: Pair) -> Made {
     let b = (p.b % 65536) as u16;
     let a = (p.a % 65536) as u16;
     match op {
-        0 => made(fixed::add16(b, a)),
-        1 => made(fixed::sub16(b, a)),
-        2 => made(fixed::mul16(b, a)),
-        3 => made(fixed::muu16(b, a)),
-        4 => made(fixed::div16(b, a)),
-        5 => made(fixed::chs16(a)),
-        6 => made(fixed::add32(p.b, p.a)),
-        7 => made(fixed::sub32(p.b, p.a)),
-        8 => made(fixed::mul32(p.b, p.a)),
-        9 => made(fixed::muu32(p.b, p.a)),
-        10 => made(fixed::div32(p.b, p.a)),
-        _ => made(fixed::chs32(p.a)),
+        0 => made(fixed::sum::add16(b, a)),
+        1 => made(fixed::sum::sub16(b, a)),
+        2 => made(fixed::product::mul16(b, a)),
+        3 => made(fixed::product::muu16(b, a)),
+        4 => made(fixed::product::div16(b, a)),
+        5 => made(fixed::product::chs16(a)),
+        6 => made(fixed::sum::add32(p.b, p.a)),
+        7 => made(fixed::sum::sub32(p.b, p.a)),
+        8 => made(fixed::product::mul32(p.b, p.a)),
+        9 => made(fixed::product::muu32(p.b, p.a)),
+        10 => made(fixed::product::div32(p.b, p.a)),
+        _ => made(fixed::product::chs32(p.a)),
     }
 }
 

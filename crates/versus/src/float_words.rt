@@ -29,7 +29,7 @@ fn made(word: u32, error: u8) -> Made {
     }
 }
 
-fn rounded(x: float::Rounded) -> Made {
+fn rounded(x: float::Flagged) -> Made {
     made(x.word, x.error)
 }
 
@@ -37,20 +37,20 @@ fn proper_answer(op: u32, b: u32, a: u32) -> Made
     requires { ⌜ (proper b ≡ true) × (proper a ≡ true) ⌝ }
 {
     match op {
-        0 => rounded(float::fadd(b, a)),
-        1 => rounded(float::fsub(b, a)),
-        2 => rounded(float::fmul(b, a)),
-        3 => rounded(float::fdiv(b, a)),
-        4 => rounded(float::fixd(a)),
-        5 => rounded(float::fixs(a)),
-        _ => rounded(float::sqrt(a)),
+        0 => rounded(float::sum::fadd(b, a)),
+        1 => rounded(float::sum::fsub(b, a)),
+        2 => rounded(float::product::fmul(b, a)),
+        3 => rounded(float::product::fdiv(b, a)),
+        4 => rounded(float::convert::fixd(a)),
+        5 => rounded(float::convert::fixs(a)),
+        _ => rounded(float::root::sqrt(a)),
     }
 }
 
 // An operand that is not proper is answered with an error that no operation sets.
 fn guarded_answer(op: u32, b: u32, a: u32) -> Made {
-    if float::is_proper(b) {
-        if float::is_proper(a) {
+    if float::word::is_proper(b) {
+        if float::word::is_proper(a) {
             return proper_answer(op, b, a);
         }
     }
@@ -60,10 +60,10 @@ fn guarded_answer(op: u32, b: u32, a: u32) -> Made {
 fn main_answer(op: u32, p: Pair) -> Made {
     let a = p.a;
     match op {
-        6 => rounded(float::fltd(a)),
-        7 => rounded(float::flts((a % 65536) as u16)),
-        8 => made(float::chsf(a), 0),
-        9 => made(float::is_proper(a) as u32, 0),
+        6 => rounded(float::convert::fltd(a)),
+        7 => rounded(float::convert::flts((a % 65536) as u16)),
+        8 => made(float::convert::chsf(a), 0),
+        9 => made(float::word::is_proper(a) as u32, 0),
         _ => guarded_answer(op, p.b, a),
     }
 }

@@ -2,13 +2,13 @@
 use mathlib.Core.Path.{sym, ap, _∙_}
 use native.Mathlib.Omega.{arith}
 use borrow.Author.Needs.{needs}
-use Rattle.host.specs.Host.{bitsOf}
+use Rattle.host.specs.Host.{hostBits}
 use Rattle.host.proofs.Outward.{bits-some, bits-are}
 use Rattle.host.proofs.bits_of.Statement.{statement}
 use Rattle.host.proofs.bits_of.Tie as tie
 
 returns : tie.Need-returns
-returns c = bits-are (c .before .args .word) 0 (sym (ap bitsOf (c .if1 .taken)))
+returns c = bits-are (c .before .args .word) 0 (sym (ap hostBits (c .if1 .taken)))
 
 returns-2 : tie.Need-returns-2
 returns-2 c =

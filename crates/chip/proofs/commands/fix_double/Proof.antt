@@ -1,7 +1,7 @@
 -- `chip::commands::fix_double` meets its contract: the row of FIXD, with its overflow. Assumes nothing.
 use mathlib.Core.Path.{sym, subst}
 use Prim.Native.Nat.{_<_}
-use Rattle.float.specs.declared.Rounded.{Rounded}
+use Rattle.float.specs.declared.Flagged.{Flagged}
 use Rattle.chip.proofs.Errors.{fix-error}
 use Rattle.chip.proofs.Rows.{fixd-row}
 use borrow.Author.Needs.{needs}
@@ -9,7 +9,7 @@ use Rattle.chip.proofs.commands.fix_double.Statement.{statement}
 use Rattle.chip.proofs.commands.fix_double.Tie as tie
 
 ended-requires : tie.Need-ended-requires
-ended-requires c κs = subst (λ (r : Rounded). r .error < 16) (sym (c .before .fixd .ensures)) (fix-error _ _)
+ended-requires c κs = subst (λ (r : Flagged). r .error < 16) (sym (c .before .fixd .ensures)) (fix-error _ _)
 
 returns : tie.Need-returns
 returns c = fixd-row (c .before .before .before .before .args .s) (c .before .before .before .top-word .ensures .0) (c .before .before .fixd .ensures) (c .before .after-fltd .ensures) (c .ended .ensures)

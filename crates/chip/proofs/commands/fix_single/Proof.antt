@@ -1,7 +1,7 @@
 -- `chip::commands::fix_single` meets its contract: the row of FIXS, and the row of its overflow. Assumes nothing.
 use mathlib.Core.Path.{sym, subst}
 use Prim.Native.Nat.{_<_}
-use Rattle.float.specs.declared.Rounded.{Rounded}
+use Rattle.float.specs.declared.Flagged.{Flagged}
 use Rattle.chip.proofs.Errors.{fix-error}
 use Rattle.chip.proofs.Rows.{fixs-row, over-row}
 use borrow.Author.Needs.{needs}
@@ -12,7 +12,7 @@ returns : tie.Need-returns
 returns c = fixs-row (c .before .before .before .before .before .before .args .s) (c .before .before .before .before .before .top-word .ensures .0) (c .before .before .before .before .fixs .ensures) (c .before .before .if1 .taken) (c .before .after-fixs .ensures) (c .ended .ensures)
 
 ended-requires-2 : tie.Need-ended-requires-2
-ended-requires-2 c κs = subst (λ (r : Rounded). r .error < 16) (sym (c .before .before .before .fixs .ensures)) (fix-error _ _)
+ended-requires-2 c κs = subst (λ (r : Flagged). r .error < 16) (sym (c .before .before .before .fixs .ensures)) (fix-error _ _)
 
 returns-2 : tie.Need-returns-2
 returns-2 c = over-row (c .before .before .before .before .before .before .args .s) (c .before .before .before .before .before .top-word .ensures .0) (c .before .before .before .before .fixs .ensures) (c .before .before .if1 .left) (c .before .after-fltd .ensures) (c .ended2 .ensures)

@@ -1,7 +1,7 @@
 -- `chip::commands::float_double` meets its contract: the row of FLTD. Assumes nothing.
 use mathlib.Core.Path.{sym, subst}
 use Prim.Native.Nat.{_<_}
-use Rattle.float.specs.declared.Rounded.{Rounded}
+use Rattle.float.specs.declared.Flagged.{Flagged}
 use Rattle.chip.specs.Commands.{baseRule}
 use Rattle.float.proofs.Results.{fltd-result}
 use Rattle.chip.proofs.Rows.{fltd-row}
@@ -10,7 +10,7 @@ use Rattle.chip.proofs.commands.float_double.Statement.{statement}
 use Rattle.chip.proofs.commands.float_double.Tie as tie
 
 ended-requires : tie.Need-ended-requires
-ended-requires c κs = subst (λ (r : Rounded). r .error < 16) (sym (c .before .fltd .ensures)) (fltd-result baseRule _ .small)
+ended-requires c κs = subst (λ (r : Flagged). r .error < 16) (sym (c .before .fltd .ensures)) (fltd-result baseRule _ .small)
 
 returns : tie.Need-returns
 returns c = fltd-row (c .before .before .before .before .args .s) (c .before .before .before .top-word .ensures .0) (c .before .before .fltd .ensures) (c .before .after-fltd .ensures) (c .ended .ensures)

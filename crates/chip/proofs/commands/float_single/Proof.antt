@@ -1,7 +1,7 @@
 -- `chip::commands::float_single` meets its contract: the row of FLTS. Assumes nothing.
 use mathlib.Core.Path.{sym, subst}
 use Prim.Native.Nat.{_<_}
-use Rattle.float.specs.declared.Rounded.{Rounded}
+use Rattle.float.specs.declared.Flagged.{Flagged}
 use Rattle.chip.specs.Commands.{baseRule}
 use Rattle.float.proofs.Results.{flts-result}
 use Rattle.chip.proofs.Rows.{flts-row}
@@ -10,7 +10,7 @@ use Rattle.chip.proofs.commands.float_single.Statement.{statement}
 use Rattle.chip.proofs.commands.float_single.Tie as tie
 
 ended-requires : tie.Need-ended-requires
-ended-requires c κs = subst (λ (r : Rounded). r .error < 16) (sym (c .before .flts .ensures)) (flts-result baseRule _ .small)
+ended-requires c κs = subst (λ (r : Flagged). r .error < 16) (sym (c .before .flts .ensures)) (flts-result baseRule _ .small)
 
 returns : tie.Need-returns
 returns c = flts-row (c .before .before .before .before .args .s) (c .before .before .before .top-word .ensures .0) (c .before .before .flts .ensures) (c .before .after-flts .ensures) (c .ended .ensures)

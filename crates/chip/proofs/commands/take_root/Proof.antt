@@ -1,7 +1,7 @@
 -- `chip::commands::take_root` meets its contract: the row of SQRT, and the row of a negative word. Assumes nothing.
 use mathlib.Core.Path.{sym, ap, subst, _∙_}
 use Prim.Native.Nat.{_<_}
-use Rattle.float.specs.declared.Rounded.{Rounded}
+use Rattle.float.specs.declared.Flagged.{Flagged}
 use Rattle.float.specs.Word.{proper}
 use Rattle.float.proofs.RootExact.{root-result}
 use Rattle.chip.specs.Commands.{baseRule}
@@ -19,7 +19,7 @@ returns c = root-row (c .before .before .before .before .before .before .args .s
 ended-requires-2 : tie.Need-ended-requires-2
 ended-requires-2 c κs =
     let w = c .before .before .before .top-word in
-    subst (λ (r : Rounded). r .error < 16) (sym (c .before .before .sqrt .ensures))
+    subst (λ (r : Flagged). r .error < 16) (sym (c .before .before .sqrt .ensures))
     (root-result baseRule (w .result) (record { fits = w .ensures .1; is-proper = ap proper (w .ensures .0) ∙ c .before .before .before .before .pre }) .small)
 
 returns-2 : tie.Need-returns-2

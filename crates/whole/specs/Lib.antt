@@ -1,0 +1,2 @@
+-- Whole numbers with a sign.
+pub mod Signed

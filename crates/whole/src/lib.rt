@@ -1,0 +1,1 @@
+// Whole numbers with a sign, as the definitions and the proofs of the arithmetic use them. No function.
