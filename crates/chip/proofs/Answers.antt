@@ -10,9 +10,8 @@ use Rattle.codes.specs.declared.Kind.{Kind}
 use Rattle.codes.specs.declared.Kind.the-variants.{Known}
 use Rattle.codes.specs.Codes.{sr, kindOf}
 use Rattle.chip.specs.declared.State.{State}
-use Rattle.chip.specs.declared.Outcome.{Outcome}
 use Rattle.chip.specs.declared.Answer.{Answer}
-use Rattle.chip.specs.State.{settled}
+use Rattle.chip.specs.State.{Outcome, settled}
 use Rattle.chip.specs.Commands.{outcomeOf, properOperands}
 use Rattle.chip.specs.Step.{done, refused, unlessBusy, carried, answerOf, commandUnder}
 

@@ -8,3 +8,4 @@ pub mod Accepted
 pub mod Turns
 pub mod Ready
 pub mod OnTop
+pub mod InPlace

@@ -12,6 +12,7 @@ use Rattle.terms.specs.declared.Width.the-variants.{Single, Double}
 use Rattle.terms.specs.Width.{sizeOf}
 use Rattle.fixed.specs.declared.Fixed.{Fixed}
 use Rattle.fixed.specs.Fixed.{add, sub, mul, muu, div, chs}
+use Rattle.fixed.proofs.Exact.{add-few, sub-few, mul-few, muu-few, div-few, chs-few}
 use Rattle.float.specs.declared.Flagged.{Flagged}
 use Rattle.float.specs.Word.{proper, FloatWord}
 use Rattle.terms.specs.declared.Rule.{Rule}
@@ -26,13 +27,11 @@ use Rattle.stack.proofs.Moves.{pops-hand, pops-read}
 use Rattle.codes.specs.declared.FloatOp.{FloatOp}
 use Rattle.codes.specs.declared.Command.{Command}
 use Rattle.codes.specs.declared.Command.the-variants.{Nop, Add, Sub, Mul, Muu, Div, Chs, Float, Chsf, Flt, Fix, Pto, Pop, Xch, Pupi, Sqrt}
-use Rattle.chip.specs.declared.Outcome.{Outcome}
-use Rattle.chip.specs.declared.words.FixedOp.{FixedOp}
-use Rattle.chip.specs.declared.words.FixedOp.the-variants.{Add as XAdd, Sub as XSub, Mul as XMul, Muu as XMuu, Div as XDiv}
+use Rattle.chip.specs.State.{Outcome}
 use Rattle.chip.specs.Status.{sign, zeroBits, statusOf, errorOf}
-use Rattle.chip.specs.Commands.{piOf, wordA, wordB, halfOf, ends, keepsA, losesA, changesA, floats, converts, widens, narrows, roots, fixedOf, floatOf, outcomeOf, properOperands}
+use Rattle.chip.specs.Commands.{piOf, wordA, wordB, halfOf, ends, keepsA, losesA, changesA, floats, converts, widens, narrows, roots, floatOf, outcomeOf, properOperands}
 use Rattle.chip.specs.Turns.{resultBytes}
-use Rattle.chip.proofs.Errors.{fixed-error, change-error, float-result, fix-error}
+use Rattle.chip.proofs.Errors.{float-result, fix-error}
 use Rattle.chip.proofs.Rows.{both-of}
 
 -- ---- the status
@@ -132,12 +131,12 @@ module _ (s : List ℕ) (S : IsStack s) where
 
   pub outcome-fair : (rule : Rule) (k : Command) → properOperands k s ≡ true → Fair (outcomeOf rule k s)
   outcome-fair rule Nop p = record { stack = S; not-busy = lit< tt }
-  outcome-fair rule (Add w) p = keeps-fair w (fixedOf XAdd (halfOf w) (wordB w s) (wordA w s)) (fixed-error XAdd (halfOf w) (wordB w s) (wordA w s))
-  outcome-fair rule (Sub w) p = keeps-fair w (fixedOf XSub (halfOf w) (wordB w s) (wordA w s)) (fixed-error XSub (halfOf w) (wordB w s) (wordA w s))
-  outcome-fair rule (Mul w) p = loses-fair w (fixedOf XMul (halfOf w) (wordB w s) (wordA w s)) (fixed-error XMul (halfOf w) (wordB w s) (wordA w s))
-  outcome-fair rule (Muu w) p = loses-fair w (fixedOf XMuu (halfOf w) (wordB w s) (wordA w s)) (fixed-error XMuu (halfOf w) (wordB w s) (wordA w s))
-  outcome-fair rule (Div w) p = loses-fair w (fixedOf XDiv (halfOf w) (wordB w s) (wordA w s)) (fixed-error XDiv (halfOf w) (wordB w s) (wordA w s))
-  outcome-fair rule (Chs w) p = changes-fair w (chs (halfOf w) (wordA w s)) (change-error (halfOf w) (wordA w s))
+  outcome-fair rule (Add w) p = keeps-fair w (add (halfOf w) (wordB w s) (wordA w s)) (add-few (halfOf w) (wordB w s) (wordA w s))
+  outcome-fair rule (Sub w) p = keeps-fair w (sub (halfOf w) (wordB w s) (wordA w s)) (sub-few (halfOf w) (wordB w s) (wordA w s))
+  outcome-fair rule (Mul w) p = loses-fair w (mul (halfOf w) (wordB w s) (wordA w s)) (mul-few (halfOf w) (wordB w s) (wordA w s))
+  outcome-fair rule (Muu w) p = loses-fair w (muu (halfOf w) (wordB w s) (wordA w s)) (muu-few (halfOf w) (wordB w s) (wordA w s))
+  outcome-fair rule (Div w) p = loses-fair w (div (halfOf w) (wordB w s) (wordA w s)) (div-few (halfOf w) (wordB w s) (wordA w s))
+  outcome-fair rule (Chs w) p = changes-fair w (chs (halfOf w) (wordA w s)) (chs-few (halfOf w) (wordA w s))
   outcome-fair rule (Float op) p =
       floats-fair (floatOf rule op (wordB Double s) (wordA Double s))
       (float-result rule op (wordB Double s) (wordA Double s) (record { fits = b-fits; is-proper = both-of (proper (wordB Double s)) (proper (wordA Double s)) p .0 }) .small)
@@ -210,11 +209,11 @@ module _ (s : List ℕ) (S : IsStack s) where
 
   pub outcome-hands : (rule : Rule) (k : Command) → handedOut (length (resultBytes rule k s)) ((outcomeOf rule k s) .stack) ≡ resultBytes rule k s
   outcome-hands rule Nop = refl
-  outcome-hands rule (Add w) = rw (length-bytes (sizeOf w)) (keeps-hand w (fixedOf XAdd (halfOf w) (wordB w s) (wordA w s)))
-  outcome-hands rule (Sub w) = rw (length-bytes (sizeOf w)) (keeps-hand w (fixedOf XSub (halfOf w) (wordB w s) (wordA w s)))
-  outcome-hands rule (Mul w) = rw (length-bytes (sizeOf w)) (loses-hand w (fixedOf XMul (halfOf w) (wordB w s) (wordA w s)))
-  outcome-hands rule (Muu w) = rw (length-bytes (sizeOf w)) (loses-hand w (fixedOf XMuu (halfOf w) (wordB w s) (wordA w s)))
-  outcome-hands rule (Div w) = rw (length-bytes (sizeOf w)) (loses-hand w (fixedOf XDiv (halfOf w) (wordB w s) (wordA w s)))
+  outcome-hands rule (Add w) = rw (length-bytes (sizeOf w)) (keeps-hand w (add (halfOf w) (wordB w s) (wordA w s)))
+  outcome-hands rule (Sub w) = rw (length-bytes (sizeOf w)) (keeps-hand w (sub (halfOf w) (wordB w s) (wordA w s)))
+  outcome-hands rule (Mul w) = rw (length-bytes (sizeOf w)) (loses-hand w (mul (halfOf w) (wordB w s) (wordA w s)))
+  outcome-hands rule (Muu w) = rw (length-bytes (sizeOf w)) (loses-hand w (muu (halfOf w) (wordB w s) (wordA w s)))
+  outcome-hands rule (Div w) = rw (length-bytes (sizeOf w)) (loses-hand w (div (halfOf w) (wordB w s) (wordA w s)))
   outcome-hands rule (Chs w) = rw (length-bytes (sizeOf w)) (changes-hand w (chs (halfOf w) (wordA w s)))
   outcome-hands rule (Float op) = floats-hand (floatOf rule op (wordB Double s) (wordA Double s))
   outcome-hands rule Chsf = pops-read 4 (chsf (wordA Double s)) (drop 4 s)

@@ -9,7 +9,6 @@ use Rattle.terms.specs.declared.Width.{Width}
 use Rattle.terms.specs.declared.Width.the-variants.{Single, Double}
 use Rattle.terms.specs.Width.{sizeOf}
 use Rattle.fixed.specs.declared.Fixed.{Fixed}
-use Rattle.fixed.specs.Fixed.{chs}
 use Rattle.float.specs.declared.Flagged.{Flagged}
 use Rattle.float.specs.Word.{proper}
 use Rattle.float.specs.Convert.{flts, fltd, fixs, fixd, chsf}
@@ -17,11 +16,12 @@ use Rattle.float.specs.Root.{sqrt}
 use Rattle.stack.specs.Stack.{tos, overA, overZero, replaced, converted, widened, narrowed}
 use Rattle.codes.specs.declared.FloatOp.{FloatOp}
 use Rattle.codes.specs.declared.Command.{Command}
-use Rattle.codes.specs.declared.Command.the-variants.{Float, Fix, Chsf, Flt, Sqrt}
-use Rattle.chip.specs.declared.Outcome.{Outcome}
-use Rattle.chip.specs.declared.words.FixedOp.{FixedOp}
+use Rattle.codes.specs.declared.Command.the-variants.{Fix, Chsf, Flt, Sqrt}
+use Rattle.chip.specs.State.{Outcome, left}
+use Rattle.chip.specs.declared.commands.Obeyed.{Obeyed}
 use Rattle.chip.specs.Status.{sign, statusOf}
-use Rattle.chip.specs.Commands.{baseRule, wordA, wordB, halfOf, ends, keepsA, losesA, changesA, floats, converts, widens, narrows, roots, fixedOf, floatOf, outcomeOf, properOperands}
+use Rattle.chip.specs.Commands.{baseRule, wordA, wordB, halfOf, ends, moves, keepsA, losesA, changesA, floats, converts, widens, narrows, roots, floatOf, outcomeOf}
+use Rattle.chip.specs.Place.{Obeys}
 use Rattle.chip.proofs.Errors.{float-result}
 
 -- ---- the status from its parts
@@ -31,22 +31,29 @@ unfolding statusOf
 status-parts w t e c ev en ex ey ez = rw (ex, ey, ez, en, ev)
 
 -- ---- the rows
-module _ (op : FixedOp) (w : Width) (s : List ℕ) {t : List ℕ} {b a : ℕ} {r : Fixed} {o : Outcome} where
-  pub keep-row : b ≡ wordB w s → a ≡ wordA w s → r ≡ fixedOf op (halfOf w) b a → t ≡ overA (sizeOf w) s (r .word) → o ≡ ends w t (r .error) (r .carry) → o ≡ keepsA w s (fixedOf op (halfOf w) (wordB w s) (wordA w s))
+module _ (w : Width) (s : List ℕ) (r : Fixed) {t : List ℕ} {x : ℕ} where
+  pub keep-row : t ≡ overA (sizeOf w) s (r .word) → x ≡ statusOf w t (r .error) (r .carry) → left t x ≡ keepsA w s r
   unfolding keepsA
-  keep-row eb ea er et eo = rw (eo, et, er, eb, ea)
+  keep-row et ex = rw (ex, et)
 
-  pub lose-row : b ≡ wordB w s → a ≡ wordA w s → r ≡ fixedOf op (halfOf w) b a → t ≡ overZero (sizeOf w) s (r .word) → o ≡ ends w t (r .error) false → o ≡ losesA w s (fixedOf op (halfOf w) (wordB w s) (wordA w s))
+  pub lose-row : t ≡ overZero (sizeOf w) s (r .word) → x ≡ statusOf w t (r .error) false → left t x ≡ losesA w s r
   unfolding losesA
-  lose-row eb ea er et eo = rw (eo, et, er, eb, ea)
+  lose-row et ex = rw (ex, et)
 
-pub change-row : (w : Width) (s : List ℕ) {t : List ℕ} {a : ℕ} {r : Fixed} {o : Outcome} → a ≡ wordA w s → r ≡ chs (halfOf w) a → t ≡ replaced (sizeOf w) s (r .word) → o ≡ ends w t (r .error) false → o ≡ changesA w s (chs (halfOf w) (wordA w s))
-unfolding changesA
-change-row w s ea er et eo = rw (eo, et, er, ea)
+  pub change-row : t ≡ replaced (sizeOf w) s (r .word) → x ≡ statusOf w t (r .error) false → left t x ≡ changesA w s r
+  unfolding changesA
+  change-row et ex = rw (ex, et)
 
-pub float-row : (op : FloatOp) (s : List ℕ) {t : List ℕ} {b a : ℕ} {r : Flagged} {o : Outcome} → b ≡ wordB Double s → a ≡ wordA Double s → r ≡ floatOf baseRule op b a → t ≡ overZero 4 s (r .word) → o ≡ ends Double t (r .error) false → o ≡ floats s (floatOf baseRule op (wordB Double s) (wordA Double s))
+-- a result on the words of a stack, in a row that was found to be that of its width
+pub of-words : (row : Width → List ℕ → Fixed → Outcome) (f : ℕ → ℕ → ℕ → Fixed) (s : List ℕ) {v w : Width} {b a : ℕ} {r : Fixed} {o : Outcome} → v ≡ w → b ≡ wordB w s → a ≡ wordA w s → r ≡ f (halfOf w) b a → o ≡ row w s r → o ≡ row v s (f (halfOf v) (wordB v s) (wordA v s))
+of-words row f s ev eb ea er eo = rw (ev, eo, er, eb, ea)
+
+pub of-word : (row : Width → List ℕ → Fixed → Outcome) (f : ℕ → ℕ → Fixed) (s : List ℕ) {v w : Width} {a : ℕ} {r : Fixed} {o : Outcome} → v ≡ w → a ≡ wordA w s → r ≡ f (halfOf w) a → o ≡ row w s r → o ≡ row v s (f (halfOf v) (wordA v s))
+of-word row f s ev ea er eo = rw (ev, eo, er, ea)
+
+pub float-row : (op : FloatOp) (s : List ℕ) {t : List ℕ} {b a : ℕ} {r : Flagged} {x : ℕ} → b ≡ wordB Double s → a ≡ wordA Double s → r ≡ floatOf baseRule op b a → t ≡ overZero 4 s (r .word) → x ≡ statusOf Double t (r .error) false → left t x ≡ floats s (floatOf baseRule op (wordB Double s) (wordA Double s))
 unfolding floats
-float-row op s eb ea er et eo = rw (eo, et, er, eb, ea)
+float-row op s eb ea er et ex = rw (ex, et, er, eb, ea)
 
 -- a row of two shapes, by whether there is an error
 without-error : (x y : Outcome) (e : ℕ) → e ≡ 0 → x ≡ cond (eqb e 0) x y
@@ -55,66 +62,71 @@ without-error x y e z = rw (eq-eqb e 0 z)
 with-error : (x y : Outcome) (e : ℕ) → (e ≡ 0 → ⊥) → y ≡ cond (eqb e 0) x y
 with-error x y e nz = rw (ne-eqb e 0 nz)
 
-module _ (s : List ℕ) {t : List ℕ} {a : ℕ} {r : Flagged} {o : Outcome} where
-  pub fltd-row : a ≡ wordA Double s → r ≡ fltd baseRule a → t ≡ converted s (r .word) → o ≡ ends Double t (r .error) false → o ≡ outcomeOf baseRule (Flt Double) s
+module _ (s : List ℕ) {t : List ℕ} {a x : ℕ} {r : Flagged} where
+  pub fltd-row : a ≡ wordA Double s → r ≡ fltd baseRule a → t ≡ converted s (r .word) → x ≡ statusOf Double t (r .error) false → left t x ≡ outcomeOf baseRule (Flt Double) s
   unfolding converts
-  fltd-row ea er et eo = rw (eo, et, er, ea)
+  fltd-row ea er et ex = rw (ex, et, er, ea)
 
-  pub flts-row : a ≡ wordA Single s → r ≡ flts baseRule a → t ≡ widened s (r .word) → o ≡ ends Double t (r .error) false → o ≡ outcomeOf baseRule (Flt Single) s
+  pub flts-row : a ≡ wordA Single s → r ≡ flts baseRule a → t ≡ widened s (r .word) → x ≡ statusOf Double t (r .error) false → left t x ≡ outcomeOf baseRule (Flt Single) s
   unfolding widens
-  flts-row ea er et eo = rw (eo, et, er, ea)
+  flts-row ea er et ex = rw (ex, et, er, ea)
 
-  pub fixd-row : a ≡ wordA Double s → r ≡ fixd a → t ≡ converted s (r .word) → o ≡ ends Double t (r .error) false → o ≡ outcomeOf baseRule (Fix Double) s
+  pub fixd-row : a ≡ wordA Double s → r ≡ fixd a → t ≡ converted s (r .word) → x ≡ statusOf Double t (r .error) false → left t x ≡ outcomeOf baseRule (Fix Double) s
   unfolding converts
-  fixd-row ea er et eo = rw (eo, et, er, ea)
+  fixd-row ea er et ex = rw (ex, et, er, ea)
 
-  pub fixs-row : a ≡ wordA Double s → r ≡ fixs a → r .error ≡ 0 → t ≡ narrowed s (r .word) → o ≡ ends Single t 0 false → o ≡ outcomeOf baseRule (Fix Single) s
+  pub fixs-row : a ≡ wordA Double s → r ≡ fixs a → r .error ≡ 0 → t ≡ narrowed s (r .word) → x ≡ statusOf Single t 0 false → left t x ≡ outcomeOf baseRule (Fix Single) s
   unfolding narrows
-  fixs-row ea er z et eo =
-      eo ∙ ap (λ (l : List ℕ). ends Single l 0 false) et
+  fixs-row ea er z et ex =
+      ap (left t) ex ∙ ap (λ (l : List ℕ). ends Single l 0 false) et
       ∙ without-error _ _ (r .error) z ∙ ap (narrows s) (er ∙ ap fixs ea)
 
-  pub over-row : a ≡ wordA Double s → r ≡ fixs a → (r .error ≡ 0 → ⊥) → t ≡ converted s (r .word) → o ≡ ends Double t (r .error) false → o ≡ outcomeOf baseRule (Fix Single) s
+  pub over-row : a ≡ wordA Double s → r ≡ fixs a → (r .error ≡ 0 → ⊥) → t ≡ converted s (r .word) → x ≡ statusOf Double t (r .error) false → left t x ≡ outcomeOf baseRule (Fix Single) s
   unfolding narrows
-  over-row ea er nz et eo =
-      eo ∙ ap (λ (l : List ℕ). ends Double l (r .error) false) et
+  over-row ea er nz et ex =
+      ap (left t) ex ∙ ap (λ (l : List ℕ). ends Double l (r .error) false) et
       ∙ with-error _ _ (r .error) nz ∙ ap (narrows s) (er ∙ ap fixs ea)
 
-  pub root-row : a ≡ wordA Double s → r ≡ sqrt baseRule a → r .error ≡ 0 → t ≡ converted s (r .word) → o ≡ ends Double t 0 false → o ≡ outcomeOf baseRule Sqrt s
+  pub root-row : a ≡ wordA Double s → r ≡ sqrt baseRule a → r .error ≡ 0 → t ≡ converted s (r .word) → x ≡ statusOf Double t 0 false → left t x ≡ outcomeOf baseRule Sqrt s
   unfolding roots
-  root-row ea er z et eo =
-      eo ∙ ap (λ (l : List ℕ). ends Double l 0 false) et
+  root-row ea er z et ex =
+      ap (left t) ex ∙ ap (λ (l : List ℕ). ends Double l 0 false) et
       ∙ without-error _ _ (r .error) z ∙ ap (roots s) (er ∙ ap (sqrt baseRule) ea)
 
-pub no-root-row : (s : List ℕ) {a : ℕ} {r : Flagged} {o : Outcome} → a ≡ wordA Double s → r ≡ sqrt baseRule a → (r .error ≡ 0 → ⊥) → o ≡ ends Double s (r .error) false → o ≡ outcomeOf baseRule Sqrt s
+pub no-root-row : (s : List ℕ) {a x : ℕ} {r : Flagged} → a ≡ wordA Double s → r ≡ sqrt baseRule a → (r .error ≡ 0 → ⊥) → x ≡ statusOf Double s (r .error) false → left s x ≡ outcomeOf baseRule Sqrt s
 unfolding roots
-no-root-row s {r = r} ea er nz eo = eo ∙ with-error _ _ (r .error) nz ∙ ap (roots s) (er ∙ ap (sqrt baseRule) ea)
+no-root-row s {r = r} ea er nz ex = ap (left s) ex ∙ with-error _ _ (r .error) nz ∙ ap (roots s) (er ∙ ap (sqrt baseRule) ea)
 
-pub chsf-row : (s : List ℕ) {t : List ℕ} {a x : ℕ} {o : Outcome} → a ≡ wordA Double s → x ≡ chsf a → t ≡ replaced 4 s x → o ≡ ends Double t 0 false → o ≡ outcomeOf baseRule Chsf s
-chsf-row s ea ex et eo = rw (eo, et, ex, ea)
+pub chsf-row : (s : List ℕ) {t : List ℕ} {a x y : ℕ} → a ≡ wordA Double s → y ≡ chsf a → t ≡ replaced 4 s y → x ≡ statusOf Double t 0 false → left t x ≡ outcomeOf baseRule Chsf s
+chsf-row s ea ey et ex = rw (ex, et, ey, ea)
+
+-- words moved, copied or pushed
+pub move-row : (w : Width) (t : List ℕ) {u : List ℕ} {x : ℕ} → u ≡ t → x ≡ statusOf w u 0 false → left u x ≡ moves w t
+move-row w t eu ex = rw (ex, eu)
 
 -- ---- the operands
-pub both-proper : (s : List ℕ) {k : Command} {op : FloatOp} {r p q : Bool} {x y : ℕ} → k ≡ Float op → r ≡ (p && q) → p ≡ proper x → q ≡ proper y → x ≡ wordB Double s → y ≡ wordA Double s → r ≡ properOperands k s
-both-proper s ek er ep eq ex ey = rw (ek, er, ep, eq, ex, ey)
-
--- a command that asks it of A alone
-pub one-proper : (s : List ℕ) (l : Command) {k : Command} {q : Bool} {y : ℕ} → properOperands l s ≡ proper (wordA Double s) → k ≡ l → q ≡ proper y → y ≡ wordA Double s → q ≡ properOperands k s
-one-proper s l el ek eq ey = rw (ek, el, eq, ey)
-
 -- both of two tests that together are true
 pub both-of : (p q : Bool) → (p && q) ≡ true → (p ≡ true) × (q ≡ true)
 both-of true q e = (refl, e)
 both-of false true e = (e, refl)
 both-of false false e = (e, e)
 
+-- two answers of which one is no
+pub not-both : (p q : Bool) → p ≡ false → (p && q) ≡ false
+not-both p q e = rw e
+
+pub nor-other : (p q : Bool) → q ≡ false → (p && q) ≡ false
+nor-other true q e = e
+nor-other false q e = refl
+
+pub both : (p q : Bool) → p ≡ true → q ≡ true → (p && q) ≡ true
+both p q e f = rw (e, f)
+
 -- a row holds of the command that was found to be its own
-pub row-of : (s : List ℕ) {k l : Command} {o : Outcome} → k ≡ l → o ≡ outcomeOf baseRule l s → o ≡ outcomeOf baseRule k s
-row-of s e f = f ∙ sym (ap (λ (x : Command). outcomeOf baseRule x s) e)
+pub obeys-as : {k l : Command} (before after : List ℕ) (o : Obeyed) → k ≡ l → Obeys l before after o → Obeys k before after o
+obeys-as before after o e = subst (λ (x : Command). Obeys x before after o) (sym e)
 
 -- an operation that was found to be its own, on B and A
-pub fixed-of : (h b a : ℕ) {op of : FixedOp} {r : Fixed} → op ≡ of → r ≡ fixedOf of h b a → r ≡ fixedOf op h b a
-fixed-of h b a e f = f ∙ sym (ap (λ (x : FixedOp). fixedOf x h b a) e)
-
 pub float-of : (b a : ℕ) {op of : FloatOp} {r : Flagged} → b < 4294967296 → proper b ≡ true → op ≡ of → r ≡ floatOf baseRule of b a → (r ≡ floatOf baseRule op b a) × (r .error < 16)
 float-of b a {op} l p e f =
     let g = f ∙ sym (ap (λ (x : FloatOp). floatOf baseRule x b a) e) in

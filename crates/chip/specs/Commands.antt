@@ -20,9 +20,7 @@ use Rattle.codes.specs.declared.FloatOp.{FloatOp}
 use Rattle.codes.specs.declared.FloatOp.the-variants.{Add as FAdd, Sub as FSub, Mul as FMul, Div as FDiv}
 use Rattle.codes.specs.declared.Command.{Command}
 use Rattle.codes.specs.declared.Command.the-variants.{Nop, Add, Sub, Mul, Muu, Div, Chs, Float, Chsf, Flt, Fix, Pto, Pop, Xch, Pupi, Sqrt}
-use Rattle.chip.specs.declared.Outcome.{Outcome}
-use Rattle.chip.specs.declared.words.FixedOp.{FixedOp}
-use Rattle.chip.specs.declared.words.FixedOp.the-variants.{Add as XAdd, Sub as XSub, Mul as XMul, Muu as XMuu, Div as XDiv}
+use Rattle.chip.specs.State.{Outcome}
 use Rattle.chip.specs.Status.{statusOf}
 
 -- the one rule of the base: a float result is cut
@@ -86,14 +84,6 @@ unfoldable pub roots : List ℕ → Flagged → Outcome
 roots s r = cond (eqb (r .error) 0) (ends Double (converted s (r .word)) 0 false) (ends Double s (r .error) false)
 
 -- ---- the rows
--- the fixed-point operations on B and A, at half of the number of words
-abbrev pub fixedOf : FixedOp → ℕ → ℕ → ℕ → Fixed
-fixedOf XAdd = add
-fixedOf XSub = sub
-fixedOf XMul = mul
-fixedOf XMuu = muu
-fixedOf XDiv = div
-
 -- FADD, FSUB, FMUL, FDIV give B+A, B-A, BxA, B/A
 abbrev pub floatOf : Rule → FloatOp → ℕ → ℕ → Flagged
 floatOf rule FAdd b a = fadd rule b a

@@ -3,4 +3,5 @@ pub mod State
 pub mod Status
 pub mod Commands
 pub mod Step
+pub mod Place
 pub mod Turns

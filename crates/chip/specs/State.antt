@@ -5,7 +5,6 @@ use mathlib.Core.List.{List}
 use lib.Dec.{leb}
 use Rattle.stack.specs.Stack.{zeros}
 use Rattle.chip.specs.declared.State.{State}
-use Rattle.chip.specs.declared.Outcome.{Outcome}
 
 -- status bit 7
 abbrev pub busy : State → Bool
@@ -22,6 +21,14 @@ resetState = record { stack = zeros 16; pending = false; status = 0; service = f
 -- after an acknowledge: the service line low
 abbrev pub acknowledged : State → State
 acknowledged s = record { stack = s .stack; pending = s .pending; status = s .status; service = false }
+
+-- what a command leaves: the stack and the status
+pub record Outcome : Type 0 where
+  pub stack : List ℕ
+  pub status : ℕ
+
+abbrev pub left : List ℕ → ℕ → Outcome
+left stack status = record { stack = stack; status = status }
 
 -- after an accepted command: the stack and the status that it leaves, and sr on the service line
 abbrev pub settled : State → Bool → Outcome → State

@@ -11,6 +11,8 @@ use Rattle.codes.specs.Codes.{sr, kindOf}
 use Rattle.terms.specs.declared.Rule.{Rule}
 use Rattle.chip.specs.declared.State.{State}
 use Rattle.chip.specs.declared.Answer.{Answer}
+use Rattle.chip.specs.declared.Event.{Event}
+use Rattle.chip.specs.declared.Event.the-variants.{Push, Pop, Command as CommandEvent, Status, Reset, Acknowledge}
 use Rattle.chip.specs.State.{busy, moved, resetState, acknowledged, settled}
 use Rattle.chip.specs.Commands.{baseRule, outcomeOf, properOperands}
 
@@ -60,3 +62,12 @@ commandUnder rule s code = unlessBusy s (answerOf rule s (sr code) (kindOf (code
 
 abbrev pub commandOf : State → ℕ → Answer
 commandOf s code = commandUnder baseRule s code
+
+-- ---- an event of the bus
+abbrev pub eventOf : State → Event → Answer
+eventOf s (Push byte) = pushOf s byte
+eventOf s Pop = popOf s
+eventOf s (CommandEvent code) = commandOf s code
+eventOf s Status = readOf s
+eventOf s Reset = resetOf s
+eventOf s Acknowledge = acknowledgeOf s

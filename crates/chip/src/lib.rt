@@ -1,17 +1,15 @@
 // The chip by value: a state whose methods push, pop, reset, acknowledge, status and command
-// each take it and answer with the refusal, the byte read and the state after.
+// each take it and answer with the refusal, the byte read and the state after. The same events
+// where the stack lies are in `place`.
 pub mod commands;
+pub mod place;
 pub mod status;
 pub mod words;
 
-use codes::Command;
-use codes::Kind;
-use commands::operands_are_proper;
-use commands::perform;
+use place::Flags;
 use terms::Refusal;
 ghost use mathlib.Core.Path.{_≡_};
-ghost use Rattle.chip.specs.Commands.{baseRule};
-ghost use Rattle.chip.specs.Step.{done, refused, carried, pushOf, popOf, resetOf, acknowledgeOf, readOf, commandOf};
+ghost use Rattle.chip.specs.Step.{refused, pushOf, popOf, resetOf, acknowledgeOf, readOf, commandOf, eventOf};
 
 // The state: the stack's 16 bytes, top first, whether a half word is pending, the status, the service line.
 pub struct State {
@@ -21,6 +19,16 @@ pub struct State {
     pub service: bool,
 }
 
+// The events of document 01's bus, each of one byte at most.
+pub enum Event {
+    Push(u8),
+    Pop,
+    Command(u8),
+    Status,
+    Reset,
+    Acknowledge,
+}
+
 // What an event answers. The byte is 0 where there is none and in every refusal.
 pub struct Answer {
     pub refusal: Refusal,
@@ -28,14 +36,8 @@ pub struct Answer {
     pub state: State,
 }
 
-// What a command leaves: the stack and the status.
-pub struct Outcome {
-    pub stack: [u8; 16],
-    pub status: u8,
-}
-
 // A refusal: no byte, and the state as before.
-fn refuse(refusal: Refusal, state: State) -> Answer
+pub fn refuse(refusal: Refusal, state: State) -> Answer
     ensures { λ a. ⌜ a ≡ refused refusal state ⌝ }
 {
     Answer {
@@ -45,147 +47,74 @@ fn refuse(refusal: Refusal, state: State) -> Answer
     }
 }
 
-// Done: the byte read, and the state after.
-fn accept(byte: u8, state: State) -> Answer
-    ensures { λ a. ⌜ a ≡ done byte state ⌝ }
-{
-    Answer {
-        refusal: Refusal::Done,
-        byte,
-        state,
-    }
-}
-
-// A known command: 3 with a half word pending, then 4 for an operand that is not proper, else done.
-fn carry_out(state: State, service: bool, command: Command) -> Answer
-    ensures { λ a. ⌜ a ≡ carried baseRule state service command ⌝ }
-{
-    let pending = state.pending;
-    if pending {
-        return refuse(Refusal::HalfWord, state);
-    }
-    let stack = state.stack;
-    if !operands_are_proper(stack, command) {
-        return refuse(Refusal::Improper, state);
-    }
-    let left = perform(stack, command);
-    let stack = left.stack;
-    accept(
-        0,
-        State {
-            stack,
-            pending,
-            status: left.status,
-            service,
-        },
-    )
-}
-
 impl State {
-    // Push byte: it becomes the top, the bottom byte is lost.
-    pub fn push(self, byte: u8) -> Answer
-        ensures { λ a. ⌜ a ≡ pushOf self byte ⌝ }
+    // One event; 13 where the state is busy.
+    pub fn event(self, event: Event) -> Answer
+        ensures { λ a. ⌜ a ≡ eventOf self event ⌝ }
     {
         let status = self.status;
         if 128 <= status {
             return refuse(Refusal::BadState, self);
         }
-        let stack = self.stack;
-        let stack = stack::push(stack, byte);
-        let pending = self.pending;
-        accept(
-            0,
-            State {
+        let mut stack = self.stack;
+        let f = Flags {
+            pending: self.pending,
+            status,
+            service: self.service,
+        };
+        let left = place::event(&mut stack, f, event);
+        let refusal = left.refusal;
+        Answer {
+            refusal,
+            byte: left.byte,
+            state: State {
                 stack,
-                pending: !pending,
-                status,
-                service: self.service,
+                pending: left.pending,
+                status: left.status,
+                service: left.service,
             },
-        )
+        }
+    }
+
+    // Push byte: it becomes the top, the bottom byte is lost.
+    pub fn push(self, byte: u8) -> Answer
+        ensures { λ a. ⌜ a ≡ pushOf self byte ⌝ }
+    {
+        self.event(Event::Push(byte))
     }
 
     // Pop byte: the top byte is handed out and goes to the bottom.
     pub fn pop(self) -> Answer
         ensures { λ a. ⌜ a ≡ popOf self ⌝ }
     {
-        let status = self.status;
-        if 128 <= status {
-            return refuse(Refusal::BadState, self);
-        }
-        let stack = self.stack;
-        let byte = stack[0];
-        let stack = stack::pop(stack);
-        let pending = self.pending;
-        accept(
-            byte,
-            State {
-                stack,
-                pending: !pending,
-                status,
-                service: self.service,
-            },
-        )
+        self.event(Event::Pop)
     }
 
     // Reset: stack all zero, nothing pending, status 0, service line low.
     pub fn reset(self) -> Answer
         ensures { λ a. ⌜ a ≡ resetOf self ⌝ }
     {
-        if 128 <= self.status {
-            return refuse(Refusal::BadState, self);
-        }
-        accept(
-            0,
-            State {
-                stack: [0u8; 16],
-                pending: false,
-                status: 0,
-                service: false,
-            },
-        )
+        self.event(Event::Reset)
     }
 
     // Acknowledge: the service line goes low.
     pub fn acknowledge(self) -> Answer
         ensures { λ a. ⌜ a ≡ acknowledgeOf self ⌝ }
     {
-        if 128 <= self.status {
-            return refuse(Refusal::BadState, self);
-        }
-        let stack = self.stack;
-        accept(
-            0,
-            State {
-                stack,
-                pending: self.pending,
-                status: self.status,
-                service: false,
-            },
-        )
+        self.event(Event::Acknowledge)
     }
 
     // A status read.
     pub fn status(self) -> Answer
         ensures { λ a. ⌜ a ≡ readOf self ⌝ }
     {
-        if 128 <= self.status {
-            return refuse(Refusal::BadState, self);
-        }
-        accept(self.status, self)
+        self.event(Event::Status)
     }
 
     // A command by its code: refusals in the order 13, 1, 2, 3, 4.
     pub fn command(self, code: u8) -> Answer
         ensures { λ a. ⌜ a ≡ commandOf self code ⌝ }
     {
-        if 128 <= self.status {
-            return refuse(Refusal::BadState, self);
-        }
-        let kind = codes::decode(code);
-        match kind {
-            Kind::Known(command) => carry_out(self, codes::service(code), command),
-            Kind::Derived => refuse(Refusal::DerivedCode, self),
-            Kind::Unknown => refuse(Refusal::UnknownCode, self),
-        }
+        self.event(Event::Command(code))
     }
 }

@@ -1,3 +1,2 @@
 -- What a command code stands for.
 pub mod Codes
-pub mod Numbers

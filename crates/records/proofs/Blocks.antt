@@ -1,61 +1,97 @@
--- Blocks of bytes are single bytes in turn: where a block of pushes or pops stands after i bytes, and one byte more. Assumes nothing.
-use mathlib.Core.Path.{_≡_, refl, sym, ap, _∙_}
-use mathlib.Core.List.{List, _++_, append-nil}
-use Prim.Native.Nat.{ℕ, zero, suc, _+_, _-_, _≤_, _<_, zero-le}
+-- A block of bytes pushed or popped at once is its single bytes in turn: on a state that is not busy the stack after all of them, pending turned once for each; a busy state is handed back, and zeros in the place of bytes read. Assumes nothing.
+use mathlib.Core.Path.{_≡_, refl, sym, ap, ap₂, subst, _∙_}
+use mathlib.Core.Bool.{Bool}
+use mathlib.Core.List.{List, [], _∷_, _++_}
+use Prim.Native.Nat.{ℕ, zero, suc, _+_, _-_, _≤_, _<_}
+use native.Mathlib.Nat.{zero-add, not-suc-le-zero}
 use native.Mathlib.Omega.{arith}
-use native.Mathlib.Nat.{sub-zero, sub-self}
-use native.Mathlib.Numerals.{add-one}
-use lib.ListN.{length, take, drop, getD, set, length-set, take-append-drop, drop-of-length-le}
-use lib.Seq.{drop-cons, take-suc-set, append-snoc, drop-set-lt, drop-drop}
+use borrow.Author.Tests.{le-leb}
+use lib.ListN.{length, take, drop, getD, List·getD-append}
+use lib.Seq.{paste, take-all}
+use Rattle.terms.specs.declared.Refusal.the-variants.{BadState}
+use Rattle.stack.specs.Stack.{zeros, pushed, popped, topByte, pushedAll, poppedAll, handedOut}
+use Rattle.stack.proofs.Words.{length-zeros}
 use Rattle.chip.specs.declared.State.{State}
 use Rattle.chip.specs.declared.Answer.{Answer}
-use Rattle.chip.specs.Step.{pushOf, popOf}
+use Rattle.chip.specs.State.{moved}
+use Rattle.chip.specs.Step.{done, refused, pushOf, popOf}
 use Rattle.chip.specs.Turns.{bytesPopped}
+use Rattle.chip.specs.Place.{held, flipped}
+use Rattle.chip.proofs.Turns.{turned, restacked, push-done, pop-done, pops-bytes}
+use Rattle.chip.proofs.InPlace.{flips}
 use Rattle.records.specs.Record.{before, pushAll, popAll}
-
--- one byte more is pushed
-pub push-on : (a r : Answer) (p : List ℕ) (i : ℕ) → i < length p → r ≡ pushOf (a .state) (getD p i 0)
-    → pushAll a (drop i p) ≡ pushAll r (drop (i + 1) p)
-push-on a r p i h e = rw (drop-cons p i 0 h, add-one i, e)
-
--- none is left
-pub push-end : (a : Answer) (p : List ℕ) (i : ℕ) → length p ≤ i → pushAll a (drop i p) ≡ a
-push-end a p i h = rw (drop-of-length-le p h)
 
 -- as many bytes are handed out as are asked for
 pub length-popped : (n : ℕ) (s : State) → length (bytesPopped n s) ≡ n
 length-popped zero s = refl
 length-popped (suc n) s = ap suc (length-popped n (popOf s .state))
 
--- after i of n pops: what is left gives the whole answer, the bytes stand at the front, the rest of the room is untouched
-pub record Popping (n : ℕ) (s : State) (room₀ room : List ℕ) (a : Answer) (i : ℕ) : Type 0 where
-  pub at-most : i ≤ n
-  pub same : length room ≡ length room₀
-  pub answer : popAll n (before s) ≡ popAll (n - i) a
-  pub bytes : bytesPopped n s ≡ take i room ++ bytesPopped (n - i) (a .state)
-  pub tail : drop i room ≡ drop i room₀
+-- ---- a state that is not busy
+pushes : (p : List ℕ) (s : State) → s .status < 128 → pushAll (done 0 s) p ≡ done 0 (restacked s (pushedAll (s .stack) p) (length p))
+pushes [] s h = refl
+pushes (b ∷ p) s h = rw (push-done s b h) (pushes p (moved s (pushed (s .stack) b)) h)
 
-pub pop-starts : (n : ℕ) (s : State) (room : List ℕ) → Popping n s room room (before s) 0
-pop-starts n s room = record { at-most = zero-le; same = refl; answer = rw sub-zero; bytes = rw sub-zero; tail = refl }
+pops : (k : ℕ) (a : Answer) → a .state .status < 128 → popAll (suc k) a ≡ done (getD (handedOut (suc k) (a .state .stack)) k 0) (restacked (a .state) (poppedAll (suc k) (a .state .stack)) (suc k))
+pops zero a h = pop-done (a .state) h
+pops (suc k) a h =
+    ap (popAll (suc k)) (pop-done (a .state) h)
+    ∙ pops k (done (topByte (a .state .stack)) (moved (a .state) (popped (a .state .stack)))) h
 
-less : (n i : ℕ) → i < n → n - i ≡ suc (n - (i + 1))
-less n i h = omega arith
+module _ (s : State) (h : s .status < 128) where
+  pub pushed-block : (p after : List ℕ) (q : Bool) → q ≡ flipped (length p) (s .pending) → after ≡ pushedAll (s .stack) p → done 0 (held after q (s .status) (s .service)) ≡ pushAll (before s) p
+  pushed-block p after q eq ea =
+      ap₂ (λ (l : List ℕ) (x : Bool). done 0 (held l x (s .status) (s .service))) ea (eq ∙ flips (length p) (s .pending))
+      ∙ sym (pushes p s h)
 
-module _ (n : ℕ) (s : State) (room₀ room : List ℕ) (a : Answer) (i : ℕ) (p : Popping n s room₀ room a i) where
-  pub pop-on : (r : Answer) → i < n → n ≤ length room₀ → r ≡ popOf (a .state) → Popping n s room₀ (set room i (r .byte)) r (i + 1)
-  pop-on r h fits e =
-      let l : i < length room = omega (arith, p .same) in
-      record {
-        at-most = omega arith;
-        same = length-set room i (r .byte) ∙ p .same;
-        answer = p .answer ∙ rw (less n i h, e);
-        bytes = p .bytes ∙ rw (less n i h, add-one i, take-suc-set room i (r .byte) l, append-snoc, e);
-        tail = drop-set-lt (i + 1) room i (r .byte) (omega arith) ∙ sym (drop-drop 1 i room) ∙ ap (drop 1) (p .tail) ∙ drop-drop 1 i room₀;
-      }
+  pub popped-block : (n : ℕ) (after room left : List ℕ) (q : Bool) → 1 ≤ n → q ≡ flipped n (s .pending) → after ≡ poppedAll n (s .stack) → left ≡ handedOut n (s .stack) ++ drop n room
+      → (done (getD left (n - 1) 0) (held after q (s .status) (s .service)) ≡ popAll n (before s)) × (left ≡ bytesPopped n s ++ drop n room)
+  popped-block zero after room left q m eq ea el = absurd (not-suc-le-zero m)
+  popped-block (suc k) after room left q m eq ea el =
+      let b = sym (pops-bytes (suc k) s h) in
+      let y : k < length (handedOut (suc k) (s .stack)) = omega (arith, ap length b ∙ length-popped (suc k) s) in
+      let o : suc k - 1 ≡ k = omega arith in
+      let z : getD left (suc k - 1) 0 ≡ getD (handedOut (suc k) (s .stack)) k 0 = ap (λ (i : ℕ). getD left i 0) o ∙ ap (λ (l : List ℕ). getD l k 0) el ∙ List·getD-append (handedOut (suc k) (s .stack)) (drop (suc k) room) 0 k y in (
+        ap (λ (x : ℕ). done x (held after q (s .status) (s .service))) z
+            ∙ ap₂ (λ (l : List ℕ) (x : Bool). done (getD (handedOut (suc k) (s .stack)) k 0) (held l x (s .status) (s .service))) ea (eq ∙ flips (suc k) (s .pending))
+            ∙ sym (pops k (before s) h),
+        el ∙ ap (λ (l : List ℕ). l ++ drop (suc k) room) b,
+      )
 
-  pub pop-ends : n ≤ i → (a ≡ popAll n (before s)) × (room ≡ bytesPopped n s ++ drop n room₀)
-  pop-ends h =
-      let e : i ≡ n = omega (arith, p .at-most) in
-      let z : n - i ≡ 0 = omega arith in
-      let b : bytesPopped n s ≡ take i room = p .bytes ∙ rw (z, append-nil (take i room)) in
-      (sym (p .answer ∙ rw z), sym (take-append-drop i room) ∙ rw (b, p .tail, e))
+-- ---- a busy state
+module _ (s : State) (h : 128 ≤ s .status) where
+  push-refused : (b : ℕ) → pushOf s b ≡ refused BadState s
+  unfolding pushOf
+  push-refused b = rw (le-leb 128 (s .status) h)
+
+  pop-refused : popOf s ≡ refused BadState s
+  unfolding popOf
+  pop-refused = rw (le-leb 128 (s .status) h)
+
+  still-pushing : (p : List ℕ) → pushAll (refused BadState s) p ≡ refused BadState s
+  still-pushing [] = refl
+  still-pushing (b ∷ p) = ap (λ (a : Answer). pushAll a p) (push-refused b) ∙ still-pushing p
+
+  still-popping : (n : ℕ) → popAll n (refused BadState s) ≡ refused BadState s
+  still-popping zero = refl
+  still-popping (suc n) = ap (popAll n) pop-refused ∙ still-popping n
+
+  pub block-refused : (p : List ℕ) → 1 ≤ length p → refused BadState s ≡ pushAll (before s) p
+  block-refused [] m = absurd (not-suc-le-zero m)
+  block-refused (b ∷ p) m = sym (ap (λ (a : Answer). pushAll a p) (push-refused b) ∙ still-pushing p)
+
+  pub pops-refused : (n : ℕ) → 1 ≤ n → refused BadState s ≡ popAll n (before s)
+  pops-refused zero m = absurd (not-suc-le-zero m)
+  pops-refused (suc n) m = sym (ap (popAll n) pop-refused ∙ still-popping n)
+
+  pub none-popped : (n : ℕ) → zeros n ≡ bytesPopped n s
+  none-popped zero = refl
+  none-popped (suc n) = ap (λ (l : List ℕ). 0 ∷ l) (none-popped n) ∙ sym (ap (λ (a : Answer). a .byte ∷ bytesPopped n (a .state)) pop-refused)
+
+-- ---- zeros laid down
+pub zero-at : (n i : ℕ) → getD (zeros n) i 0 ≡ 0
+zero-at zero i = refl
+zero-at (suc n) zero = refl
+zero-at (suc n) (suc i) = zero-at n i
+
+pub blanked : (n : ℕ) (room : List ℕ) → paste room 0 (zeros n) n ≡ zeros n ++ drop n room
+blanked n room = ap₂ (λ (x y : List ℕ). x ++ y) (take-all n (zeros n) (omega (arith, length-zeros n))) (ap (λ (k : ℕ). drop k room) (zero-add n))

@@ -16,7 +16,7 @@ use Rattle.records.specs.declared.head.Event.{Event}
 use Rattle.records.specs.declared.head.Event.the-variants.{Push, Pop, Command, Status, Reset, Acknowledge}
 use Rattle.records.specs.declared.head.Head.{Head}
 use Rattle.records.specs.declared.head.Head.the-variants.{Whole, Stop}
-use Rattle.records.specs.Record.{wordAt, kindOf, payloadOf, answeredOf, exactly, pushRow, popRow, rowOf, headOf, Carried, Holds}
+use Rattle.records.specs.Record.{wordAt, kindOf, payloadOf, answeredOf, exactly, pushRow, popRow, rowOf, headOf, Carried, Asks, Holds}
 
 module _ (l : List ℕ) where
   -- fewer than two bytes
@@ -109,6 +109,15 @@ few l Status h = lit≤ tt
 few l Reset h = lit≤ tt
 few l Acknowledge h = lit≤ tt
 
+-- at least one byte is pushed or popped
+asks : (first : ℕ) (e : Event) → Carried first e → Asks e
+asks first (Push n) h = h
+asks first (Pop n) h = h .1
+asks first (Command code) h = tt
+asks first Status h = tt
+asks first Reset h = tt
+asks first Acknowledge h = tt
+
 -- what each head says of the file
 abbrev Reads : List ℕ → Head → Type 0
 Reads l (Whole e) = Holds l e
@@ -119,8 +128,8 @@ pub holds : (l : List ℕ) (e : Event) → headOf l ≡ Whole e → Holds l e
 holds l e h = subst (Reads l) h (heads (Reads l) (λ r s. s) l (λ d p. p))
 
 -- what the code needs of it
-pub fine : (l : List ℕ) (e : Event) → headOf l ≡ Whole e → (4 + payloadOf e ≤ length l) × (answeredOf e ≤ mostPayload)
-fine l e h = (holds l e h .there, few l e (holds l e h))
+pub fine : (l : List ℕ) (e : Event) → headOf l ≡ Whole e → (4 + payloadOf e ≤ length l) × (answeredOf e ≤ mostPayload) × Asks e
+fine l e h = (holds l e h .there, few l e (holds l e h), asks (getD l 4 0) e (holds l e h .carried))
 
 -- a head that is a refusal is 5, 6 or 7
 pub stops : (l : List ℕ) (r : Refusal) → headOf l ≡ Stop r → Stops r

@@ -96,6 +96,15 @@ Carried first Status = Unit
 Carried first Reset = Unit
 Carried first Acknowledge = Unit
 
+-- a push or a pop is of at least one byte
+abbrev pub Asks : Event → Type 0
+Asks (Push n) = 1 ≤ n
+Asks (Pop n) = 1 ≤ n
+Asks (Command code) = Unit
+Asks Status = Unit
+Asks Reset = Unit
+Asks Acknowledge = Unit
+
 -- a whole record of this event stands at the front of a file
 pub record Holds (l : List ℕ) (e : Event) : Type 0 where
   pub length-is : wordAt l 0 ≡ 2 + payloadOf e

@@ -17,7 +17,7 @@ ghost use lib.ListN.{length, drop};
 ghost use Rattle.terms.specs.Refusal.{numberOf};
 ghost use Rattle.terms.specs.Limits.{mostPayload};
 ghost use Rattle.files.specs.Run.{Turns, Runs};
-ghost use Rattle.records.specs.Record.{le2, payloadOf, answeredOf, turnBy, turnOf};
+ghost use Rattle.records.specs.Record.{Asks, le2, payloadOf, answeredOf, turnBy, turnOf};
 ghost use Rattle.records.specs.Run.{runOf};
 
 // What became of a record: the refusal that stops the run or 0, the state, the bytes of the record and of its reply.
@@ -42,7 +42,7 @@ fn open_reply(room: &mut [u8], n: usize, kind: u8, refusal: u8)
 
 // A whole record with its event: refused where the reply has no room, else done and answered.
 fn take_whole(s: State, event: Event, rest: &[u8], room: &mut [u8]) -> Turn
-    requires { ⌜ (4 + payloadOf event ≤ length (now rest)) × (answeredOf event ≤ mostPayload) ⌝ }
+    requires { ⌜ (4 + payloadOf event ≤ length (now rest)) × (answeredOf event ≤ mostPayload) × Asks event ⌝ }
     ensures { λ r. ⌜ Turns (turnBy s (now (rest .entry)) (length (now (room .entry))) (Head.Whole event)) (r .refusal) (r .state) (r .size) (r .reply) (now (rest .entry)) (now (room .entry)) (now (room .exit)) ⌝ }
 {
     let n = data_bytes(event);

@@ -5,3 +5,4 @@ pub mod Blocks
 pub mod Layouts
 pub mod Moves
 pub mod Diagrams
+pub mod Several

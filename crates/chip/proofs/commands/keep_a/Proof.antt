@@ -1,13 +1,12 @@
 -- `chip::commands::keep_a` meets its contract: the row of ADD and SUB. Assumes nothing.
+use denote.Ref.{now}
 use Rattle.chip.proofs.Rows.{keep-row}
 use borrow.Author.Needs.{needs}
 use Rattle.chip.proofs.commands.keep_a.Statement.{statement}
 use Rattle.chip.proofs.commands.keep_a.Tie as tie
 
 returns : tie.Need-returns
-returns c =
-    let a = c .before .before .before .before .before .args in
-    keep-row (a .op) (a .width) (a .s) (c .before .before .before .before .next-word .ensures .0) (c .before .before .before .top-word .ensures .0) (c .before .before .fixed-result .ensures .0) (c .before .after-add .ensures) (c .ended .ensures)
+returns c = let a = c .before .before .before .before .before .before .before .args in keep-row (a .width) (now (a .s)) (a .r) (c .before .before .before .before .over-a .ensures) (c .status-of .ensures)
 
 pub keep-a-spec : {M : Type 1} → statement M
 keep-a-spec =
@@ -15,7 +14,5 @@ keep-a-spec =
     (tie.spec
     (λ c κs. search needs)
     (λ c κs. search needs)
-    (λ c κs. search needs)
-    (λ c κs. search needs)
-    (λ c κs. search needs)
+    (λ c. search needs)
     returns)

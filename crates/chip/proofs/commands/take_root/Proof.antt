@@ -1,6 +1,8 @@
--- `chip::commands::take_root` meets its contract: the row of SQRT, and the row of a negative word. Assumes nothing.
-use mathlib.Core.Path.{sym, ap, subst, _∙_}
+-- `chip::commands::take_root` meets its contract: a word that is not proper is refused, else the row of SQRT, and the row of a negative word. Assumes nothing.
+use mathlib.Core.Path.{refl, sym, ap, subst, _∙_}
 use Prim.Native.Nat.{_<_}
+use borrow.Author.Tests.{not-true, not-false}
+use denote.Ref.{now}
 use Rattle.float.specs.declared.Flagged.{Flagged}
 use Rattle.float.specs.Word.{proper}
 use Rattle.float.proofs.RootExact.{root-result}
@@ -10,29 +12,45 @@ use borrow.Author.Needs.{needs}
 use Rattle.chip.proofs.commands.take_root.Statement.{statement}
 use Rattle.chip.proofs.commands.take_root.Tie as tie
 
-sqrt-requires : tie.Need-sqrt-requires
-sqrt-requires c κs = ap proper (c .top-word .ensures .0) ∙ c .before .pre
-
 returns : tie.Need-returns
-returns c = root-row (c .before .before .before .before .before .before .args .s) (c .before .before .before .before .before .top-word .ensures .0) (c .before .before .before .before .sqrt .ensures) (c .before .before .if1 .taken) (c .before .after-fltd .ensures) (c .ended .ensures)
+returns c = (sym (c .before .is-proper .ensures ∙ ap proper (c .before .before .top-word .ensures .0)) ∙ not-true _ (c .if1 .taken), refl, refl)
 
-ended-requires-2 : tie.Need-ended-requires-2
-ended-requires-2 c κs =
-    let w = c .before .before .before .top-word in
-    subst (λ (r : Flagged). r .error < 16) (sym (c .before .before .sqrt .ensures))
-    (root-result baseRule (w .result) (record { fits = w .ensures .1; is-proper = ap proper (w .ensures .0) ∙ c .before .before .before .before .pre }) .small)
+sqrt-requires : tie.Need-sqrt-requires
+sqrt-requires c κs = sym (c .before .is-proper .ensures) ∙ not-false _ (c .if1 .left)
 
 returns-2 : tie.Need-returns-2
-returns-2 c = no-root-row (c .before .before .before .before .before .args .s) (c .before .before .before .before .top-word .ensures .0) (c .before .before .before .sqrt .ensures) (c .before .if1 .left) (c .ended2 .ensures)
+returns-2 c = (
+  sym (c .before .before .before .before .before .before .before .before .before .before .is-proper .ensures ∙ ap proper (c .before .before .before .before .before .before .before .before .before .before .before .top-word .ensures .0)) ∙ not-false _ (c .before .before .before .before .before .before .before .before .before .if1 .left),
+  root-row (now (c .before .before .before .before .before .before .before .before .before .before .before .before .before .before .args .s)) (c .before .before .before .before .before .before .before .before .before .before .before .top-word .ensures .0) (c .before .before .before .before .before .before .before .before .sqrt .ensures) (c .before .before .before .before .before .before .if2 .taken) (c .before .before .before .before .convert .ensures) (c .status-of .ensures),
+)
+
+status-of-requires-2 : tie.Need-status-of-requires-2
+status-of-requires-2 c κs =
+    let w = c .before .before .before .before .before .before .top-word in (
+      c .before .before .before .before .before .before .before .before .before .pre,
+      subst (λ (r : Flagged). r .error < 16) (sym (c .before .before .before .sqrt .ensures))
+          (root-result baseRule (w .result) (record { fits = w .ensures .1; is-proper = sym (c .before .before .before .before .before .is-proper .ensures) ∙ not-false _ (c .before .before .before .before .if1 .left) }) .small),
+    )
+
+returns-3 : tie.Need-returns-3
+returns-3 c = (
+  sym (c .before .before .before .before .before .before .is-proper .ensures ∙ ap proper (c .before .before .before .before .before .before .before .top-word .ensures .0)) ∙ not-false _ (c .before .before .before .before .before .if1 .left),
+  no-root-row (now (c .before .before .before .before .before .before .before .before .before .before .args .s)) (c .before .before .before .before .before .before .before .top-word .ensures .0) (c .before .before .before .before .sqrt .ensures) (c .before .before .if2 .left) (c .status-of2 .ensures),
+)
 
 pub take-root-spec : {M : Type 1} → statement M
 take-root-spec =
     tie.close
     (tie.spec
     (λ c κs. search needs)
+    (λ c κs. search needs)
+    (λ c. search needs)
+    returns
     sqrt-requires
     (λ c κs. search needs)
     (λ c κs. search needs)
-    returns
-    ended-requires-2
-    returns-2)
+    (λ c. search needs)
+    returns-2
+    status-of-requires-2
+    (λ c. search needs)
+    returns-3)

@@ -1,19 +1,28 @@
 -- `chip::commands::to_float` meets its contract: the width picks the row. Assumes nothing.
-use mathlib.Core.Path.{ap}
+use mathlib.Core.Path.{sym, ap, _∙_}
+use denote.Ref.{now}
 use Rattle.terms.specs.declared.Width.{Width}
 use Rattle.codes.specs.declared.Command.the-variants.{Flt}
-use Rattle.chip.proofs.Rows.{row-of}
+use Rattle.chip.specs.Commands.{baseRule, outcomeOf}
 use borrow.Author.Needs.{needs}
 use Rattle.chip.proofs.commands.to_float.Statement.{statement}
 use Rattle.chip.proofs.commands.to_float.Tie as tie
 
 returns : tie.Need-returns
-returns c = row-of (c .before .before .before .args .s) (ap (λ (w : Width). Flt w) (c .before .enum-told .given .1)) (c .float-single .ensures)
+returns c = c .before .before .float-single .ensures ∙ ap (λ (w : Width). outcomeOf baseRule (Flt w) (now (c .before .before .before .before .before .before .before .args .s))) (sym (c .before .before .before .before .enum-told .given .1))
 
 returns-2 : tie.Need-returns-2
-returns-2 c = row-of (c .before .before .before .args .s) (ap (λ (w : Width). Flt w) (c .before .enum-told2 .given .1)) (c .float-double .ensures)
+returns-2 c = c .before .before .float-double .ensures ∙ ap (λ (w : Width). outcomeOf baseRule (Flt w) (now (c .before .before .before .before .before .before .before .args .s))) (sym (c .before .before .before .before .enum-told2 .given .1))
 
 pub to-float-spec : {M : Type 1} → statement M
 to-float-spec =
     tie.close
-    (tie.spec (λ c. search needs) (λ c κs. search needs) (λ c. search needs) (λ c κs. search needs) returns returns-2)
+    (tie.spec
+    (λ c. search needs)
+    (λ c κs. search needs)
+    (λ c. search needs)
+    (λ c κs. search needs)
+    (λ c. search needs)
+    returns
+    (λ c. search needs)
+    returns-2)

@@ -1,0 +1,98 @@
+-- The events where the stack lies are those of the state by value: bytes at once turn pending once for each, one byte is a block of one, and a code is answered whatever stands beside the stack. Assumes nothing.
+use mathlib.Core.Path.{_≡_, refl, sym, ap, ap₂, subst, _∙_}
+use mathlib.Core.Bool.{Bool, true, false, not}
+use mathlib.Core.List.{List}
+use Prim.Native.Nat.{ℕ, zero, suc, _%_, _≤_, _<_}
+use native.Mathlib.Omega.{arith}
+use borrow.Author.Tests.{lt-leb, le-leb}
+use Rattle.terms.specs.declared.Refusal.{Refusal}
+use Rattle.terms.specs.declared.Refusal.the-variants.{BadState}
+use Rattle.stack.specs.Stack.{zeros, topByte, pushed, popped}
+use Rattle.codes.specs.declared.Command.{Command}
+use Rattle.codes.specs.declared.Kind.{Kind}
+use Rattle.codes.specs.declared.Kind.the-variants.{Known}
+use Rattle.codes.specs.Codes.{sr, kindOf}
+use Rattle.chip.specs.declared.State.{State}
+use Rattle.chip.specs.declared.Answer.{Answer}
+use Rattle.chip.specs.declared.Event.{Event}
+use Rattle.chip.specs.declared.Event.the-variants.{Push, Pop, Command as CommandEvent, Status, Reset, Acknowledge}
+use Rattle.chip.specs.declared.commands.Obeyed.{Obeyed}
+use Rattle.chip.specs.declared.commands.Obeyed.the-variants.{Done, Refused}
+use Rattle.chip.specs.State.{left, moved, resetState, acknowledged, settled}
+use Rattle.chip.specs.Commands.{baseRule, outcomeOf, properOperands}
+use Rattle.chip.specs.Step.{done, refused, unlessBusy, carried, pushOf, popOf, resetOf, acknowledgeOf, readOf, commandUnder, commandOf, eventOf}
+use Rattle.chip.specs.Place.{held, flipped, Obeys, Keeps, Commanded, answered}
+use Rattle.chip.proofs.Answers.{carried-improper, carried-done, command-by}
+use Rattle.chip.proofs.Turns.{turned, push-done, pop-done}
+
+-- pending by the parity of the bytes is pending turned once for each
+pub flips : (n : ℕ) (p : Bool) → flipped n p ≡ turned n p
+flips zero p = refl
+flips (suc zero) p = refl
+flips (suc (suc n)) p =
+    let e : suc (suc n) % 2 ≡ n % 2 = omega arith in
+    rw e (flips n p ∙ ap (turned n) (twice p))
+  where
+    twice : (q : Bool) → q ≡ not (not q)
+    twice true = refl
+    twice false = refl
+
+-- ---- single events of a state that is not busy
+module _ (stack : List ℕ) (p : Bool) (t : ℕ) (v : Bool) (h : t < 128) where
+  pub pushed-one : (b : ℕ) {after : List ℕ} {q : Bool} → q ≡ flipped 1 p → after ≡ pushed stack b → done 0 (held after q t v) ≡ eventOf (held stack p t v) (Push b)
+  pushed-one b eq ea = ap₂ (λ (l : List ℕ) (x : Bool). done 0 (held l x t v)) ea eq ∙ sym (push-done (held stack p t v) b h)
+
+  pub popped-one : (after : List ℕ) (q : Bool) {b : ℕ} → q ≡ flipped 1 p → after ≡ popped stack → b ≡ topByte stack → done b (held after q t v) ≡ eventOf (held stack p t v) Pop
+  popped-one after q eq ea eb =
+      ap (λ (x : ℕ). done x (held after q t v)) eb
+      ∙ ap₂ (λ (l : List ℕ) (x : Bool). done (topByte stack) (held l x t v)) ea eq ∙ sym (pop-done (held stack p t v) h)
+
+  pub read-one : done t (held stack p t v) ≡ eventOf (held stack p t v) Status
+  unfolding readOf
+  read-one = rw (lt-leb 128 t h)
+
+  pub reset-one : {s : State} → s ≡ resetState → done 0 s ≡ eventOf (held stack p t v) Reset
+  unfolding resetOf
+  reset-one e = ap (done 0) e ∙ rw (lt-leb 128 t h)
+
+  pub acknowledged-one : done 0 (held stack p t false) ≡ eventOf (held stack p t v) Acknowledge
+  unfolding acknowledgeOf
+  acknowledged-one = rw (lt-leb 128 t h)
+
+-- a busy state is handed back by every event
+pub busy-event : (s : State) (e : Event) → 128 ≤ s .status → refused BadState s ≡ eventOf s e
+unfolding pushOf popOf resetOf acknowledgeOf readOf commandUnder
+busy-event s (Push b) h = rw (le-leb 128 (s .status) h)
+busy-event s Pop h = rw (le-leb 128 (s .status) h)
+busy-event s (CommandEvent code) h = rw (le-leb 128 (s .status) h)
+busy-event s Status h = rw (le-leb 128 (s .status) h)
+busy-event s Reset h = rw (le-leb 128 (s .status) h)
+busy-event s Acknowledge h = rw (le-leb 128 (s .status) h)
+
+-- ---- a code
+-- a known command with nothing pending is answered as its row says
+pub obeyed : (pending : Bool) (code : ℕ) (before after : List ℕ) (k : Kind) (command : Command) (o : Obeyed)
+    → k ≡ kindOf (code % 128) → k ≡ Known command → pending ≡ false → Obeys command before after o → Commanded pending code before after o
+obeyed pending code before after k command (Done status) ek el ep w = record {
+  answer-is = λ (s : State) es eq h. command-by baseRule s code h ek el
+      (carried-done baseRule s (sr code) command (eq ∙ ep) (ap (properOperands command) es ∙ w .0) (w .1 ∙ ap (outcomeOf baseRule command) (sym es)) refl);
+  keeps = tt;
+}
+obeyed pending code before after k command (Refused refusal) ek el ep w = record {
+  answer-is = λ (s : State) es eq h. command-by baseRule s code h ek el
+      (carried-improper baseRule s (sr code) command (eq ∙ ep) (ap (properOperands command) es ∙ w .0) (ap (λ r. refused r s) (w .1)));
+  keeps = w .2;
+}
+
+module _ (stack after : List ℕ) (p : Bool) (t : ℕ) (v : Bool) (code : ℕ) (o : Obeyed) (h : t < 128) (w : Commanded p code stack after o) where
+  pub done-as : (status : ℕ) {x : Bool} → o ≡ Done status → x ≡ sr code → done 0 (held after p status x) ≡ commandOf (held stack p t v) code
+  done-as status e f =
+      ap (λ (y : Bool). done 0 (held after p status y)) f
+      ∙ ap (answered (held stack p t v) code after) (sym e)
+      ∙ w .answer-is (held stack p t v) refl refl h
+
+  pub refused-as : (r : Refusal) → o ≡ Refused r → refused r (held after p t v) ≡ commandOf (held stack p t v) code
+  refused-as r e =
+      ap (λ (l : List ℕ). refused r (held l p t v)) (subst (Keeps stack after) e (w .keeps))
+      ∙ ap (answered (held stack p t v) code after) (sym e)
+      ∙ w .answer-is (held stack p t v) refl refl h

@@ -1,0 +1,48 @@
+-- A state in two parts, the stack where it lies and the rest beside it, and what the code that works there has to say of both. Definitions only. Assumes nothing.
+use Prim.Native.Nat.{ℕ, _%_, _<_}
+use mathlib.Core.Path.{_≡_}
+use mathlib.Core.Bool.{Bool, true, false, cond, not}
+use mathlib.Core.List.{List}
+use lib.Dec.{eqb}
+use Rattle.terms.specs.declared.Refusal.the-variants.{Improper}
+use Rattle.codes.specs.declared.Command.{Command}
+use Rattle.codes.specs.Codes.{sr}
+use Rattle.chip.specs.declared.State.{State}
+use Rattle.chip.specs.declared.Answer.{Answer}
+use Rattle.chip.specs.declared.commands.Obeyed.{Obeyed}
+use Rattle.chip.specs.declared.commands.Obeyed.the-variants.{Done, Refused}
+use Rattle.chip.specs.declared.place.Left.{Left}
+use Rattle.chip.specs.State.{left, settled}
+use Rattle.chip.specs.Commands.{baseRule, outcomeOf, properOperands}
+use Rattle.chip.specs.Step.{done, refused, commandOf}
+
+-- the state of a stack and of what stands beside it
+abbrev pub held : List ℕ → Bool → ℕ → Bool → State
+held stack pending status service = record { stack = stack; pending = pending; status = status; service = service }
+
+-- pending after n bytes pushed or popped
+abbrev pub flipped : ℕ → Bool → Bool
+flipped n pending = cond (eqb (n % 2) 1) (not pending) pending
+
+-- a known command on a stack: done where its operands are proper, else 4 and the stack as it was
+abbrev pub Obeys : Command → List ℕ → List ℕ → Obeyed → Type 0
+Obeys command before after (Done status) = (properOperands command before ≡ true) × (left after status ≡ outcomeOf baseRule command before)
+Obeys command before after (Refused refusal) = (properOperands command before ≡ false) × (refusal ≡ Improper) × (after ≡ before)
+
+-- the answer to a code, and what its refusal leaves of the stack
+abbrev pub answered : State → ℕ → List ℕ → Obeyed → Answer
+answered s code after (Done status) = done 0 (settled s (sr code) (left after status))
+answered s code after (Refused refusal) = refused refusal s
+
+abbrev pub Keeps : List ℕ → List ℕ → Obeyed → Type 0
+Keeps before after (Done status) = Unit
+Keeps before after (Refused refusal) = after ≡ before
+
+-- a code on a stack, whatever stands beside it but pending
+pub record Commanded (pending : Bool) (code : ℕ) (before after : List ℕ) (o : Obeyed) : Type 0 where
+  pub answer-is : (s : State) → s .stack ≡ before → s .pending ≡ pending → s .status < 128 → answered s code after o ≡ commandOf s code
+  pub keeps : Keeps before after o
+
+-- the answer that an event in place makes with the stack it leaves
+abbrev pub answerBy : Left → List ℕ → Answer
+answerBy l stack = record { refusal = l .refusal; byte = l .byte; state = held stack (l .pending) (l .status) (l .service) }

@@ -1,0 +1,181 @@
+// The events where the stack lies, on a state that is not busy: the rest of the state goes in and
+// comes back by value beside it. Blocks of bytes are worked at once.
+use super::Event;
+use super::commands::Obeyed;
+use super::commands::perform;
+use codes::Kind;
+use stack::shift;
+use terms::Refusal;
+ghost use mathlib.Core.Path.{_≡_};
+ghost use mathlib.Core.List.{_++_};
+ghost use Prim.Native.Nat.{_≤_, _<_};
+ghost use lib.ListN.{length, drop};
+ghost use Rattle.stack.specs.Stack.{pushedAll, poppedAll, handedOut};
+ghost use Rattle.chip.specs.State.{resetState};
+ghost use Rattle.chip.specs.Step.{eventOf};
+ghost use Rattle.chip.specs.Place.{held, flipped, Commanded, answerBy};
+
+// The state without its stack.
+pub struct Flags {
+    pub pending: bool,
+    pub status: u8,
+    pub service: bool,
+}
+
+// What an event leaves beside the stack, with the refusal and the byte read.
+pub struct Left {
+    pub refusal: Refusal,
+    pub byte: u8,
+    pub pending: bool,
+    pub status: u8,
+    pub service: bool,
+}
+
+// Pending after n bytes pushed or popped.
+fn turned(pending: bool, n: usize) -> bool
+    ensures { λ r. ⌜ r ≡ flipped n pending ⌝ }
+{
+    if n % 2 == 1 { !pending } else { pending }
+}
+
+// Bytes pushed in order: pending after them.
+pub fn push(stack: &mut [u8], pending: bool, bytes: &[u8]) -> bool
+    requires { ⌜ length (now stack) ≡ 16 ⌝ }
+    ensures { λ r. ⌜ (r ≡ flipped (length (now (bytes .entry))) pending) × (now (stack .exit) ≡ pushedAll (now (stack .entry)) (now (bytes .entry))) ⌝ }
+{
+    shift::push_all(stack, bytes);
+    turned(pending, bytes.len())
+}
+
+// n bytes popped to the front of `room`: pending after them.
+pub fn pop(stack: &mut [u8], pending: bool, n: usize, room: &mut [u8]) -> bool
+    requires { ⌜ (length (now stack) ≡ 16) × (n ≤ length (now room)) ⌝ }
+    ensures { λ r. ⌜ (r ≡ flipped n pending) × (now (stack .exit) ≡ poppedAll n (now (stack .entry))) × (now (room .exit) ≡ handedOut n (now (stack .entry)) ++ drop n (now (room .entry))) ⌝ }
+{
+    shift::pop_all(stack, n, room);
+    turned(pending, n)
+}
+
+// A command by its code: refusals in the order 1, 2, 3, 4.
+pub fn command(stack: &mut [u8], pending: bool, code: u8) -> Obeyed
+    requires { ⌜ length (now stack) ≡ 16 ⌝ }
+    ensures { λ o. ⌜ Commanded pending code (now (stack .entry)) (now (stack .exit)) o ⌝ }
+{
+    let kind = codes::decode(code);
+    match kind {
+        Kind::Known(command) => {
+            if pending {
+                return Obeyed::Refused(Refusal::HalfWord);
+            }
+            perform(stack, command)
+        }
+        Kind::Derived => Obeyed::Refused(Refusal::DerivedCode),
+        Kind::Unknown => Obeyed::Refused(Refusal::UnknownCode),
+    }
+}
+
+fn push_one(stack: &mut [u8], f: Flags, byte: u8) -> Left
+    requires { ⌜ (length (now stack) ≡ 16) × (f .status < 128) ⌝ }
+    ensures { λ r. ⌜ answerBy r (now (stack .exit)) ≡ eventOf (held (now (stack .entry)) (f .pending) (f .status) (f .service)) (Event.Push byte) ⌝ }
+{
+    let bytes = [byte];
+    let pending = push(stack, f.pending, &bytes);
+    Left {
+        refusal: Refusal::Done,
+        byte: 0,
+        pending,
+        status: f.status,
+        service: f.service,
+    }
+}
+
+fn pop_one(stack: &mut [u8], f: Flags) -> Left
+    requires { ⌜ (length (now stack) ≡ 16) × (f .status < 128) ⌝ }
+    ensures { λ r. ⌜ answerBy r (now (stack .exit)) ≡ eventOf (held (now (stack .entry)) (f .pending) (f .status) (f .service)) Event.Pop ⌝ }
+{
+    let mut bytes = [0u8; 1];
+    let pending = pop(stack, f.pending, 1, &mut bytes);
+    Left {
+        refusal: Refusal::Done,
+        byte: bytes[0],
+        pending,
+        status: f.status,
+        service: f.service,
+    }
+}
+
+fn obey(stack: &mut [u8], f: Flags, code: u8) -> Left
+    requires { ⌜ (length (now stack) ≡ 16) × (f .status < 128) ⌝ }
+    ensures { λ r. ⌜ answerBy r (now (stack .exit)) ≡ eventOf (held (now (stack .entry)) (f .pending) (f .status) (f .service)) (Event.Command code) ⌝ }
+{
+    match command(stack, f.pending, code) {
+        Obeyed::Done(status) => Left {
+            refusal: Refusal::Done,
+            byte: 0,
+            pending: f.pending,
+            status,
+            service: codes::service(code),
+        },
+        Obeyed::Refused(refusal) => Left {
+            refusal,
+            byte: 0,
+            pending: f.pending,
+            status: f.status,
+            service: f.service,
+        },
+    }
+}
+
+// Reset: stack all zero, nothing pending, status 0, service line low.
+pub fn reset(stack: &mut [u8]) -> Flags
+    requires { ⌜ length (now stack) ≡ 16 ⌝ }
+    ensures { λ r. ⌜ held (now (stack .exit)) (r .pending) (r .status) (r .service) ≡ resetState ⌝ }
+{
+    shift::clear(stack);
+    Flags {
+        pending: false,
+        status: 0,
+        service: false,
+    }
+}
+
+fn clear(stack: &mut [u8], f: Flags) -> Left
+    requires { ⌜ (length (now stack) ≡ 16) × (f .status < 128) ⌝ }
+    ensures { λ r. ⌜ answerBy r (now (stack .exit)) ≡ eventOf (held (now (stack .entry)) (f .pending) (f .status) (f .service)) Event.Reset ⌝ }
+{
+    let after = reset(stack);
+    Left {
+        refusal: Refusal::Done,
+        byte: 0,
+        pending: after.pending,
+        status: after.status,
+        service: after.service,
+    }
+}
+
+// One event.
+pub fn event(stack: &mut [u8], f: Flags, event: Event) -> Left
+    requires { ⌜ (length (now stack) ≡ 16) × (f .status < 128) ⌝ }
+    ensures { λ r. ⌜ answerBy r (now (stack .exit)) ≡ eventOf (held (now (stack .entry)) (f .pending) (f .status) (f .service)) event ⌝ }
+{
+    match event {
+        Event::Push(byte) => push_one(stack, f, byte),
+        Event::Pop => pop_one(stack, f),
+        Event::Command(code) => obey(stack, f, code),
+        Event::Status => Left {
+            refusal: Refusal::Done,
+            byte: f.status,
+            pending: f.pending,
+            status: f.status,
+            service: f.service,
+        },
+        Event::Reset => clear(stack, f),
+        Event::Acknowledge => Left {
+            refusal: Refusal::Done,
+            byte: 0,
+            pending: f.pending,
+            status: f.status,
+            service: false,
+        },
+    }
+}

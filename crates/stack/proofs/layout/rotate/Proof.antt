@@ -1,0 +1,23 @@
+-- `stack::layout::rotate` meets its contract: the width is the number of bytes that move. Assumes nothing.
+use borrow.Author.Needs.{needs}
+use Rattle.stack.proofs.layout.rotate.Statement.{statement}
+use Rattle.stack.proofs.layout.rotate.Tie as tie
+
+returns : tie.Need-returns
+returns c = rw (c .before .before .before .before .enum-told .given .1) (c .before .before .turn .ensures)
+
+returns-2 : tie.Need-returns-2
+returns-2 c = rw (c .before .before .before .before .enum-told2 .given .1) (c .before .before .turn2 .ensures)
+
+pub rotate-spec : {M : Type 1} → statement M
+rotate-spec =
+    tie.close
+    (tie.spec
+    (λ c. search needs)
+    (λ c κs. search needs)
+    (λ c. search needs)
+    (λ c κs. search needs)
+    (λ c. search needs)
+    returns
+    (λ c. search needs)
+    returns-2)
