@@ -5,54 +5,64 @@
 enum { PENDING = 16, STATUS = 17, SERVICE = 18, STATE = 19, REPORT = 9, MOST_INPUT = 12288 };
 enum { OVERFLOW_ERROR = 1, UNDERFLOW_ERROR = 2, ROOT_ERROR = 4, DIVIDE_ERROR = 8 };
 
+/* a word of two or four bytes, most significant first */
 static uint32_t get(const uint8_t *p, int n)
 {
-    uint32_t w = 0;
-    for (int i = 0; i < n; i++)
-        w = w << 8 | p[i];
-    return w;
+    uint32_t w = (uint32_t)p[0] << 8 | p[1];
+    return n == 2 ? w : w << 16 | (uint32_t)p[2] << 8 | p[3];
 }
 
 static void put(uint8_t *p, int n, uint32_t w)
 {
-    for (int i = n - 1; i >= 0; i--, w >>= 8)
-        p[i] = (uint8_t)w;
+    if (n == 4) {
+        p[0] = (uint8_t)(w >> 24);
+        p[1] = (uint8_t)(w >> 16);
+        p += 2;
+    }
+    p[0] = (uint8_t)(w >> 8);
+    p[1] = (uint8_t)w;
 }
 
-/* to and from may overlap; the lower place is the target */
-static void move_up(uint8_t *to, const uint8_t *from, int n)
+/* n of the stack's bytes from one place to another; the numbers are constants, so that these are moves of words */
+#define MOVE(to, from, n) __builtin_memmove((to), (from), (n))
+#define CLEAR(p, n) __builtin_memset((p), 0, (n))
+
+/* n bytes pushed in order, at most 16 */
+static void push(uint8_t *s, const uint8_t *p, uint32_t n)
 {
-    for (int i = 0; i < n; i++)
-        to[i] = from[i];
+    if (n == 4) {
+        MOVE(s + 4, s, 12);
+        put(s, 4, (uint32_t)p[3] << 24 | (uint32_t)p[2] << 16 | (uint32_t)p[1] << 8 | p[0]);
+    } else if (n == 8) {
+        MOVE(s + 8, s, 8);
+        put(s + 4, 4, (uint32_t)p[3] << 24 | (uint32_t)p[2] << 16 | (uint32_t)p[1] << 8 | p[0]);
+        put(s, 4, (uint32_t)p[7] << 24 | (uint32_t)p[6] << 16 | (uint32_t)p[5] << 8 | p[4]);
+    } else {
+        for (uint32_t i = 0; i < n; i++) {
+            MOVE(s + 1, s, 15);
+            s[0] = p[i];
+        }
+    }
+    s[PENDING] ^= n & 1;
 }
 
-/* the same with the higher place as the target */
-static void move_down(uint8_t *to, const uint8_t *from, int n)
+/* n bytes popped, at most 16 */
+static void pop(uint8_t *s, uint8_t *out, uint32_t n)
 {
-    for (int i = n - 1; i >= 0; i--)
-        to[i] = from[i];
-}
-
-static void clear(uint8_t *p, int n)
-{
-    for (int i = 0; i < n; i++)
-        p[i] = 0;
-}
-
-static void push(uint8_t *s, uint8_t b)
-{
-    move_down(s + 1, s, 15);
-    s[0] = b;
-    s[PENDING] ^= 1;
-}
-
-static uint8_t pop(uint8_t *s)
-{
-    uint8_t b = s[0];
-    move_up(s, s + 1, 15);
-    s[15] = b;
-    s[PENDING] ^= 1;
-    return b;
+    uint8_t t[4];
+    if (n == 4) {
+        MOVE(t, s, 4);
+        MOVE(out, t, 4);
+        MOVE(s, s + 4, 12);
+        MOVE(s + 12, t, 4);
+    } else {
+        for (uint32_t i = 0; i < n; i++) {
+            out[i] = t[0] = s[0];
+            MOVE(s, s + 1, 15);
+            s[15] = t[0];
+        }
+    }
+    s[PENDING] ^= n & 1;
 }
 
 /* the status that an accepted command leaves, by the new top of n bytes */
@@ -97,7 +107,10 @@ static void fixed(uint8_t *s, int n, uint32_t digit, uint32_t sr)
         else
             error = exact > high || exact < low;
     }
-    move_up(s, s + n, 16 - n);
+    if (n == 2)
+        MOVE(s, s + 2, 14);
+    else
+        MOVE(s, s + 4, 12);
     put(s, n, (uint32_t)(uint64_t)exact);
     put(s + 16 - n, n, kept ? a : 0);
     settle(s, n, error, carry, sr);
@@ -173,8 +186,8 @@ static uint32_t floating(uint8_t *s, uint32_t code, uint32_t sr)
     default: r = quotient(b, a, &error); break;
     }
     put(s, 4, r);
-    move_up(s + 4, s + 8, 8);
-    clear(s + 12, 4);
+    MOVE(s + 4, s + 8, 8);
+    CLEAR(s + 12, 4);
     settle(s, 4, error, 0, sr);
     return 0;
 }
@@ -206,7 +219,7 @@ static uint32_t root(uint8_t *s, uint32_t sr)
     int e = exponent(a), shift = e % 2 ? 23 : 24;
     if (a)
         put(s, 4, cut(0, whole_root((uint64_t)(a & 0xFFFFFF) << shift), (e - 24 - shift) / 2, &error));
-    clear(s + 12, 4);
+    CLEAR(s + 12, 4);
     settle(s, 4, error, 0, sr);
     return 0;
 }
@@ -218,15 +231,15 @@ static uint32_t fix(uint8_t *s, int n, uint32_t sr)
     if (!is_proper(a))
         return 4;
     int e = exponent(a);
-    clear(s + 12, 4);
+    CLEAR(s + 12, 4);
     if (e > (n == 2 ? 15 : 31)) {
         settle(s, 4, OVERFLOW_ERROR, 0, sr);
         return 0;
     }
     uint64_t m = a & 0xFFFFFF, whole = e <= 0 ? 0 : e <= 24 ? m >> (24 - e) : m << (e - 24);
     if (n == 2) {
-        move_up(s + 2, s + 4, 8);
-        clear(s + 10, 6);
+        MOVE(s + 2, s + 4, 8);
+        CLEAR(s + 10, 6);
     }
     put(s, n, a >> 31 ? 0u - (uint32_t)whole : (uint32_t)whole);
     settle(s, n, 0, 0, sr);
@@ -239,9 +252,9 @@ static void flt(uint8_t *s, int n, uint32_t sr)
     int64_t x = extend(get(s, n), n);
     uint32_t error = 0, r = cut(x < 0, (uint64_t)(x < 0 ? -x : x), 0, &error);
     if (n == 2)
-        move_down(s + 4, s + 2, 8);
+        MOVE(s + 4, s + 2, 8);
     put(s, 4, r);
-    clear(s + 12, 4);
+    CLEAR(s + 12, 4);
     settle(s, 4, 0, 0, sr);
 }
 
@@ -261,14 +274,20 @@ static void change_float_sign(uint8_t *s, uint32_t sr)
 
 static void copy_top(uint8_t *s, int n, uint32_t sr)
 {
-    move_down(s + n, s, 16 - n);
+    if (n == 2)
+        MOVE(s + 2, s, 14);
+    else
+        MOVE(s + 4, s, 12);
     settle(s, n, 0, 0, sr);
 }
 
 static void roll(uint8_t *s, int n, uint32_t sr)
 {
     uint32_t a = get(s, n);
-    move_up(s, s + n, 16 - n);
+    if (n == 2)
+        MOVE(s, s + 2, 14);
+    else
+        MOVE(s, s + 4, 12);
     put(s + 16 - n, n, a);
     settle(s, n, 0, 0, sr);
 }
@@ -283,7 +302,7 @@ static void exchange(uint8_t *s, int n, uint32_t sr)
 
 static void push_pi(uint8_t *s, uint32_t sr)
 {
-    move_down(s + 4, s, 12);
+    MOVE(s + 4, s, 12);
     put(s, 4, 0x02C90FDA);
     settle(s, 4, 0, 0, sr);
 }
@@ -339,11 +358,11 @@ uint32_t plain_event(uint8_t *state, size_t state_length, uint32_t kind, uint8_t
     if (bad_state(state, state_length))
         return 13 * 256;
     switch (kind) {
-    case 1: push(state, byte); return 0;
-    case 2: return pop(state);
+    case 1: push(state, &byte, 1); return 0;
+    case 2: pop(state, &byte, 1); return byte;
     case 3: return 256 * command(state, byte);
     case 4: return state[STATUS];
-    case 5: clear(state, STATE); return 0;
+    case 5: CLEAR(state, STATE); return 0;
     case 6: state[SERVICE] = 0; return 0;
     default: return 5 * 256;
     }
@@ -378,7 +397,7 @@ static uint32_t look(const uint8_t *in, size_t left, uint32_t *kind, uint32_t *p
 
 static uint32_t away(uint8_t *report, uint32_t refusal)
 {
-    clear(report, REPORT);
+    CLEAR(report, REPORT);
     report[0] = (uint8_t)refusal;
     return refusal;
 }
@@ -404,16 +423,17 @@ uint32_t plain_run(uint8_t *state, size_t state_length, const uint8_t *input, si
         if (refusal)
             break;
         if (kind == 1) {
-            for (uint32_t i = 0; i < payload; i++)
-                push(state, in[4 + i]);
+            push(state, in + 4, payload);
         } else if (kind == 2) {
-            for (uint32_t i = 0; i < data; i++)
-                out[5 + i] = pop(state);
+            pop(state, out + 5, data);
+        } else if (kind == 3) {
+            answer = command(state, in[4]);
+        } else if (kind == 4) {
+            out[5] = state[STATUS];
+        } else if (kind == 5) {
+            CLEAR(state, STATE);
         } else {
-            answer = plain_event(state, STATE, kind, payload ? in[4] : 0);
-            if (kind == 4)
-                out[5] = (uint8_t)answer;
-            answer >>= 8;
+            state[SERVICE] = 0;
         }
         out[0] = (uint8_t)(3 + data);
         out[1] = 0;
