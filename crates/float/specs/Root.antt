@@ -13,7 +13,7 @@ use Rattle.float.specs.declared.Flagged.{Flagged}
 use Rattle.float.specs.Word.{negative, mantissa, exponent, size88}
 use Rattle.float.specs.Cut.{fine, zeroWord, cutSize}
 
--- ---- what ask 1 and 01 say: m and e of the root of n / 2 ^ 88, e unbounded, are the one pair with m the whole part of that root times 2 ^ (24 - e)
+-- ---- what request 1 and 01 say: m and e of the root of n / 2 ^ 88, e unbounded, are the one pair with m the whole part of that root times 2 ^ (24 - e)
 -- and 2 ^ 23 <= m < 2 ^ 24. By comparing squares: that of m * 2 ^ (e - 24) reaches n / 2 ^ 88, that of (m + 1) * 2 ^ (e - 24) passes it
 -- 2 * (e - 24), the exponent of the square of m * 2 ^ (e - 24)
 abbrev pub squareExponent : ℤ → ℤ
@@ -37,7 +37,7 @@ pub record Roots (n : ℕ) (r : Flagged) : Type 0 where
   pub least : negℤ (pos 32) ≤ℤ e
   pub most : e ≤ℤ pos 32
 
--- what ask 1 wants of SQRT: zero for zero, A and the error of a negative root for a negative word, else the root
+-- what request 1 wants of SQRT: zero for zero, A and the error of a negative root for a negative word, else the root
 abbrev pub ExactlyRoot : ℕ → Flagged → Type 0
 ExactlyRoot a r =
     ((size88 a ≡ 0) × (r ≡ zeroWord)) ⊎ ((negative a ≡ true) × (r ≡ record { word = a; error = negativeRoot })) ⊎ ((negative a ≡ false) × Roots (size88 a) r)

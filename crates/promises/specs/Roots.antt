@@ -1,4 +1,4 @@
--- Ask 1 of document 02, SQRT: what the command leaves, the root in whole numbers, the order that it keeps, and a table of roots through the
+-- Request 1 of document 02, SQRT: what the command leaves, the root in whole numbers, the order that it keeps, and a table of roots through the
 -- whole step. Definitions and the statements only: proofs/Rooted.antt proves them. Assumes nothing.
 use Prim.Native.Nat.{ℕ, _^_, _<_}
 use mathlib.Core.Path.{_≡_}
