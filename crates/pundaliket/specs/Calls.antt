@@ -13,9 +13,12 @@ use Rattle.terms.specs.Limits.{reportBytes, mostInput}
 use Rattle.chip.specs.declared.State.{State}
 use Rattle.chip.specs.declared.Answer.{Answer}
 use Rattle.chip.specs.Step.{pushOf, popOf, readOf, resetOf, acknowledgeOf, commandOf}
+use Rattle.chip.specs.Step.{eventOf as answerTo}
 use Rattle.host.specs.declared.Reply.{Reply}
 use Rattle.records.specs.Run.{Outcome, runOf}
 use Rattle.stored.specs.Bytes.{isState, stateOf, bytesOf, reportOf}
+use Rattle.pundaliket.specs.declared.Named.{Named}
+use Rattle.pundaliket.specs.declared.Named.the-variants.{Known, Unknown}
 
 -- ---- the run
 
@@ -67,6 +70,15 @@ eventOf s kind byte =
     (cond (eqb kind 5) (resetOf s)
     (cond (eqb kind 6) (acknowledgeOf s)
     (record { refusal = NoSuchKind; byte = 0; state = s }))))))
+
+-- the answer to what a kind names: the event's, or 5
+abbrev pub answeredBy : State → Named → Answer
+answeredBy s (Known e) = answerTo s e
+answeredBy s Unknown = record { refusal = NoSuchKind; byte = 0; state = s }
+
+-- a kind and a byte name it: its answer is theirs on every state
+abbrev pub Names : ℕ → ℕ → Named → Type 0
+Names kind byte n = (s : State) → answeredBy s n ≡ eventOf s kind byte
 
 -- what the call returns, and what the state holds after
 pub record Signal : Type 0 where

@@ -1,7 +1,9 @@
 // The calls that the rack controller's firmware makes, on byte slices that it lends. Every
 // call refuses by 01's number, asks nothing of its caller, and says what each slice holds after.
 use chip::Answer;
+use chip::Event;
 use chip::State;
+use chip::refuse;
 use host::Reply;
 use little::put_word;
 use records::run::run_all;
@@ -19,7 +21,7 @@ ghost use Rattle.records.specs.Run.{runOf};
 ghost use Rattle.terms.specs.Refusal.{numberOf};
 ghost use Rattle.terms.specs.Limits.{stateBytes, reportBytes};
 ghost use Rattle.stored.specs.Bytes.{stateOf, reportOf};
-ghost use Rattle.pundaliket.specs.Calls.{Calls, callOf, ranOf, eventOf, signalOf, Signals, sentOf, Sends};
+ghost use Rattle.pundaliket.specs.Calls.{Calls, callOf, ranOf, Names, eventOf, signalOf, Signals, sentOf, Sends};
 
 // The report of a call that is turned away: the refusal and two counts of 0.
 fn turn_away(report: &mut [u8], refusal: Refusal) -> u32
@@ -66,22 +68,34 @@ pub extern "C" fn pundaliket_run(
     run_good(state, input, replies, report)
 }
 
-// One event of a kind on a state; the byte is the one pushed or the code, else ignored.
+// What a kind names: an event of the bus, or none.
+pub enum Named {
+    Known(Event),
+    Unknown,
+}
+
+// The event of a kind; the byte is the one pushed or the code, else ignored.
+fn event_of(kind: u32, byte: u8) -> Named
+    ensures { λ r. ⌜ Names kind byte r ⌝ }
+{
+    match kind {
+        1 => Named::Known(Event::Push(byte)),
+        2 => Named::Known(Event::Pop),
+        3 => Named::Known(Event::Command(byte)),
+        4 => Named::Known(Event::Status),
+        5 => Named::Known(Event::Reset),
+        6 => Named::Known(Event::Acknowledge),
+        _ => Named::Unknown,
+    }
+}
+
+// One event of a kind on a state.
 fn event(s: State, kind: u32, byte: u8) -> Answer
     ensures { λ a. ⌜ a ≡ eventOf s kind byte ⌝ }
 {
-    match kind {
-        1 => s.push(byte),
-        2 => s.pop(),
-        3 => s.command(byte),
-        4 => s.status(),
-        5 => s.reset(),
-        6 => s.acknowledge(),
-        _ => Answer {
-            refusal: Refusal::NoSuchKind,
-            byte: 0,
-            state: s,
-        },
+    match event_of(kind, byte) {
+        Named::Known(e) => s.event(e),
+        Named::Unknown => refuse(Refusal::NoSuchKind, s),
     }
 }
 
