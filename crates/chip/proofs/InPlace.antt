@@ -2,11 +2,13 @@
 use mathlib.Core.Path.{_≡_, refl, sym, ap, ap₂, subst, _∙_}
 use mathlib.Core.Bool.{Bool, true, false, not}
 use mathlib.Core.List.{List}
-use Prim.Native.Nat.{ℕ, zero, suc, _%_, _≤_, _<_}
+use Prim.Native.Nat.{ℕ, zero, suc, _*_, _/_, _%_, _≤_, _<_}
 use native.Mathlib.Omega.{arith}
-use borrow.Author.Tests.{lt-leb, le-leb}
+use native.Mathlib.Nat.{not-suc-le-zero}
+use borrow.Author.Tests.{lt-leb, le-leb, lt-ltb, le-ltb}
 use Rattle.terms.specs.declared.Refusal.{Refusal}
-use Rattle.terms.specs.declared.Refusal.the-variants.{BadState}
+use Rattle.terms.specs.declared.Refusal.the-variants.{Improper, BadState}
+use Rattle.terms.specs.Refusal.{numberOf}
 use Rattle.stack.specs.Stack.{zeros, topByte, pushed, popped}
 use Rattle.codes.specs.declared.Command.{Command}
 use Rattle.codes.specs.declared.Kind.{Kind}
@@ -21,7 +23,7 @@ use Rattle.chip.specs.declared.commands.Obeyed.the-variants.{Done, Refus
 use Rattle.chip.specs.State.{left, moved, resetState, acknowledged, settled}
 use Rattle.chip.specs.Commands.{baseRule, outcomeOf, properOperands}
 use Rattle.chip.specs.Step.{done, refused, unlessBusy, carried, pushOf, popOf, resetOf, acknowledgeOf, readOf, commandUnder, commandOf, eventOf}
-use Rattle.chip.specs.Place.{held, flipped, Obeys, Keeps, Commanded, answered}
+use Rattle.chip.specs.Place.{held, flipped, Obeys, refusalOf, obeyedAs, Keeps, Commanded, answered}
 use Rattle.chip.proofs.Answers.{carried-improper, carried-done, command-by}
 use Rattle.chip.proofs.Turns.{turned, push-done, pop-done}
 
@@ -83,6 +85,39 @@ obeyed pending code before after k command (Refused refusal) ek el ep w = record
       (carried-improper baseRule s (sr code) command (eq ∙ ep) (ap (properOperands command) es ∙ w .0) (ap (λ r. refused r s) (w .1)));
   keeps = w .2;
 }
+
+-- ---- what became of it, as one number
+pub as-done : (n : ℕ) → n < 256 → obeyedAs n ≡ Done n
+as-done n h = rw (lt-ltb n 256 h)
+
+pub as-refused : (n : ℕ) → 256 ≤ n → obeyedAs n ≡ Refused (refusalOf (n / 256))
+as-refused n h = rw (le-ltb n 256 h)
+
+module _ (command : Command) (before after : List ℕ) {o : Obeyed} (w : Obeys command before after o) where
+  pub done-number : (status : ℕ) {n : ℕ} → o ≡ Done status → n ≡ status → n < 256 → Obeys command before after (obeyedAs n) × (n < 1280)
+  done-number status {n} e f h = (subst (Obeys command before after) (e ∙ ap Done (sym f) ∙ sym (as-done n h)) w, omega arith)
+
+  pub refused-number : (r : Refusal) {n : ℕ} → o ≡ Refused r → n ≡ numberOf r * 256 → Obeys command before after (obeyedAs n) × (n < 1280)
+  refused-number r {n} e f =
+      let i : r ≡ Improper = subst (Obeys command before after) e w .1 in
+      let m : n ≡ 1024 = f ∙ ap (λ (x : Refusal). numberOf x * 256) i in
+      (subst (Obeys command before after) (e ∙ ap Refused i ∙ ap obeyedAs (sym m)) w, omega arith)
+
+-- a code that no row answers
+pub turned-down : (pending : Bool) (code : ℕ) (before : List ℕ) (r : Refusal) {n : ℕ} → n ≡ numberOf r * 256 → numberOf r ≤ 4 → obeyedAs (numberOf r * 256) ≡ Refused r
+    → ((s : State) → s .stack ≡ before → s .pending ≡ pending → s .status < 128 → refused r s ≡ commandOf s code)
+    → Commanded pending code before before (obeyedAs n) × (n < 1280)
+turned-down pending code before r e h g f =
+    (subst (Commanded pending code before before) (sym (ap obeyedAs e ∙ g)) (record { answer-is = f; keeps = refl }), omega arith)
+
+-- the number of a refusal
+pub number-of : (n : ℕ) → 1 ≤ n → n ≤ 4 → n ≡ numberOf (refusalOf n)
+number-of zero h k = absurd (not-suc-le-zero h)
+number-of (suc zero) h k = refl
+number-of (suc (suc zero)) h k = refl
+number-of (suc (suc (suc zero))) h k = refl
+number-of (suc (suc (suc (suc zero)))) h k = refl
+number-of (suc (suc (suc (suc (suc n))))) h k = let y : ⊥ = omega arith in absurd y
 
 module _ (stack after : List ℕ) (p : Bool) (t : ℕ) (v : Bool) (code : ℕ) (o : Obeyed) (h : t < 128) (w : Commanded p code stack after o) where
   pub done-as : (status : ℕ) {x : Bool} → o ≡ Done status → x ≡ sr code → done 0 (held after p status x) ≡ commandOf (held stack p t v) code

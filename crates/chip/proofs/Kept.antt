@@ -12,9 +12,11 @@ use Rattle.codes.specs.declared.Kind.the-variants.{Known, Derived, Unknown}
 use Rattle.codes.specs.Codes.{sr, kindOf}
 use Rattle.chip.specs.declared.State.{State}
 use Rattle.chip.specs.declared.Answer.{Answer}
+use Rattle.chip.specs.declared.Event.{Event}
+use Rattle.chip.specs.declared.Event.the-variants.{Push, Pop, Command as CommandEvent, Status, Reset, Acknowledge}
 use Rattle.chip.specs.State.{busy}
-use Rattle.chip.specs.Commands.{properOperands}
-use Rattle.chip.specs.Step.{done, refused, unlessBusy, pushOf, popOf, resetOf, acknowledgeOf, readOf, carried, answerOf, commandUnder}
+use Rattle.chip.specs.Commands.{baseRule, properOperands}
+use Rattle.chip.specs.Step.{done, refused, unlessBusy, pushOf, popOf, resetOf, acknowledgeOf, readOf, carried, answerOf, commandUnder, eventOf}
 
 -- an answer to a state: done, or refused with that state
 abbrev pub Keeps : State → Answer → Type 0
@@ -59,3 +61,12 @@ answer-keeps rule s service Unknown = inr refl
 pub command-keeps : (rule : Rule) (s : State) (code : ℕ) → Keeps s (commandUnder rule s code)
 unfolding commandUnder
 command-keeps rule s code = unless-busy s _ (answer-keeps rule s (sr code) (kindOf (code % 128)))
+
+-- every event of the bus
+pub event-keeps : (s : State) (e : Event) → Keeps s (eventOf s e)
+event-keeps s (Push b) = push-keeps s b
+event-keeps s Pop = pop-keeps s
+event-keeps s (CommandEvent code) = command-keeps baseRule s code
+event-keeps s Status = read-keeps s
+event-keeps s Reset = reset-keeps s
+event-keeps s Acknowledge = acknowledge-keeps s

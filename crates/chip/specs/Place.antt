@@ -1,10 +1,11 @@
 -- A state in two parts, the stack where it lies and the rest beside it, and what the code that works there has to say of both. Definitions only. Assumes nothing.
-use Prim.Native.Nat.{ℕ, _%_, _<_}
+use Prim.Native.Nat.{ℕ, _/_, _%_, _<_}
 use mathlib.Core.Path.{_≡_}
 use mathlib.Core.Bool.{Bool, true, false, cond, not}
 use mathlib.Core.List.{List}
-use lib.Dec.{eqb}
-use Rattle.terms.specs.declared.Refusal.the-variants.{Improper}
+use lib.Dec.{eqb, ltb}
+use Rattle.terms.specs.declared.Refusal.{Refusal}
+use Rattle.terms.specs.declared.Refusal.the-variants.{UnknownCode, DerivedCode, HalfWord, Improper}
 use Rattle.codes.specs.declared.Command.{Command}
 use Rattle.codes.specs.Codes.{sr}
 use Rattle.chip.specs.declared.State.{State}
@@ -28,6 +29,14 @@ flipped n pending = cond (eqb (n % 2) 1) (not pending) pending
 abbrev pub Obeys : Command → List ℕ → List ℕ → Obeyed → Type 0
 Obeys command before after (Done status) = (properOperands command before ≡ true) × (left after status ≡ outcomeOf baseRule command before)
 Obeys command before after (Refused refusal) = (properOperands command before ≡ false) × (refusal ≡ Improper) × (after ≡ before)
+
+-- the refusal of a command by its number, 1 to 4
+abbrev pub refusalOf : ℕ → Refusal
+refusalOf n = cond (eqb n 1) UnknownCode (cond (eqb n 2) DerivedCode (cond (eqb n 3) HalfWord Improper))
+
+-- what became of a command as one number: the status that it leaves, or 256 times the refusal
+abbrev pub obeyedAs : ℕ → Obeyed
+obeyedAs n = cond (ltb n 256) (Done n) (Refused (refusalOf (n / 256)))
 
 -- the answer to a code, and what its refusal leaves of the stack
 abbrev pub answered : State → ℕ → List ℕ → Obeyed → Answer

@@ -3,17 +3,20 @@
 use super::Event;
 use super::commands::Obeyed;
 use super::commands::perform;
+use codes::Command;
 use codes::Kind;
 use stack::shift;
 use terms::Refusal;
+use terms::number;
 ghost use mathlib.Core.Path.{_≡_};
 ghost use mathlib.Core.List.{_++_};
-ghost use Prim.Native.Nat.{_≤_, _<_};
+ghost use Prim.Native.Nat.{_*_, _≤_, _<_};
 ghost use lib.ListN.{length, drop};
+ghost use Rattle.terms.specs.Refusal.{numberOf};
 ghost use Rattle.stack.specs.Stack.{pushedAll, poppedAll, handedOut};
 ghost use Rattle.chip.specs.State.{resetState};
 ghost use Rattle.chip.specs.Step.{eventOf};
-ghost use Rattle.chip.specs.Place.{held, flipped, Commanded, answerBy};
+ghost use Rattle.chip.specs.Place.{held, flipped, Obeys, Commanded, refusalOf, obeyedAs, answerBy};
 
 // The state without its stack.
 pub struct Flags {
@@ -56,21 +59,52 @@ pub fn pop(stack: &mut [u8], pending: bool, n: usize, room: &mut [u8]) -> bool
     turned(pending, n)
 }
 
-// A command by its code: refusals in the order 1, 2, 3, 4.
-pub fn command(stack: &mut [u8], pending: bool, code: u8) -> Obeyed
+// A refusal as a command answers it.
+fn refused(refusal: Refusal) -> u16
+    ensures { λ r. ⌜ r ≡ numberOf refusal * 256 ⌝ }
+{
+    number(refusal) as u16 * 256
+}
+
+// A known command with nothing pending: the status that it leaves, or 256 times the refusal.
+fn answer(stack: &mut [u8], command: Command) -> u16
     requires { ⌜ length (now stack) ≡ 16 ⌝ }
-    ensures { λ o. ⌜ Commanded pending code (now (stack .entry)) (now (stack .exit)) o ⌝ }
+    ensures { λ r. ⌜ Obeys command (now (stack .entry)) (now (stack .exit)) (obeyedAs r) × (r < 1280) ⌝ }
+{
+    match perform(stack, command) {
+        Obeyed::Done(status) => status as u16,
+        Obeyed::Refused(refusal) => refused(refusal),
+    }
+}
+
+// A command by its code, refusals in the order 1, 2, 3, 4: the status that it leaves, or 256 times
+// the refusal. One number, since an enum would come back through memory.
+pub fn command(stack: &mut [u8], pending: bool, code: u8) -> u16
+    requires { ⌜ length (now stack) ≡ 16 ⌝ }
+    ensures { λ r. ⌜ Commanded pending code (now (stack .entry)) (now (stack .exit)) (obeyedAs r) × (r < 1280) ⌝ }
 {
     let kind = codes::decode(code);
     match kind {
         Kind::Known(command) => {
             if pending {
-                return Obeyed::Refused(Refusal::HalfWord);
+                return refused(Refusal::HalfWord);
             }
-            perform(stack, command)
+            answer(stack, command)
         }
-        Kind::Derived => Obeyed::Refused(Refusal::DerivedCode),
-        Kind::Unknown => Obeyed::Refused(Refusal::UnknownCode),
+        Kind::Derived => refused(Refusal::DerivedCode),
+        Kind::Unknown => refused(Refusal::UnknownCode),
+    }
+}
+
+// The refusal of a command by its number, 1 to 4.
+fn refusal_of(n: u16) -> Refusal
+    ensures { λ r. ⌜ r ≡ refusalOf n ⌝ }
+{
+    match n {
+        1 => Refusal::UnknownCode,
+        2 => Refusal::DerivedCode,
+        3 => Refusal::HalfWord,
+        _ => Refusal::Improper,
     }
 }
 
@@ -108,21 +142,22 @@ fn obey(stack: &mut [u8], f: Flags, code: u8) -> Left
     requires { ⌜ (length (now stack) ≡ 16) × (f .status < 128) ⌝ }
     ensures { λ r. ⌜ answerBy r (now (stack .exit)) ≡ eventOf (held (now (stack .entry)) (f .pending) (f .status) (f .service)) (Event.Command code) ⌝ }
 {
-    match command(stack, f.pending, code) {
-        Obeyed::Done(status) => Left {
+    let answer = command(stack, f.pending, code);
+    if answer < 256 {
+        return Left {
             refusal: Refusal::Done,
             byte: 0,
             pending: f.pending,
-            status,
+            status: answer as u8,
             service: codes::service(code),
-        },
-        Obeyed::Refused(refusal) => Left {
-            refusal,
-            byte: 0,
-            pending: f.pending,
-            status: f.status,
-            service: f.service,
-        },
+        };
+    }
+    Left {
+        refusal: refusal_of(answer / 256),
+        byte: 0,
+        pending: f.pending,
+        status: f.status,
+        service: f.service,
     }
 }
 

@@ -1,22 +1,28 @@
 -- The ways through the exported calls: by their tests, which case of the definition holds. Assumes nothing.
-use mathlib.Core.Path.{_≡_, refl, sym, _∙_}
+use mathlib.Core.Path.{_≡_, refl, sym, ap, _∙_}
 use mathlib.Core.Bool.{Bool, true, false, not}
-use mathlib.Core.List.{List}
+use mathlib.Core.Logic.{_⊎_, ⊎-elim}
+use mathlib.Core.List.{List, _++_}
 use Prim.Native.Nat.{ℕ, _≤_, _<_}
 use native.Mathlib.Omega.{arith}
-use lib.ListN.{length}
+use lib.ListN.{length, take, drop, take-append-drop}
 use borrow.Author.Tests.{lt-ltb, le-ltb, eq-eqb, ne-eqb}
 use Rattle.little.specs.Little.{le4}
 use Rattle.terms.specs.declared.Refusal.{Refusal}
-use Rattle.terms.specs.declared.Refusal.the-variants.{NoRoom, InputTooLong, BadState}
+use Rattle.terms.specs.declared.Refusal.the-variants.{NoSuchKind, NoRoom, InputTooLong, BadState}
 use Rattle.terms.specs.Refusal.{numberOf}
 use Rattle.chip.specs.declared.State.{State}
 use Rattle.chip.specs.declared.Answer.{Answer}
+use Rattle.chip.specs.declared.Event.{Event}
+use Rattle.chip.specs.Step.{eventOf}
+use Rattle.chip.proofs.Kept.{event-keeps}
 use Rattle.host.specs.declared.Reply.{Reply}
 use Rattle.files.specs.Run.{Runs}
 use Rattle.records.specs.Run.{Outcome, runOf}
 use Rattle.stored.specs.Bytes.{isState, stateOf, bytesOf, reportOf}
-use Rattle.pundaliket.specs.Calls.{ranOf, away, callOf, Calls, eventOf, joinedOf, signalBy, signalOf, Signals, sentOf, Sends}
+use Rattle.pundaliket.specs.declared.Named.{Named}
+use Rattle.pundaliket.specs.declared.Named.the-variants.{Known, Unknown}
+use Rattle.pundaliket.specs.Calls.{ranOf, away, callOf, Calls, Names, joinedOf, signalBy, signalOf, Signals, sentOf, Sends}
 
 pub false-true : false ≡ true → ⊥
 false-true e = let z : _≡_ {A = ℕ} 0 1 = cc in omega arith
@@ -64,20 +70,33 @@ module _ (state input replies report : List ℕ) where
   unfolding callOf
   good a b d = rw (eq-eqb (length report) 9 a, b, le-ltb 12288 (length input) d)
 
--- a single event: turned away, refused, done
+-- a single event: refused, and the stack where it lies as it was, or done
+module _ (state : List ℕ) (e : Event) (a : Answer) (is : a ≡ eventOf (stateOf state) e) {n r : ℕ} (en : n ≡ numberOf (a .refusal)) (er : r ≡ joinedOf n (a .byte)) where
+  kept : (n ≡ 0 → ⊥) → a .state .stack ≡ take 16 state
+  kept g =
+      ⊎-elim (λ d. absurd (g (en ∙ ap numberOf (ap (λ (x : Answer). x .refusal) is ∙ d))))
+      (λ k. ap (λ (x : Answer). x .state .stack) (is ∙ k)) (event-keeps (stateOf state) e)
+
+  pub no-event : (n ≡ 0 → ⊥) → Signals (signalBy state (eventOf (stateOf state) e)) r (a .state .stack ++ drop 16 state)
+  no-event g = rw (← is, ← en, ne-eqb n 0 g) record { result-is = er; state-is = ap (λ (l : List ℕ). l ++ drop 16 state) (kept g) ∙ take-append-drop 16 state }
+
+  pub an-event : (left : List ℕ) → n ≡ 0 → left ≡ bytesOf (a .state) → Signals (signalBy state (eventOf (stateOf state) e)) r left
+  an-event left g d = rw (← is, ← en, eq-eqb n 0 g) record { result-is = er; state-is = d }
+
+-- an event by its kind: turned away, one that the kind names, or 5
 module _ (state : List ℕ) (kind byte : ℕ) where
   pub no-state : isState state ≡ false → (n r : ℕ) → n ≡ numberOf BadState → r ≡ joinedOf n 0 → Signals (signalOf state kind byte) r state
   unfolding signalOf
   no-state h n r e f = rw h record { result-is = f ∙ rw e; state-is = refl }
 
-  module _ (h : isState state ≡ true) (a : Answer) (is : a ≡ eventOf (stateOf state) kind byte) (n r : ℕ) (e : n ≡ numberOf (a .refusal)) (f : r ≡ joinedOf n (a .byte)) where
-    pub no-event : (n ≡ 0 → ⊥) → Signals (signalOf state kind byte) r state
+  module _ (h : isState state ≡ true) (m : Named) (is : Names kind byte m) where
+    pub named : (e : Event) (r : ℕ) (left : List ℕ) → m ≡ Known e → Signals (signalBy state (eventOf (stateOf state) e)) r left → Signals (signalOf state kind byte) r left
     unfolding signalOf
-    no-event g = rw (h, ← is, ← e, ne-eqb n 0 g) record { result-is = f; state-is = refl }
+    named e r left k w = rw (h, ← is (stateOf state), k) w
 
-    pub an-event : (left : List ℕ) → n ≡ 0 → left ≡ bytesOf (a .state) → Signals (signalOf state kind byte) r left
+    pub unnamed : (n r : ℕ) → m ≡ Unknown → n ≡ numberOf NoSuchKind → r ≡ joinedOf n 0 → Signals (signalOf state kind byte) r state
     unfolding signalOf
-    an-event left g d = rw (h, ← is, ← e, eq-eqb n 0 g) record { result-is = f; state-is = d }
+    unnamed n r k e f = rw (h, ← is (stateOf state), k) record { result-is = f ∙ rw e; state-is = refl }
 
 -- a conversion: a slice of another length, a refusal, the bits sent
 module _ (reply : Reply) (out : List ℕ) where

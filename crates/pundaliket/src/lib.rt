@@ -1,27 +1,27 @@
 // The calls that the rack controller's firmware makes, on byte slices that it lends. Every
 // call refuses by 01's number, asks nothing of its caller, and says what each slice holds after.
-use chip::Answer;
 use chip::Event;
-use chip::State;
-use chip::refuse;
+use chip::place;
 use host::Reply;
 use little::put_word;
 use records::run::run_all;
 use stored::fill_report;
+use stored::flags;
 use stored::is_state;
-use stored::load;
-use stored::store;
+use stored::put_flags;
 use terms::Refusal;
 use terms::number;
 ghost use mathlib.Core.Path.{_≡_};
+ghost use mathlib.Core.Bool.{true};
 ghost use Prim.Native.Nat.{_+_, _*_};
 ghost use lib.ListN.{length};
 ghost use Rattle.host.specs.Host.{hostOf, takenOf, hostReply, takenReply};
 ghost use Rattle.records.specs.Run.{runOf};
 ghost use Rattle.terms.specs.Refusal.{numberOf};
 ghost use Rattle.terms.specs.Limits.{stateBytes, reportBytes};
-ghost use Rattle.stored.specs.Bytes.{stateOf, reportOf};
-ghost use Rattle.pundaliket.specs.Calls.{Calls, callOf, ranOf, Names, eventOf, signalOf, Signals, sentOf, Sends};
+ghost use Rattle.chip.specs.Step.{eventOf};
+ghost use Rattle.stored.specs.Bytes.{isState, stateOf, reportOf};
+ghost use Rattle.pundaliket.specs.Calls.{Calls, callOf, ranOf, Names, signalBy, signalOf, Signals, sentOf, Sends};
 
 // The report of a call that is turned away: the refusal and two counts of 0.
 fn turn_away(report: &mut [u8], refusal: Refusal) -> u32
@@ -33,15 +33,14 @@ fn turn_away(report: &mut [u8], refusal: Refusal) -> u32
     n as u32
 }
 
-// The run on a good state: decoded once, run, encoded once, reported.
+// The run on a good state, its stack worked where it lies; reported.
 fn run_good(state: &mut [u8], input: &[u8], replies: &mut [u8], report: &mut [u8]) -> u32
     requires { ⌜ (length (now state) ≡ stateBytes) × (length (now report) ≡ reportBytes) ⌝ }
     ensures { λ r. ⌜ Calls (ranOf (runOf (stateOf (now (state .entry))) (now (input .entry)) (length (now (replies .entry)))) (now (replies .entry))) r (now (state .exit)) (now (replies .exit)) (now (report .exit)) ⌝ }
 {
-    let s = load(state);
-    let r = run_all(s, input, replies);
-    let after = r.state;
-    store(state, after);
+    let f = flags(state);
+    let r = run_all(&mut state[..16], f, input, replies);
+    put_flags(state, r.pending, r.status, r.service);
     fill_report(report, r.refusal, r.taken, r.written);
     r.refusal as u32
 }
@@ -89,21 +88,27 @@ fn event_of(kind: u32, byte: u8) -> Named
     }
 }
 
-// One event of a kind on a state.
-fn event(s: State, kind: u32, byte: u8) -> Answer
-    ensures { λ a. ⌜ a ≡ eventOf s kind byte ⌝ }
-{
-    match event_of(kind, byte) {
-        Named::Known(e) => s.event(e),
-        Named::Unknown => refuse(Refusal::NoSuchKind, s),
-    }
-}
-
 // 256 times a refusal plus a byte.
 fn joined(refusal: u8, byte: u8) -> u32
     ensures { λ r. ⌜ r ≡ 256 * refusal + byte ⌝ }
 {
     256 * refusal as u32 + byte as u32
+}
+
+// One event on a good state, where its stack lies; the bytes behind the stack are written on 0 alone.
+fn event(state: &mut [u8], e: Event) -> u32
+    requires { ⌜ isState (now state) ≡ true ⌝ }
+    ensures { λ r. ⌜ Signals (signalBy (now (state .entry)) (eventOf (stateOf (now (state .entry))) e)) r (now (state .exit)) ⌝ }
+{
+    let f = flags(state);
+    let left = place::event(&mut state[..16], f, e);
+    let refusal = left.refusal;
+    let n = number(refusal);
+    if n != 0 {
+        return joined(n, left.byte);
+    }
+    put_flags(state, left.pending, left.status, left.service);
+    joined(n, left.byte)
 }
 
 // One event on a state. Returns 256 times the refusal plus the byte read; a refused event writes nothing.
@@ -114,15 +119,10 @@ pub extern "C" fn pundaliket_event(state: &mut [u8], kind: u32, byte: u8) -> u32
     if !is_state(state) {
         return joined(number(Refusal::BadState), 0);
     }
-    let a = event(load(state), kind, byte);
-    let refusal = a.refusal;
-    let n = number(refusal);
-    if n != 0 {
-        return joined(n, a.byte);
+    match event_of(kind, byte) {
+        Named::Known(e) => event(state, e),
+        Named::Unknown => joined(number(Refusal::NoSuchKind), 0),
     }
-    let t = a.state;
-    store(state, t);
-    joined(n, a.byte)
 }
 
 // The reply of a conversion, its 32 bits to `out` on 0 alone; a slice that is not four bytes first.

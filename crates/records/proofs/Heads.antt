@@ -128,8 +128,8 @@ pub holds : (l : List ℕ) (e : Event) → headOf l ≡ Whole e → Holds l e
 holds l e h = subst (Reads l) h (heads (Reads l) (λ r s. s) l (λ d p. p))
 
 -- what the code needs of it
-pub fine : (l : List ℕ) (e : Event) → headOf l ≡ Whole e → (4 + payloadOf e ≤ length l) × (answeredOf e ≤ mostPayload) × Asks e
-fine l e h = (holds l e h .there, few l e (holds l e h), asks (getD l 4 0) e (holds l e h .carried))
+pub fine : (l : List ℕ) (e : Event) → headOf l ≡ Whole e → (4 + payloadOf e ≤ length l) × (payloadOf e ≤ mostPayload) × (answeredOf e ≤ mostPayload) × Asks e
+fine l e h = (holds l e h .there, holds l e h .small, few l e (holds l e h), asks (getD l 4 0) e (holds l e h .carried))
 
 -- a head that is a refusal is 5, 6 or 7
 pub stops : (l : List ℕ) (r : Refusal) → headOf l ≡ Stop r → Stops r

@@ -1,3 +1,4 @@
 -- The book of record files.
 pub mod Record
+pub mod Pass
 pub mod Run

@@ -2,9 +2,9 @@
 // that stops the run. Nothing is done here.
 use terms::Refusal;
 ghost use mathlib.Core.Path.{_≡_};
-ghost use Prim.Native.Nat.{_+_, _*_, _≤_, _<_};
-ghost use lib.ListN.{getD};
-ghost use Rattle.records.specs.Record.{kindOf, payloadOf, answeredOf, exactly, pushRow, popRow, rowOf, headOf};
+ghost use Prim.Native.Nat.{_+_, _*_, _≤_};
+ghost use lib.ListN.{length, getD};
+ghost use Rattle.records.specs.Record.{exactly, pushRow, popRow, rowOf, headOf};
 
 // The event of a record, one case for each kind of 01's table.
 pub enum Event {
@@ -25,67 +25,18 @@ pub enum Head {
     Stop(Refusal),
 }
 
-// 01's number of an event's kind.
-pub fn kind(event: Event) -> u8
-    ensures { λ r. ⌜ (r ≡ kindOf event) × (r < 128) ⌝ }
-{
-    match event {
-        Event::Push(_) => 1,
-        Event::Pop(_) => 2,
-        Event::Command(_) => 3,
-        Event::Status => 4,
-        Event::Reset => 5,
-        Event::Acknowledge => 6,
-    }
-}
-
-// The bytes of a record's payload.
-pub fn payload_bytes(event: Event) -> usize
-    ensures { λ r. ⌜ r ≡ payloadOf event ⌝ }
-{
-    match event {
-        Event::Push(n) => n,
-        Event::Pop(_) => 1,
-        Event::Command(_) => 1,
-        Event::Status => 0,
-        Event::Reset => 0,
-        Event::Acknowledge => 0,
-    }
-}
-
-// The bytes of data in a record's reply.
-pub fn data_bytes(event: Event) -> usize
-    ensures { λ r. ⌜ r ≡ answeredOf event ⌝ }
-{
-    match event {
-        Event::Push(_) => 0,
-        Event::Pop(n) => n,
-        Event::Command(_) => 0,
-        Event::Status => 1,
-        Event::Reset => 0,
-        Event::Acknowledge => 0,
-    }
-}
-
 // Two bytes, the low one first.
-fn word(lo: u8, hi: u8) -> usize
+fn word(lo: u8, hi: u8) -> u16
     ensures { λ r. ⌜ r ≡ lo + hi * 256 ⌝ }
 {
-    lo as usize + hi as usize * 256
+    lo as u16 + hi as u16 * 256
 }
 
-// The byte at a place, or 0 past the end.
-fn byte_at(rest: &[u8], i: usize) -> u8
-    ensures { λ r. ⌜ r ≡ getD (now (rest .entry)) i 0 ⌝ }
+// A payload of n bytes that must have none.
+fn bare(n: usize, event: Event) -> Head
+    ensures { λ r. ⌜ r ≡ exactly 0 n event ⌝ }
 {
-    if i < rest.len() { rest[i] } else { 0 }
-}
-
-// An event whose payload has n bytes and must have `wanted`.
-fn exact(wanted: usize, n: usize, event: Event) -> Head
-    ensures { λ r. ⌜ r ≡ exactly wanted n event ⌝ }
-{
-    if n != wanted {
+    if n != 0 {
         return Head::Stop(Refusal::BadLength);
     }
     Head::Whole(event)
@@ -101,14 +52,11 @@ fn push_row(n: usize) -> Head
     Head::Whole(Event::Push(n))
 }
 
-// A pop whose payload has n bytes, the first of them the count, 1 to 16.
-fn pop_row(n: usize, count: u8) -> Head
-    ensures { λ r. ⌜ r ≡ popRow n count ⌝ }
+// A pop of so many bytes, 1 to the most.
+fn pop_of(count: u8) -> Head
+    ensures { λ r. ⌜ r ≡ popRow 1 count ⌝ }
 {
     let bytes = count as usize;
-    if n != 1 {
-        return Head::Stop(Refusal::BadLength);
-    }
     if bytes < 1 {
         return Head::Stop(Refusal::BadLength);
     }
@@ -118,17 +66,40 @@ fn pop_row(n: usize, count: u8) -> Head
     Head::Whole(Event::Pop(bytes))
 }
 
-// The row of 01's table for a kind, a payload of n bytes and the first of them.
-fn row(kind: usize, n: usize, first: u8) -> Head
-    ensures { λ r. ⌜ r ≡ rowOf kind n first ⌝ }
+// A pop whose payload has n bytes, the first of them the count.
+fn pop_row(rest: &[u8], n: usize) -> Head
+    requires { ⌜ 4 + n ≤ length (now rest) ⌝ }
+    ensures { λ r. ⌜ r ≡ popRow n (getD (now (rest .entry)) 4 0) ⌝ }
+{
+    if n != 1 {
+        return Head::Stop(Refusal::BadLength);
+    }
+    pop_of(rest[4])
+}
+
+// A command whose payload has n bytes, the first of them the code.
+fn command_row(rest: &[u8], n: usize) -> Head
+    requires { ⌜ 4 + n ≤ length (now rest) ⌝ }
+    ensures { λ r. ⌜ r ≡ exactly 1 n (Event.Command (getD (now (rest .entry)) 4 0)) ⌝ }
+{
+    if n != 1 {
+        return Head::Stop(Refusal::BadLength);
+    }
+    Head::Whole(Event::Command(rest[4]))
+}
+
+// The row of 01's table for a kind and a payload of n bytes, which stand behind the four bytes of the head.
+fn row(kind: u16, n: usize, rest: &[u8]) -> Head
+    requires { ⌜ 4 + n ≤ length (now rest) ⌝ }
+    ensures { λ r. ⌜ r ≡ rowOf kind n (getD (now (rest .entry)) 4 0) ⌝ }
 {
     match kind {
         1 => push_row(n),
-        2 => pop_row(n, first),
-        3 => exact(1, n, Event::Command(first)),
-        4 => exact(0, n, Event::Status),
-        5 => exact(0, n, Event::Reset),
-        6 => exact(0, n, Event::Acknowledge),
+        2 => pop_row(rest, n),
+        3 => command_row(rest, n),
+        4 => bare(n, Event::Status),
+        5 => bare(n, Event::Reset),
+        6 => bare(n, Event::Acknowledge),
         _ => Head::Stop(Refusal::NoSuchKind),
     }
 }
@@ -141,7 +112,7 @@ pub fn read_head(rest: &[u8]) -> Head
     if left < 2 {
         return Head::Stop(Refusal::CutShort);
     }
-    let n = word(rest[0], rest[1]);
+    let n = word(rest[0], rest[1]) as usize;
     if n < terms::LEAST_LENGTH {
         return Head::Stop(Refusal::BadLength);
     }
@@ -151,7 +122,5 @@ pub fn read_head(rest: &[u8]) -> Head
     if left - 2 < n {
         return Head::Stop(Refusal::CutShort);
     }
-    let kind = word(rest[2], rest[3]);
-    let first = byte_at(rest, 4);
-    row(kind, n - 2, first)
+    row(word(rest[2], rest[3]), n - 2, rest)
 }

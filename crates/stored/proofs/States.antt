@@ -3,9 +3,10 @@ use mathlib.Core.Path.{_≡_, refl}
 use mathlib.Core.Bool.{Bool, true, false, cond, false≢true}
 use mathlib.Core.List.{List}
 use Prim.Native.Nat.{ℕ, _≤_, _<_}
-use lib.Dec.{eqb}
+use native.Mathlib.Omega.{arith}
+use lib.Dec.{eqb, ltb}
 use lib.ListN.{length, getD}
-use borrow.Author.Tests.{lt-ltb, le-ltb, eq-eqb, ne-eqb, eqb-true}
+use borrow.Author.Tests.{lt-ltb, le-ltb, eq-eqb, ne-eqb, eqb-true, ltb-false}
 use Rattle.terms.specs.Limits.{stateBytes}
 use Rattle.stored.specs.Bytes.{isState}
 
@@ -30,12 +31,24 @@ module _ (l : List ℕ) where
   unfolding isState
   is-good a b d e = simp (eq-eqb, le-ltb)
 
--- a test that must hold held
-first : (b x : Bool) → cond b x false ≡ true → b ≡ true
-first true x e = refl
-first false x e = absurd (false≢true e)
+-- a test that must hold held, and one that must not did not
+held : (b x : Bool) → cond b x false ≡ true → (b ≡ true) × (x ≡ true)
+held true x e = (refl, e)
+held false x e = absurd (false≢true e)
 
--- the length of a state
-pub state-length : (l : List ℕ) → isState l ≡ true → length l ≡ stateBytes
-unfolding isState
-state-length l h = eqb-true (length l) stateBytes (first (eqb (length l) stateBytes) _ h)
+failed : (b x : Bool) → cond b false x ≡ true → (b ≡ false) × (x ≡ true)
+failed true x e = absurd (false≢true e)
+failed false x e = (refl, e)
+
+-- the length of a state, and that it is not busy
+module _ (l : List ℕ) (h : isState l ≡ true) where
+  pub state-length : length l ≡ stateBytes
+  unfolding isState
+  state-length = eqb-true (length l) stateBytes (held (eqb (length l) stateBytes) _ h .0)
+
+  pub state-ready : getD l 17 0 < 128
+  unfolding isState
+  state-ready =
+      let flags = held (eqb (length l) stateBytes) _ h .1 in
+      let status = failed (ltb 1 (getD l 16 0)) _ flags .1 in
+      omega (arith, ltb-false 127 (getD l 17 0) (failed (ltb 127 (getD l 17 0)) _ status .0))

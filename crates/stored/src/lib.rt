@@ -1,9 +1,10 @@
 // The state as 19 bytes and the report as 9: the one place where their layout is known.
-use chip::State;
+use chip::place::Flags;
 use little::put_word;
 ghost use mathlib.Core.Path.{_≡_};
-ghost use lib.ListN.{length};
-ghost use Rattle.terms.specs.Limits.{stateBytes, reportBytes};
+ghost use lib.ListN.{length, take};
+ghost use Rattle.terms.specs.Limits.{stackBytes, stateBytes, reportBytes};
+ghost use Rattle.chip.specs.Place.{held};
 ghost use Rattle.stored.specs.Bytes.{isState, stateOf, flagOf, bytesOf, reportOf};
 
 // Whether the bytes stand for a state: 19 of them, both flags 0 or 1, busy clear.
@@ -25,25 +26,15 @@ pub fn is_state(state: &[u8]) -> bool
     true
 }
 
-// The state that 19 bytes stand for.
-pub fn load(state: &[u8]) -> State
+// The state beside the stack that 19 bytes stand for.
+pub fn flags(state: &[u8]) -> Flags
     requires { ⌜ length (now state) ≡ stateBytes ⌝ }
-    ensures { λ r. ⌜ r ≡ stateOf (now (state .entry)) ⌝ }
+    ensures { λ r. ⌜ held (take stackBytes (now (state .entry))) (r .pending) (r .status) (r .service) ≡ stateOf (now (state .entry)) ⌝ }
 {
-    let mut stack = [0u8; 16];
-    let mut i = 0;
-    while i < terms::STACK_BYTES {
-        stack[i] = state[i];
-        i += 1;
-    }
-    let pending = state[16] == 1;
-    let status = state[17];
-    let service = state[18] == 1;
-    State {
-        stack,
-        pending,
-        status,
-        service,
+    Flags {
+        pending: state[16] == 1,
+        status: state[17],
+        service: state[18] == 1,
     }
 }
 
@@ -54,20 +45,14 @@ fn flag(set: bool) -> u8
     if set { 1 } else { 0 }
 }
 
-// The 19 bytes of a state.
-pub fn store(state: &mut [u8], s: State)
+// The three bytes behind the stack, which stays.
+pub fn put_flags(state: &mut [u8], pending: bool, status: u8, service: bool)
     requires { ⌜ length (now state) ≡ stateBytes ⌝ }
-    ensures { λ _. ⌜ now (state .exit) ≡ bytesOf s ⌝ }
+    ensures { λ _. ⌜ now (state .exit) ≡ bytesOf (held (take stackBytes (now (state .entry))) pending status service) ⌝ }
 {
-    state[16] = flag(s.pending);
-    state[17] = s.status;
-    state[18] = flag(s.service);
-    let stack = s.stack;
-    let mut i = 0;
-    while i < terms::STACK_BYTES {
-        state[i] = stack[i];
-        i += 1;
-    }
+    state[16] = flag(pending);
+    state[17] = status;
+    state[18] = flag(service);
 }
 
 // The 9 bytes of a report.

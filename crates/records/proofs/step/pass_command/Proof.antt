@@ -1,0 +1,64 @@
+-- `records::step::pass_command` meets its contract: no room, a busy state, or what became of the code. Assumes nothing.
+use mathlib.Core.Path.{refl}
+use Prim.Native.Nat.{_/_}
+use native.Mathlib.Omega.{arith}
+use denote.Ref.{now}
+use Rattle.chip.specs.Step.{done, refused}
+use Rattle.chip.specs.Place.{held, refusalOf, obeyedAs}
+use Rattle.chip.proofs.InPlace.{as-done, as-refused, number-of, done-as, refused-as}
+use Rattle.records.specs.declared.head.Event.the-variants.{Command}
+use Rattle.records.specs.Pass.{stateAt}
+use Rattle.records.proofs.Turning.{no-room, away, took}
+use borrow.Author.Needs.{needs}
+use Rattle.records.proofs.step.pass_command.Statement.{statement}
+use Rattle.records.proofs.step.pass_command.Tie as tie
+
+returns : tie.Need-returns
+returns c =
+    let a = c .before .before .before .before .args in
+    λ file there. no-room (now (a .stack)) (a .f) (Command (a .code)) file (now (a .room)) (c .stop .ensures) (c .before .if1 .taken)
+
+returns-2 : tie.Need-returns-2
+returns-2 c =
+    let a = c .before .before .before .before .before .before .before .before .before .args in
+    λ file there. away (now (a .stack)) (a .f) (Command (a .code)) file (now (a .room)) (c .before .before .before .before .if2 .taken) tt (c .before .before .turn-away .ensures .0) (c .before .before .turn-away .ensures .1) there (c .before .before .before .before .before .before .if1 .left)
+
+returns-3 : tie.Need-returns-3
+returns-3 c =
+    let a = c .before .before .before .before .before .before .before .before .before .before .before .before .before .before .before .args in
+    let k = c .before .before .before .before .before .before .before .before .command in
+    let n = k .result in
+    λ file there. took (stateAt (now (a .stack)) (a .f)) (Command (a .code)) (done 0 (held (k .last .0) (a .f .pending) n (c .service .result))) file (now (a .room))
+    (done-as (now (a .stack)) (k .last .0) (a .f .pending) (a .f .status) (a .f .service) (a .code) (obeyedAs n) (c .before .before .before .before .before .before .before .before .before .before .if2 .left) (k .ensures .0) n (as-done n (c .before .before .before .before .before .if3 .taken)) (c .service .ensures))
+    refl refl (c .before .before .before .open-reply .ensures) there (c .before .before .before .before .before .before .before .before .before .before .before .before .if1 .left)
+
+returns-4 : tie.Need-returns-4
+returns-4 c =
+    let a = c .before .before .before .before .before .before .before .before .before .before .before .before .before .before .args in
+    let k = c .before .before .before .before .before .before .before .command in
+    let n = k .result in
+    λ file there. took (stateAt (now (a .stack)) (a .f)) (Command (a .code)) (refused (refusalOf (n / 256)) (held (k .last .0) (a .f .pending) (a .f .status) (a .f .service))) file (now (a .room))
+    (refused-as (now (a .stack)) (k .last .0) (a .f .pending) (a .f .status) (a .f .service) (a .code) (obeyedAs n) (c .before .before .before .before .before .before .before .before .before .if2 .left) (k .ensures .0) (refusalOf (n / 256)) (as-refused n (c .before .before .before .before .if3 .left)))
+    (number-of (n / 256) (omega (arith, c .before .before .before .before .if3 .left)) (omega (arith, k .ensures .1))) refl (c .before .before .open-reply2 .ensures) there (c .before .before .before .before .before .before .before .before .before .before .before .if1 .left)
+
+pub pass-command-spec : {M : Type 1} → statement M
+pass-command-spec =
+    tie.close
+    (tie.spec
+    (λ c κs. search needs)
+    returns
+    (λ c κs. search needs)
+    (λ c. search needs)
+    returns-2
+    (λ c κs. search needs)
+    (λ c κs. search needs)
+    (λ c. search needs)
+    (λ c κs. search needs)
+    (λ c. search needs)
+    (λ c. search needs)
+    returns-3
+    (λ c. search needs)
+    (λ c κs. search needs)
+    (λ c. search needs)
+    (λ c. search needs)
+    returns-4)

@@ -1,0 +1,257 @@
+// The record step, where the stack lies: what becomes of the record at the front of a file. A
+// worker for each kind of 01's table; a record is worked on only once its head is whole and its
+// reply has room, and its reply is written once, in place.
+use crate::head::Event;
+use crate::head::Head;
+use crate::head::read_head;
+use chip::place;
+use chip::place::Flags;
+use terms::Refusal;
+use terms::number;
+ghost use mathlib.Core.Path.{_≡_};
+ghost use mathlib.Core.List.{_∷_, _++_};
+ghost use Prim.Native.Nat.{_+_, _≤_, _<_};
+ghost use lib.ListN.{length, drop};
+ghost use Rattle.terms.specs.Limits.{mostPayload};
+ghost use Rattle.stack.specs.Stack.{zeros};
+ghost use Rattle.records.specs.Record.{Asks, le2, payloadOf, answeredOf, turnBy, turnOf};
+ghost use Rattle.records.specs.Pass.{stateAt, unchanged, turnedAway, Passed, Passes, PassesOver};
+
+// What became of a record: the refusal that stops the run or 0, the state beside the stack, the
+// bytes of the record and of its reply.
+pub struct Pass {
+    pub refusal: u8,
+    pub pending: bool,
+    pub status: u8,
+    pub service: bool,
+    pub size: usize,
+    pub reply: usize,
+}
+
+// The five bytes before a reply's n bytes of data, at the front of `room`.
+fn open_reply(room: &mut [u8], n: usize, kind: u8, refusal: u8)
+    requires { ⌜ (n ≤ mostPayload) × (5 ≤ length (now room)) × (kind < 128) ⌝ }
+    ensures { λ _. ⌜ now (room .exit) ≡ le2 (3 + n) ++ (le2 (kind + 128) ++ (refusal ∷ drop 5 (now (room .entry)))) ⌝ }
+{
+    room[0] = (3 + n) as u8;
+    room[1] = 0;
+    room[2] = kind + 128;
+    room[3] = 0;
+    room[4] = refusal;
+}
+
+// A record of which nothing is done.
+fn stop(refusal: Refusal, f: Flags) -> Pass
+    ensures { λ r. ⌜ r ≡ unchanged refusal f ⌝ }
+{
+    Pass {
+        refusal: number(refusal),
+        pending: f.pending,
+        status: f.status,
+        service: f.service,
+        size: 0,
+        reply: 0,
+    }
+}
+
+// Zeros to the front of `room`, so many.
+fn blank(room: &mut [u8], n: usize)
+    requires { ⌜ n ≤ length (now room) ⌝ }
+    ensures { λ _. ⌜ now (room .exit) ≡ zeros n ++ drop n (now (room .entry)) ⌝ }
+{
+    let mut i = 0;
+    while i < n {
+        room[i] = 0;
+        i += 1;
+    }
+}
+
+// A record that meets a busy state: 13, and zeros in the place of its n bytes of data.
+fn turn_away(f: Flags, room: &mut [u8], kind: u8, payload: usize, n: usize) -> Pass
+    requires { ⌜ (n ≤ mostPayload) × (5 + n ≤ length (now room)) × (kind < 128) × (payload ≤ mostPayload) ⌝ }
+    ensures { λ r. ⌜ (r ≡ turnedAway f payload n) × (now (room .exit) ≡ le2 (3 + n) ++ (le2 (kind + 128) ++ (13 ∷ (zeros n ++ drop n (drop 5 (now (room .entry))))))) ⌝ }
+{
+    blank(&mut room[5..], n);
+    open_reply(room, n, kind, number(Refusal::BadState));
+    Pass {
+        refusal: 0,
+        pending: f.pending,
+        status: f.status,
+        service: f.service,
+        size: 4 + payload,
+        reply: 5 + n,
+    }
+}
+
+// The n bytes of the payload pushed.
+fn pass_push(stack: &mut [u8], f: Flags, n: usize, rest: &[u8], room: &mut [u8]) -> Pass
+    requires { ⌜ (length (now stack) ≡ 16) × (1 ≤ n) × (n ≤ mostPayload) × (4 + n ≤ length (now rest)) ⌝ }
+    ensures { λ r. ⌜ Passed (turnBy (stateAt (now (stack .entry)) f) (now (rest .entry)) (length (now (room .entry))) (Head.Whole (Event.Push n))) r (now (stack .exit)) (now (rest .entry)) (now (room .entry)) (now (room .exit)) ⌝ }
+{
+    if room.len() < 5 {
+        return stop(Refusal::NoRoom, f);
+    }
+    if 128 <= f.status {
+        return turn_away(f, room, 1, n, 0);
+    }
+    let end = 4 + n;
+    let pending = place::push(stack, f.pending, &rest[4..end]);
+    open_reply(room, 0, 1, 0);
+    Pass {
+        refusal: 0,
+        pending,
+        status: f.status,
+        service: f.service,
+        size: end,
+        reply: 5,
+    }
+}
+
+// n bytes popped, each to its place in the reply.
+fn pass_pop(stack: &mut [u8], f: Flags, n: usize, room: &mut [u8]) -> Pass
+    requires { ⌜ (length (now stack) ≡ 16) × (1 ≤ n) × (n ≤ mostPayload) ⌝ }
+    ensures { λ r. ⌜ Passes (now (stack .entry)) f (Event.Pop n) r (now (stack .exit)) (now (room .entry)) (now (room .exit)) ⌝ }
+{
+    if room.len() < 5 + n {
+        return stop(Refusal::NoRoom, f);
+    }
+    if 128 <= f.status {
+        return turn_away(f, room, 2, 1, n);
+    }
+    let pending = place::pop(stack, f.pending, n, &mut room[5..]);
+    open_reply(room, n, 2, 0);
+    Pass {
+        refusal: 0,
+        pending,
+        status: f.status,
+        service: f.service,
+        size: 5,
+        reply: 5 + n,
+    }
+}
+
+// A command by its code.
+fn pass_command(stack: &mut [u8], f: Flags, code: u8, room: &mut [u8]) -> Pass
+    requires { ⌜ length (now stack) ≡ 16 ⌝ }
+    ensures { λ r. ⌜ Passes (now (stack .entry)) f (Event.Command code) r (now (stack .exit)) (now (room .entry)) (now (room .exit)) ⌝ }
+{
+    if room.len() < 5 {
+        return stop(Refusal::NoRoom, f);
+    }
+    if 128 <= f.status {
+        return turn_away(f, room, 3, 1, 0);
+    }
+    let answer = place::command(stack, f.pending, code);
+    if answer < 256 {
+        open_reply(room, 0, 3, 0);
+        return Pass {
+            refusal: 0,
+            pending: f.pending,
+            status: answer as u8,
+            service: codes::service(code),
+            size: 5,
+            reply: 5,
+        };
+    }
+    open_reply(room, 0, 3, (answer / 256) as u8);
+    Pass {
+        refusal: 0,
+        pending: f.pending,
+        status: f.status,
+        service: f.service,
+        size: 5,
+        reply: 5,
+    }
+}
+
+// The status byte, to the reply.
+fn pass_status(f: Flags, room: &mut [u8]) -> Pass
+    ensures { λ r. ⌜ PassesOver f Event.Status r (now (room .entry)) (now (room .exit)) ⌝ }
+{
+    if room.len() < 6 {
+        return stop(Refusal::NoRoom, f);
+    }
+    if 128 <= f.status {
+        return turn_away(f, room, 4, 0, 1);
+    }
+    room[5] = f.status;
+    open_reply(room, 1, 4, 0);
+    Pass {
+        refusal: 0,
+        pending: f.pending,
+        status: f.status,
+        service: f.service,
+        size: 4,
+        reply: 6,
+    }
+}
+
+// Reset: stack all zero, nothing pending, status 0, service line low.
+fn pass_reset(stack: &mut [u8], f: Flags, room: &mut [u8]) -> Pass
+    requires { ⌜ length (now stack) ≡ 16 ⌝ }
+    ensures { λ r. ⌜ Passes (now (stack .entry)) f Event.Reset r (now (stack .exit)) (now (room .entry)) (now (room .exit)) ⌝ }
+{
+    if room.len() < 5 {
+        return stop(Refusal::NoRoom, f);
+    }
+    if 128 <= f.status {
+        return turn_away(f, room, 5, 0, 0);
+    }
+    let after = place::reset(stack);
+    open_reply(room, 0, 5, 0);
+    Pass {
+        refusal: 0,
+        pending: after.pending,
+        status: after.status,
+        service: after.service,
+        size: 4,
+        reply: 5,
+    }
+}
+
+// Acknowledge: the service line goes low.
+fn pass_acknowledge(f: Flags, room: &mut [u8]) -> Pass
+    ensures { λ r. ⌜ PassesOver f Event.Acknowledge r (now (room .entry)) (now (room .exit)) ⌝ }
+{
+    if room.len() < 5 {
+        return stop(Refusal::NoRoom, f);
+    }
+    if 128 <= f.status {
+        return turn_away(f, room, 6, 0, 0);
+    }
+    open_reply(room, 0, 6, 0);
+    Pass {
+        refusal: 0,
+        pending: f.pending,
+        status: f.status,
+        service: false,
+        size: 4,
+        reply: 5,
+    }
+}
+
+// A whole record with its event: refused where the reply has no room, else done and answered.
+fn pass_whole(stack: &mut [u8], f: Flags, event: Event, rest: &[u8], room: &mut [u8]) -> Pass
+    requires { ⌜ (length (now stack) ≡ 16) × (4 + payloadOf event ≤ length (now rest)) × (payloadOf event ≤ mostPayload) × (answeredOf event ≤ mostPayload) × Asks event ⌝ }
+    ensures { λ r. ⌜ Passed (turnBy (stateAt (now (stack .entry)) f) (now (rest .entry)) (length (now (room .entry))) (Head.Whole event)) r (now (stack .exit)) (now (rest .entry)) (now (room .entry)) (now (room .exit)) ⌝ }
+{
+    match event {
+        Event::Push(n) => pass_push(stack, f, n, rest, room),
+        Event::Pop(n) => pass_pop(stack, f, n, room),
+        Event::Command(code) => pass_command(stack, f, code, room),
+        Event::Status => pass_status(f, room),
+        Event::Reset => pass_reset(stack, f, room),
+        Event::Acknowledge => pass_acknowledge(f, room),
+    }
+}
+
+// The record step: what becomes of the record at the front of `rest`.
+pub fn pass_record(stack: &mut [u8], f: Flags, rest: &[u8], room: &mut [u8]) -> Pass
+    requires { ⌜ length (now stack) ≡ 16 ⌝ }
+    ensures { λ r. ⌜ Passed (turnOf (stateAt (now (stack .entry)) f) (now (rest .entry)) (length (now (room .entry)))) r (now (stack .exit)) (now (rest .entry)) (now (room .entry)) (now (room .exit)) ⌝ }
+{
+    match read_head(rest) {
+        Head::Whole(event) => pass_whole(stack, f, event, rest, room),
+        Head::Stop(refusal) => stop(refusal, f),
+    }
+}
