@@ -7,21 +7,20 @@ use native.Mathlib.Omega.{arith}
 use borrow.Author.Tests.{lt-leb, le-leb}
 use Rattle.terms.specs.declared.Refusal.{Refusal}
 use Rattle.terms.specs.declared.Refusal.the-variants.{BadState}
-use Rattle.stack.specs.Stack.{zeros, topByte, pushed, popped}
+use Rattle.stack.specs.Stack.{topByte, pushed, popped}
 use Rattle.codes.specs.declared.Command.{Command}
 use Rattle.codes.specs.declared.Kind.{Kind}
 use Rattle.codes.specs.declared.Kind.the-variants.{Known}
-use Rattle.codes.specs.Codes.{sr, kindOf}
+use Rattle.codes.specs.Codes.{sr, decoded}
 use Rattle.chip.specs.declared.State.{State}
-use Rattle.chip.specs.declared.Answer.{Answer}
 use Rattle.chip.specs.declared.Event.{Event}
 use Rattle.chip.specs.declared.Event.the-variants.{Push, Pop, Command as CommandEvent, Status, Reset, Acknowledge}
 use Rattle.chip.specs.declared.commands.Obeyed.{Obeyed}
 use Rattle.chip.specs.declared.commands.Obeyed.the-variants.{Done, Refused}
-use Rattle.chip.specs.State.{left, moved, resetState, acknowledged, settled}
+use Rattle.chip.specs.State.{resetState}
 use Rattle.chip.specs.Commands.{baseRule, outcomeOf, properOperands}
-use Rattle.chip.specs.Step.{done, refused, unlessBusy, carried, pushOf, popOf, resetOf, acknowledgeOf, readOf, commandUnder, commandOf, eventOf}
-use Rattle.chip.specs.Place.{held, flipped, Obeys, Keeps, Commanded, answered}
+use Rattle.chip.specs.Step.{done, refused, pushOf, popOf, resetOf, acknowledgeOf, readOf, commandUnder, commandOf, eventOf}
+use Rattle.chip.specs.Place.{held, flipped, Obeys, Keeps, Commanded, answerObeyed}
 use Rattle.chip.proofs.Answers.{carried-improper, carried-done, command-by}
 use Rattle.chip.proofs.Turns.{turned, push-done, pop-done}
 
@@ -72,7 +71,7 @@ busy-event s Acknowledge h = rw (le-leb 128 (s .status) h)
 -- ---- a code
 -- a known command with nothing pending is answered as its row says
 pub obeyed : (pending : Bool) (code : ℕ) (before after : List ℕ) (k : Kind) (command : Command) (o : Obeyed)
-    → k ≡ kindOf (code % 128) → k ≡ Known command → pending ≡ false → Obeys command before after o → Commanded pending code before after o
+    → k ≡ decoded (code % 128) → k ≡ Known command → pending ≡ false → Obeys command before after o → Commanded pending code before after o
 obeyed pending code before after k command (Done status) ek el ep w = record {
   answer-is = λ (s : State) es eq h. command-by baseRule s code h ek el
       (carried-done baseRule s (sr code) command (eq ∙ ep) (ap (properOperands command) es ∙ w .0) (w .1 ∙ ap (outcomeOf baseRule command) (sym es)) refl);
@@ -88,11 +87,11 @@ module _ (stack after : List ℕ) (p : Bool) (t : ℕ) (v : Bool) (code : ℕ) (
   pub done-as : (status : ℕ) {x : Bool} → o ≡ Done status → x ≡ sr code → done 0 (held after p status x) ≡ commandOf (held stack p t v) code
   done-as status e f =
       ap (λ (y : Bool). done 0 (held after p status y)) f
-      ∙ ap (answered (held stack p t v) code after) (sym e)
+      ∙ ap (answerObeyed (held stack p t v) code after) (sym e)
       ∙ w .answer-is (held stack p t v) refl refl h
 
   pub refused-as : (r : Refusal) → o ≡ Refused r → refused r (held after p t v) ≡ commandOf (held stack p t v) code
   refused-as r e =
       ap (λ (l : List ℕ). refused r (held l p t v)) (subst (Keeps stack after) e (w .keeps))
-      ∙ ap (answered (held stack p t v) code after) (sym e)
+      ∙ ap (answerObeyed (held stack p t v) code after) (sym e)
       ∙ w .answer-is (held stack p t v) refl refl h

@@ -9,3 +9,4 @@ pub mod Turns
 pub mod Ready
 pub mod OnTop
 pub mod InPlace
+pub mod Events

@@ -30,9 +30,9 @@ Obeys command before after (Done status) = (properOperands command before ≡ tr
 Obeys command before after (Refused refusal) = (properOperands command before ≡ false) × (refusal ≡ Improper) × (after ≡ before)
 
 -- the answer to a code, and what its refusal leaves of the stack
-abbrev pub answered : State → ℕ → List ℕ → Obeyed → Answer
-answered s code after (Done status) = done 0 (settled s (sr code) (left after status))
-answered s code after (Refused refusal) = refused refusal s
+abbrev pub answerObeyed : State → ℕ → List ℕ → Obeyed → Answer
+answerObeyed s code after (Done status) = done 0 (settled s (sr code) (left after status))
+answerObeyed s code after (Refused refusal) = refused refusal s
 
 abbrev pub Keeps : List ℕ → List ℕ → Obeyed → Type 0
 Keeps before after (Done status) = Unit
@@ -40,7 +40,7 @@ Keeps before after (Refused refusal) = after ≡ before
 
 -- a code on a stack, whatever stands beside it but pending
 pub record Commanded (pending : Bool) (code : ℕ) (before after : List ℕ) (o : Obeyed) : Type 0 where
-  pub answer-is : (s : State) → s .stack ≡ before → s .pending ≡ pending → s .status < 128 → answered s code after o ≡ commandOf s code
+  pub answer-is : (s : State) → s .stack ≡ before → s .pending ≡ pending → s .status < 128 → answerObeyed s code after o ≡ commandOf s code
   pub keeps : Keeps before after o
 
 -- the answer that an event in place makes with the stack it leaves

@@ -1,5 +1,5 @@
 -- What stands under a name in the definitions, written out: 01's limits and refusal numbers, Figure 8 of 001 code by code, the bytes of a word, the fields of
--- a float word and of the status. Definitions and the statement only: proofs/Figured.antt proves it. Assumes nothing.
+-- a float word and of the status. Definitions and the statement only: proofs/Figures.antt proves it. Assumes nothing.
 use Prim.Native.Nat.{ℕ, zero, suc, _+_, _*_, _/_, _%_, _^_, _≤_, _<_}
 use mathlib.Core.Path.{_≡_}
 use mathlib.Core.Bool.{Bool, true, false, cond}
@@ -17,7 +17,7 @@ use Rattle.codes.specs.declared.FloatOp.the-variants.{Add as FAdd, Sub as FSub,
 use Rattle.codes.specs.declared.Command.the-variants.{Nop, Add, Sub, Mul, Muu, Div, Chs, Float, Chsf, Flt, Fix, Pto, Pop, Xch, Pupi, Sqrt}
 use Rattle.codes.specs.declared.Kind.{Kind}
 use Rattle.codes.specs.declared.Kind.the-variants.{Known, Derived, Unknown}
-use Rattle.codes.specs.Codes.{kindOf}
+use Rattle.codes.specs.Codes.{decoded}
 use Rattle.chip.specs.Status.{errorOf}
 
 -- ---- Figure 8 as a chart of 128 codes, sixteen to a row
@@ -74,7 +74,7 @@ pub record Figures : Type 0 where
   pub refusals : map numberOf (Done ∷ UnknownCode ∷ DerivedCode ∷ HalfWord ∷ Improper ∷ NoSuchKind ∷ CutShort ∷ BadLength ∷ NoRoom ∷ InputTooLong ∷ NotFinite ∷ TooLarge ∷ TooSmall ∷ BadState ∷ BadReport ∷ [])
       ≡ 0 ∷ 1 ∷ 2 ∷ 3 ∷ 4 ∷ 5 ∷ 6 ∷ 7 ∷ 8 ∷ 9 ∷ 10 ∷ 11 ∷ 12 ∷ 13 ∷ 14 ∷ []
   -- every code without its bit 7
-  pub codes : map kindOf (from 128 0) ≡ chart
+  pub codes : map decoded (from 128 0) ≡ chart
   -- a word's most significant byte is nearest the top, and its low byte is pushed first
   pub two-bytes : (x : ℕ) → (bytesOf 2 x ≡ x / 256 % 256 ∷ x % 256 ∷ []) × (lowFirst 2 x ≡ x % 256 ∷ x / 256 % 256 ∷ [])
   pub four-bytes : (x : ℕ) → (bytesOf 4 x ≡ x / 16777216 % 256 ∷ x / 65536 % 256 ∷ x / 256 % 256 ∷ x % 256 ∷ [])

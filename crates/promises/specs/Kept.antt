@@ -1,6 +1,6 @@
 -- Demand 1: what is turned away leaves all as it stood, and a bad or cut file keeps the records done before. Definitions and statements only:
--- proofs/Keeping.antt proves them. Assumes nothing.
-use Prim.Native.Nat.{ℕ, _+_, _-_, _≤_, _<_}
+-- proofs/Kept.antt proves them. Assumes nothing.
+use Prim.Native.Nat.{ℕ, _-_, _≤_, _<_}
 use mathlib.Core.Path.{_≡_}
 use mathlib.Core.Bool.{true, false}
 use mathlib.Core.List.{List, [], _∷_}

@@ -1,9 +1,9 @@
--- Demand 2 for files: every whole record of a file in turn, and the two counts as sums. Definitions and statements only: proofs/Recorded.antt proves
+-- Demand 2 for files: every whole record of a file in turn, and the two counts as sums. Definitions and statements only: proofs/Records.antt proves
 -- them. Assumes nothing.
 use Prim.Native.Nat.{ℕ, _+_, _*_, _-_, _≤_, _<_}
 use mathlib.Core.Path.{_≡_}
 use mathlib.Core.Bool.{true, false}
-use mathlib.Core.List.{List, [], _∷_, _++_, map}
+use mathlib.Core.List.{List, [], _∷_, _++_}
 use lib.ListN.{length, getD}
 use Rattle.terms.specs.Refusal.{numberOf}
 use Rattle.terms.specs.Limits.{mostInput, mostPayload, reportBytes}

@@ -19,11 +19,11 @@ use Rattle.pundaliket.specs.Calls.{Called, ranOf, away, callOf}
 use Rattle.pundaliket.proofs.Calling.{good}
 use Rattle.promises.specs.Records.{joined, total, lengths}
 use Rattle.promises.specs.RunCall.{StandsFor, Reports, RunCall, ReportsResult, StopsAgain}
-use Rattle.promises.proofs.Recorded.{counted, counts-exact}
+use Rattle.promises.proofs.Records.{counted, counts-exact}
 use Rattle.chip.proofs.Ready.{Ready}
 use Rattle.records.proofs.Ready.{run-ready}
-use Rattle.promises.proofs.Keeping.{state-ready, bytes-stand}
-use Rattle.promises.proofs.Driven.{reads-back}
+use Rattle.promises.proofs.Kept.{state-ready, bytes-stand}
+use Rattle.promises.proofs.Cores.{reads-back}
 use Rattle.records.proofs.Prefix.{lawful}
 
 -- the state that good bytes stand for is good, and it is the one that is read

@@ -17,8 +17,8 @@ use Rattle.stored.specs.Bytes.{isState, stateOf, flagOf, bytesOf}
 use Rattle.pundaliket.specs.Calls.{signalOf, eventOf, sentOf}
 use Rattle.promises.specs.Host.{number, outward, inward}
 use Rattle.promises.specs.SmallCalls.{signalled, Parts, EventCall, Converts, ConversionCalls}
-use Rattle.promises.proofs.Fronted.{none}
-use Rattle.promises.proofs.Keeping.{good-states, flag-back}
+use Rattle.promises.proofs.Fronts.{none}
+use Rattle.promises.proofs.Kept.{good-states, flag-back}
 
 -- ---- turned away
 bad-state : (state : List ℕ) (kind byte : ℕ) → isState state ≡ false → signalOf state kind byte ≡ signalled 3328 state
