@@ -1,4 +1,5 @@
--- A state in two parts, the stack where it lies and the rest beside it, and what the code that works there has to say of both. Definitions only. Assumes nothing.
+-- A state as the program holds it and not as 01 does, in two parts, the stack where it lies and the rest beside it, and what the code that works there has to say of both.
+-- Definitions only. Assumes nothing.
 use Prim.Native.Nat.{ℕ, _%_, _<_}
 use mathlib.Core.Path.{_≡_}
 use mathlib.Core.Bool.{Bool, true, false, cond, not}

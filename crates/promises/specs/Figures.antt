@@ -21,12 +21,12 @@ use Rattle.codes.specs.Codes.{decoded}
 use Rattle.chip.specs.Status.{errorOf}
 
 -- ---- Figure 8 as a chart of 128 codes, sixteen to a row
-abbrev pub none : ℕ → List Kind
-none n = replicate n Unknown
+abbrev pub unknowns : ℕ → List Kind
+unknowns n = replicate n Unknown
 
 -- 00 to 0F: NOP, SQRT, ten derived functions
 abbrev pub row0 : List Kind
-row0 = Known Nop ∷ Known Sqrt ∷ (replicate 10 Derived ++ none 4)
+row0 = Known Nop ∷ Known Sqrt ∷ (replicate 10 Derived ++ unknowns 4)
 
 -- 10 to 1F: FADD, FSUB, FMUL, FDIV, -, CHSF, -, PTOF, POPF, XCHF, PUPI, -, FLTD, FLTS, FIXD, FIXS
 abbrev pub row1 : List Kind
@@ -38,22 +38,22 @@ row1 =
 
 -- 20 to 2F: DADD, DSUB, DMUL, DDIV last
 abbrev pub row2 : List Kind
-row2 = none 12 ++ (Known (Add Double) ∷ Known (Sub Double) ∷ Known (Mul Double) ∷ Known (Div Double) ∷ [])
+row2 = unknowns 12 ++ (Known (Add Double) ∷ Known (Sub Double) ∷ Known (Mul Double) ∷ Known (Div Double) ∷ [])
 
 -- 30 to 3F: CHSD at 34, DMUU, PTOD, POPD, XCHD from 36
 abbrev pub row3 : List Kind
-row3 = none 4 ++ (Known (Chs Double) ∷ Unknown ∷ Known (Muu Double) ∷ Known (Pto Double) ∷ Known (Pop Double) ∷ Known (Xch Double) ∷ none 6)
+row3 = unknowns 4 ++ (Known (Chs Double) ∷ Unknown ∷ Known (Muu Double) ∷ Known (Pto Double) ∷ Known (Pop Double) ∷ Known (Xch Double) ∷ unknowns 6)
 
 -- 60 to 6F: SADD, SSUB, SMUL, SDIV last
 abbrev pub row6 : List Kind
-row6 = none 12 ++ (Known (Add Single) ∷ Known (Sub Single) ∷ Known (Mul Single) ∷ Known (Div Single) ∷ [])
+row6 = unknowns 12 ++ (Known (Add Single) ∷ Known (Sub Single) ∷ Known (Mul Single) ∷ Known (Div Single) ∷ [])
 
 -- 70 to 7F: CHSS at 74, SMUU, PTOS, POPS, XCHS from 76
 abbrev pub row7 : List Kind
-row7 = none 4 ++ (Known (Chs Single) ∷ Unknown ∷ Known (Muu Single) ∷ Known (Pto Single) ∷ Known (Pop Single) ∷ Known (Xch Single) ∷ none 6)
+row7 = unknowns 4 ++ (Known (Chs Single) ∷ Unknown ∷ Known (Muu Single) ∷ Known (Pto Single) ∷ Known (Pop Single) ∷ Known (Xch Single) ∷ unknowns 6)
 
 abbrev pub chart : List Kind
-chart = row0 ++ (row1 ++ (row2 ++ (row3 ++ (none 16 ++ (none 16 ++ (row6 ++ row7))))))
+chart = row0 ++ (row1 ++ (row2 ++ (row3 ++ (unknowns 16 ++ (unknowns 16 ++ (row6 ++ row7))))))
 
 -- the n codes from one on
 abbrev pub from : ℕ → ℕ → List ℕ
