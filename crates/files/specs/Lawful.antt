@@ -1,4 +1,4 @@
--- What a record step must keep for the laws of a run. Definitions only. Assumes nothing.
+-- What a record step must keep for the laws of a run, as the proofs have it and 01 does not. Definitions only. Assumes nothing.
 use Prim.Native.Nat.{ℕ, _*_, _≤_, _<_}
 use mathlib.Core.Path.{_≡_}
 use mathlib.Core.List.{List}

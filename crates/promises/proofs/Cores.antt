@@ -29,7 +29,7 @@ use Rattle.chip.specs.declared.Event.the-variants.{Push, Pop, Command, Status, 
 use Rattle.chip.specs.Events.{afterEvents, answered, pushesOf, leavesClear, quiet}
 use Rattle.chip.proofs.Kept.{Keeps, push-keeps, pop-keeps, command-keeps, read-keeps, reset-keeps, acknowledge-keeps}
 use Rattle.chip.proofs.Rows.{both-of}
-use Rattle.chip.proofs.Ready.{Ready as Good, push-fair, pop-fair, read-fair, reset-fair, acknowledge-fair, command-fair}
+use Rattle.chip.proofs.Ready.{Ready, push-fair, pop-fair, read-fair, reset-fair, acknowledge-fair, command-fair}
 use Rattle.stored.specs.Bytes.{isState, stateOf, flagOf, bytesOf as stateBytes}
 use Rattle.pundaliket.specs.Calls.{Signal, signalBy, signalOf, eventOf, joinedOf}
 use Rattle.promises.specs.Chains.{Step, Add, Subtract, Multiply, Divide, TakeFrom, Change, given, eventsOf, commandsIn, chainOf, Constants, wordAfter, Run, Starts, resultOf, Quiet, runEvents}
@@ -46,7 +46,7 @@ flag-byte : (x : Bool) → flagOf x < 256
 flag-byte true = lit< tt
 flag-byte false = lit< tt
 
-module _ (s : State) (G : Good s) where
+module _ (s : State) (G : Ready s) where
   abbrev flags : List ℕ
   flags = flagOf (s .pending) ∷ s .status ∷ flagOf (s .service) ∷ []
 
@@ -76,7 +76,7 @@ same-state s a (inr e) =
     alike true l = refl
     alike false l = refl
 
-module _ (s : State) (G : Good s) (kind byte : ℕ) where
+module _ (s : State) (G : Ready s) (kind byte : ℕ) where
   signal-is : signalOf (stateBytes s) kind byte ≡ signalBy (stateBytes s) (eventOf s kind byte)
   unfolding signalOf
   signal-is =
@@ -100,7 +100,7 @@ keeps s Status = read-keeps s
 keeps s Reset = reset-keeps s
 keeps s Acknowledge = acknowledge-keeps s
 
-pub leaves-good : (s : State) (e : Event) → Good s → byteOf e < 256 → Good ((answerTo baseRule s e) .state)
+pub leaves-good : (s : State) (e : Event) → Ready s → byteOf e < 256 → Ready ((answerTo baseRule s e) .state)
 leaves-good s (Push b) G h = push-fair s G b h .left
 leaves-good s Pop G h = pop-fair s G .left
 leaves-good s (Command k) G h = command-fair s k G .left
@@ -119,26 +119,26 @@ kind-small Acknowledge = lit< tt
 -- ---- events in turn
 module _ (c : Core) (M : Meets c) where
   -- the state and the number that its contract gives a core
-  state-told : (s : State) (e : Event) → Good s → byteOf e < 256 → (c .event (stateBytes s) (kindNumber e) (byteOf e)) .state ≡ stateBytes ((answerTo baseRule s e) .state)
+  state-told : (s : State) (e : Event) → Ready s → byteOf e < 256 → (c .event (stateBytes s) (kindNumber e) (byteOf e)) .state ≡ stateBytes ((answerTo baseRule s e) .state)
   state-told s e G h =
       M .event (stateBytes s) (kindNumber e) (byteOf e) (lent s G) (kind-small e) h .state-is
       ∙ ap (λ (x : Signal). x .state) (signal-is s G (kindNumber e) (byteOf e))
       ∙ ap (λ (a : Answer). (signalBy (stateBytes s) a) .state) (answer-is s e)
       ∙ same-state s (answerTo baseRule s e) (keeps s e)
 
-  number-told : (s : State) (e : Event) → Good s → byteOf e < 256
+  number-told : (s : State) (e : Event) → Ready s → byteOf e < 256
       → (c .event (stateBytes s) (kindNumber e) (byteOf e)) .result ≡ joinedOf (numberOf ((answerTo baseRule s e) .refusal)) ((answerTo baseRule s e) .byte)
   number-told s e G h =
       M .event (stateBytes s) (kindNumber e) (byteOf e) (lent s G) (kind-small e) h .result-is
       ∙ ap (λ (x : Signal). x .result) (signal-is s G (kindNumber e) (byteOf e))
       ∙ ap (λ (a : Answer). (signalBy (stateBytes s) a) .result) (answer-is s e)
 
-  states : (s : State) → Good s → (es : List Event) → Sendable es → driven c (stateBytes s) es ≡ stateBytes (afterEvents baseRule s es)
+  states : (s : State) → Ready s → (es : List Event) → Sendable es → driven c (stateBytes s) es ≡ stateBytes (afterEvents baseRule s es)
   states s G [] S = refl
   states s G (e ∷ es) S =
       ap (λ (l : List ℕ). driven c l es) (state-told s e G (S .0)) ∙ states ((answerTo baseRule s e) .state) (leaves-good s e G (S .0)) es (S .1)
 
-  numbers : (s : State) → Good s → (es : List Event) → Sendable es → returned c (stateBytes s) es ≡ answersOf s es
+  numbers : (s : State) → Ready s → (es : List Event) → Sendable es → returned c (stateBytes s) es ≡ answersOf s es
   numbers s G [] S = refl
   numbers s G (e ∷ es) S =
       ap₂ (λ (n : ℕ) (l : List ℕ). n ∷ returned c l es) (number-told s e G (S .0)) (state-told s e G (S .0))
@@ -235,7 +235,7 @@ chain-none sr [] = tt
 chain-none sr (k ∷ ks) = none-append (eventsOf sr k) (chainOf (λ (n : ℕ). sr (commandsIn k + n)) ks) (step-none sr k) (chain-none (λ (n : ℕ). sr (commandsIn k + n)) ks)
 
 -- ---- error bits
-clear-told : (s : State) (e : Event) → Good s → byteOf e < 256 → clearAfter e (stateBytes ((answerTo baseRule s e) .state)) ≡ leavesClear baseRule s e
+clear-told : (s : State) (e : Event) → Ready s → byteOf e < 256 → clearAfter e (stateBytes ((answerTo baseRule s e) .state)) ≡ leavesClear baseRule s e
 clear-told s (Command k) G h = ap (λ (u : ℕ). eqb (errorOf u) 0) (past ((commandOf s k) .state) (leaves-good s (Command k) G h) 1)
 clear-told s (Push b) G h = refl
 clear-told s Pop G h = refl
@@ -243,7 +243,7 @@ clear-told s Status G h = refl
 clear-told s Reset G h = refl
 clear-told s Acknowledge G h = refl
 
-quietly : (c : Core) → Meets c → (s : State) → Good s → (es : List Event) → Sendable es → drivenQuietly c (stateBytes s) es ≡ quiet baseRule s es
+quietly : (c : Core) → Meets c → (s : State) → Ready s → (es : List Event) → Sendable es → drivenQuietly c (stateBytes s) es ≡ quiet baseRule s es
 quietly c M s G [] S = refl
 quietly c M s G (e ∷ es) S =
     ap (λ (l : List ℕ). clearAfter e l && drivenQuietly c l es) (state-told c M s e G (S .0))
