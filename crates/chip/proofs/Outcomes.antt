@@ -35,33 +35,25 @@ use Rattle.chip.proofs.Rows.{both-of}
 
 -- ---- the status
 module _ (w : Width) (t : List ℕ) (e : ℕ) (c : Bool) (h : e < 16) where
-  pub status-lt : statusOf w t e c < 128
+  status-fields : (statusOf w t e c < 128) × (errorOf (statusOf w t e c) ≡ e)
   unfolding statusOf
-  status-lt = go (sign w t) (zeroBits w t) c
+  status-fields = go (sign w t) (zeroBits w t) c
     where
-      go : (x y z : Bool) → cond x 64 0 + cond y 32 0 + e * 2 + cond z 1 0 < 128
-      go true true true = omega arith
-      go true true false = omega arith
-      go true false true = omega arith
-      go true false false = omega arith
-      go false true true = omega arith
-      go false true false = omega arith
-      go false false true = omega arith
-      go false false false = omega arith
+      go : (x y z : Bool) → (cond x 64 0 + cond y 32 0 + e * 2 + cond z 1 0 < 128) × ((cond x 64 0 + cond y 32 0 + e * 2 + cond z 1 0) / 2 % 16 ≡ e)
+      go true true true = (omega arith, omega arith)
+      go true true false = (omega arith, omega arith)
+      go true false true = (omega arith, omega arith)
+      go true false false = (omega arith, omega arith)
+      go false true true = (omega arith, omega arith)
+      go false true false = (omega arith, omega arith)
+      go false false true = (omega arith, omega arith)
+      go false false false = (omega arith, omega arith)
+
+  pub status-lt : statusOf w t e c < 128
+  status-lt = status-fields .0
 
   pub status-error : errorOf (statusOf w t e c) ≡ e
-  unfolding statusOf
-  status-error = go (sign w t) (zeroBits w t) c
-    where
-      go : (x y z : Bool) → (cond x 64 0 + cond y 32 0 + e * 2 + cond z 1 0) / 2 % 16 ≡ e
-      go true true true = omega arith
-      go true true false = omega arith
-      go true false true = omega arith
-      go true false false = omega arith
-      go false true true = omega arith
-      go false true false = omega arith
-      go false false true = omega arith
-      go false false false = omega arith
+  status-error = status-fields .1
 
 -- ---- a stack again, and a status that is not busy
 pub record Fair (o : CommandOutcome) : Type 0 where

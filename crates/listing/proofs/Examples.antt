@@ -16,7 +16,7 @@ exampleReplies =
     ∷ 4 ∷ 0 ∷ 132 ∷ 0 ∷ 0 ∷ 0 ∷ []
 
 -- the text that 01 prints, line by line
-abbrev exampleText : List ℕ
+abbrev pub exampleText : List ℕ
 exampleText =
     49 ∷ 32 ∷ 49 ∷ 32 ∷ 48 ∷ 10
     ∷ 50 ∷ 32 ∷ 51 ∷ 32 ∷ 48 ∷ 10

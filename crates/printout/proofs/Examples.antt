@@ -13,21 +13,13 @@ use Rattle.stored.specs.Bytes.{isState}
 use Rattle.pundaliket.specs.Calls.{callOf}
 use Rattle.listing.specs.Text.{spelled}
 use Rattle.listing.specs.Listing.{hasReply, linesUpTo}
+use Rattle.listing.proofs.Examples.{exampleText}
 use Rattle.printout.specs.Printout.{printoutOf}
 
 -- the input that 01 gives
 abbrev exampleInput : List ℕ
 exampleInput =
     6 ∷ 0 ∷ 1 ∷ 0 ∷ 3 ∷ 0 ∷ 5 ∷ 0 ∷ 3 ∷ 0 ∷ 3 ∷ 0 ∷ 108 ∷ 3 ∷ 0 ∷ 2 ∷ 0 ∷ 2 ∷ 2 ∷ 0 ∷ 4 ∷ 0 ∷ []
-
--- the text that 01 prints
-abbrev exampleText : List ℕ
-exampleText =
-    49 ∷ 32 ∷ 49 ∷ 32 ∷ 48 ∷ 10
-    ∷ 50 ∷ 32 ∷ 51 ∷ 32 ∷ 48 ∷ 10
-    ∷ 51 ∷ 32 ∷ 50 ∷ 32 ∷ 48 ∷ 32 ∷ 48 ∷ 48 ∷ 32 ∷ 48 ∷ 56 ∷ 10
-    ∷ 52 ∷ 32 ∷ 52 ∷ 32 ∷ 48 ∷ 32 ∷ 48 ∷ 48 ∷ 10
-    ∷ 101 ∷ 110 ∷ 100 ∷ 32 ∷ 48 ∷ 32 ∷ 50 ∷ 50 ∷ 10 ∷ []
 
 pub example-printed : printoutOf exampleInput ≡ exampleText
 unfolding decoded low add statusOf keepsA pushOf popOf readOf carried commandUnder headOf turnOf run runBy isState callOf spelled hasReply linesUpTo
