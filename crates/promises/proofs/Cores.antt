@@ -20,12 +20,12 @@ use Rattle.stack.specs.Stack.{Bytes, numberFrom, bytesOf, pushed}
 use Rattle.stack.proofs.Words.{bytes-append, number-bytes}
 use Rattle.chip.specs.declared.State.{State}
 use Rattle.chip.specs.declared.Answer.{Answer}
+use Rattle.chip.specs.declared.Event.{Event}
+use Rattle.chip.specs.declared.Event.the-variants.{Push, Pop, Command, Status, Reset, Acknowledge}
 use Rattle.chip.specs.State.{busy, moved}
 use Rattle.chip.specs.Status.{errorOf}
 use Rattle.chip.specs.Commands.{baseRule}
 use Rattle.chip.specs.Step.{done, refused, pushOf, commandOf, answerTo}
-use Rattle.chip.specs.declared.Event.{Event}
-use Rattle.chip.specs.declared.Event.the-variants.{Push, Pop, Command, Status, Reset, Acknowledge}
 use Rattle.chip.specs.Events.{afterEvents, answered, pushesOf, leavesClear, quiet}
 use Rattle.chip.proofs.Kept.{Keeps, push-keeps, pop-keeps, command-keeps, read-keeps, reset-keeps, acknowledge-keeps}
 use Rattle.chip.proofs.Rows.{both-of}

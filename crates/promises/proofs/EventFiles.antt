@@ -14,13 +14,15 @@ use Rattle.stack.specs.Stack.{Bytes, tos}
 use Rattle.stack.proofs.Words.{bytes-append}
 use Rattle.chip.specs.declared.State.{State}
 use Rattle.chip.specs.declared.Answer.{Answer}
+use Rattle.chip.specs.declared.Event.{Event}
+use Rattle.chip.specs.declared.Event.the-variants.{Push, Pop, Command, Status, Reset, Acknowledge}
 use Rattle.chip.specs.State.{busy}
 use Rattle.chip.specs.Commands.{baseRule}
 use Rattle.chip.specs.Step.{pushOf, popOf, readOf, resetOf, acknowledgeOf, commandOf, answerTo}
-use Rattle.chip.specs.declared.Event.{Event}
-use Rattle.chip.specs.declared.Event.the-variants.{Push, Pop, Command, Status, Reset, Acknowledge}
 use Rattle.chip.specs.Events.{afterEvents}
 use Rattle.chip.proofs.Turns.{pop-done}
+use Rattle.chip.proofs.Rows.{both-of}
+use Rattle.chip.proofs.Ready.{Ready}
 use Rattle.records.specs.Run.{Outcome, after as joinedTo, runOf as fileRun}
 use Rattle.files.proofs.Append.{nothing, onward, appended}
 use Rattle.stored.specs.Bytes.{stateOf}
@@ -31,9 +33,7 @@ use Rattle.records.specs.Run.{took}
 use Rattle.promises.specs.Chains.{Step, runEvents}
 use Rattle.promises.specs.Cores.{Core, Meets, byteOf, Sendable, driven, returned, answersOf, allZero, kindNumber, wordLeft}
 use Rattle.promises.specs.EventFiles.{recordOf, fileOf, replyTo, repliesTo, FileOfEvents, Lent, EventFiles, chainFile, zerosFor, Demand3Files}
-use Rattle.chip.proofs.Rows.{both-of}
 use Rattle.stack.proofs.Words.{byte-at}
-use Rattle.chip.proofs.Ready.{Ready}
 use Rattle.promises.proofs.Records.{counts-exact, push-record, pop-record, command-record, status-record, reset-record, acknowledge-record}
 use Rattle.promises.proofs.Refusals.{refusals}
 use Rattle.promises.proofs.Kept.{state-ready, command-byte}

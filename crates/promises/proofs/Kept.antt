@@ -13,16 +13,16 @@ use Rattle.little.proofs.Exact.{le4-exact}
 use Rattle.terms.specs.Refusal.{numberOf}
 use Rattle.chip.specs.declared.State.{State}
 use Rattle.chip.specs.declared.Answer.{Answer}
+use Rattle.chip.specs.State.{busy}
+use Rattle.chip.specs.Commands.{baseRule, properOperands}
+use Rattle.chip.specs.Step.{refused, unlessBusy, pushOf, popOf, readOf, resetOf, acknowledgeOf, carried, answerByKind, commandUnder, commandOf}
+use Rattle.chip.proofs.Ready.{Ready, push-fair, pop-fair, read-fair, reset-fair, acknowledge-fair, command-fair, picked}
 use Rattle.terms.specs.declared.Refusal.the-variants.{BadState}
 use Rattle.stack.specs.Stack.{Bytes, topByte}
 use Rattle.stack.proofs.Words.{bytes-take, byte-at}
 use Rattle.codes.specs.declared.Kind.{Kind}
 use Rattle.codes.specs.declared.Kind.the-variants.{Known, Derived, Unknown}
 use Rattle.codes.specs.Codes.{sr, decoded}
-use Rattle.chip.specs.State.{busy}
-use Rattle.chip.specs.Commands.{baseRule, properOperands}
-use Rattle.chip.specs.Step.{refused, unlessBusy, pushOf, popOf, readOf, resetOf, acknowledgeOf, carried, answerByKind, commandUnder, commandOf}
-use Rattle.chip.proofs.Ready.{Ready, push-fair, pop-fair, read-fair, reset-fair, acknowledge-fair, command-fair, picked}
 use Rattle.files.proofs.Tests.{either-lt, either-eq}
 use Rattle.files.proofs.Append.{nothing, appended}
 use Rattle.files.proofs.Through.{tally, up-to-stop, stops-there}

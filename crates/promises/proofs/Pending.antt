@@ -12,21 +12,21 @@ use Rattle.terms.specs.declared.Rule.{Rule}
 use Rattle.stack.specs.Stack.{IsStack}
 use Rattle.chip.specs.declared.State.{State}
 use Rattle.chip.specs.declared.Answer.{Answer}
-use Rattle.chip.specs.Commands.{baseRule}
-use Rattle.chip.specs.Step.{pushOf, popOf, readOf, resetOf, acknowledgeOf, commandUnder, answerTo}
 use Rattle.chip.specs.declared.Event.{Event}
 use Rattle.chip.specs.declared.Event.the-variants.{Push, Pop, Command, Status, Reset, Acknowledge}
+use Rattle.chip.specs.Commands.{baseRule}
+use Rattle.chip.specs.Step.{pushOf, popOf, readOf, resetOf, acknowledgeOf, commandUnder, answerTo}
 use Rattle.chip.specs.Events.{afterEvents}
 use Rattle.chip.proofs.Kept.{command-keeps}
 use Rattle.chip.proofs.Accepted.{leaves}
 use Rattle.chip.proofs.Turns.{pop-done}
+use Rattle.chip.proofs.Ready.{Ready, push-fair, pop-fair, read-fair, reset-fair, acknowledge-fair}
 use Rattle.files.proofs.Tests.{either-eq}
 use Rattle.stored.specs.Bytes.{stateOf, flagOf}
 use Rattle.pundaliket.proofs.Calling.{false-true}
 use Rattle.promises.specs.Cores.{Sendable}
 use Rattle.promises.specs.Pending.{Answers, stateWith, movedSince, Odd, Bus, PendingByte, BusEvents}
 use Rattle.promises.proofs.Refusals.{numbers}
-use Rattle.chip.proofs.Ready.{Ready, push-fair, pop-fair, read-fair, reset-fair, acknowledge-fair}
 use Rattle.promises.proofs.Kept.{good-states, past, state-ready}
 use Rattle.promises.proofs.Cores.{leaves-good, cores}
 

@@ -8,11 +8,11 @@ use Rattle.codes.specs.declared.Command.{Command}
 use Rattle.codes.specs.declared.Kind.the-variants.{Known, Derived, Unknown}
 use Rattle.codes.specs.Codes.{decoded}
 use Rattle.chip.specs.declared.State.{State}
+use Rattle.chip.specs.declared.Event.{Event}
+use Rattle.chip.specs.declared.Event.the-variants.{Push, Pop, Command as CommandEvent, Status, Reset, Acknowledge}
 use Rattle.chip.specs.State.{busy}
 use Rattle.chip.specs.Commands.{baseRule, properOperands}
 use Rattle.chip.specs.Step.{pushOf, popOf, readOf, resetOf, acknowledgeOf, carried, commandUnder, answerTo}
-use Rattle.chip.specs.declared.Event.{Event}
-use Rattle.chip.specs.declared.Event.the-variants.{Push, Pop, Command as CommandEvent, Status, Reset, Acknowledge}
 use Rattle.promises.specs.Refusals.{TurnedAway, Numbers, Refusals}
 
 module _ (rule : Rule) (s : State) where

@@ -12,6 +12,7 @@ use Rattle.terms.specs.declared.Refusal.the-variants.{InputTooLong, BadState}
 use Rattle.stack.specs.Stack.{Bytes}
 use Rattle.stack.proofs.Words.{bytes-take}
 use Rattle.chip.specs.declared.State.{State}
+use Rattle.chip.proofs.Ready.{Ready}
 use Rattle.records.specs.Run.{Outcome, ended, runOf}
 use Rattle.files.proofs.Through.{tally}
 use Rattle.stored.specs.Bytes.{isState, stateOf, flagOf, bytesOf}
@@ -20,7 +21,6 @@ use Rattle.pundaliket.proofs.Calling.{good}
 use Rattle.promises.specs.Records.{joined, total, lengths}
 use Rattle.promises.specs.RunCall.{StandsFor, Reports, RunCall, ReportsResult, StopsAgain}
 use Rattle.promises.proofs.Records.{counted, counts-exact}
-use Rattle.chip.proofs.Ready.{Ready}
 use Rattle.records.proofs.Ready.{run-ready}
 use Rattle.promises.proofs.Kept.{state-ready, bytes-stand}
 use Rattle.promises.proofs.Cores.{reads-back}

@@ -20,10 +20,10 @@ use Rattle.codes.specs.declared.Kind.the-variants.{Known}
 use Rattle.codes.specs.Codes.{decoded}
 use Rattle.chip.specs.declared.State.{State}
 use Rattle.chip.specs.declared.Answer.{Answer}
+use Rattle.chip.specs.declared.Event.{Event}
 use Rattle.chip.specs.State.{busy, moved}
 use Rattle.chip.specs.Commands.{baseRule}
 use Rattle.chip.specs.Step.{refused, carried, commandUnder}
-use Rattle.chip.specs.declared.Event.{Event}
 use Rattle.chip.specs.Events.{afterEvents}
 use Rattle.chip.proofs.Accepted.{accepted}
 use Rattle.chip.proofs.Turns.{push-done, pop-done, word-pushed, word-popped, result-popped}

@@ -12,6 +12,7 @@ use Rattle.little.specs.Little.{le4}
 use Rattle.float.specs.Convert.{chsf}
 use Rattle.stack.specs.Stack.{Bytes, zeros}
 use Rattle.chip.specs.Step.{pushOf, resetOf}
+use Rattle.chip.proofs.Rows.{both-of}
 use Rattle.host.specs.Host.{hostOf, takenOf}
 use Rattle.files.specs.Run.{run, runBy}
 use Rattle.records.specs.declared.head.Event.the-variants.{Push, Reset}
@@ -25,7 +26,6 @@ use Rattle.promises.specs.Cores.{Core, Meets, driven, Begins}
 use Rattle.promises.specs.WrongCores.{No, RefusesEverything, never-run, never-event, never-float, never-word, SingleReply, same-run, same-event, same-float, same-word, SameReplies, DoesNothing, back-state, back-replies, back-report, back-event, back-float, back-word, FirstRecordOnly, first-state, first-replies, InventedCounts, wrong-taken, wrong-written, wrong-away, ZeroChains, fresh, nine, first, second, fresher, Tells, WrongCores}
 use Rattle.promises.proofs.Records.{counts-exact}
 use Rattle.promises.proofs.Host.{float-comes-back}
-use Rattle.chip.proofs.Rows.{both-of}
 use Rattle.promises.proofs.Cores.{cores}
 
 -- ---- the inputs are bytes

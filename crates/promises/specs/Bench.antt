@@ -8,12 +8,12 @@ use Rattle.terms.specs.declared.Width.the-variants.{Single, Double}
 use Rattle.terms.specs.Width.{sizeOf}
 use Rattle.terms.specs.Refusal.{numberOf}
 use Rattle.stack.specs.Stack.{bytesOf, zeros}
-use Rattle.chip.specs.State.{resetState}
 use Rattle.chip.specs.declared.Answer.{Answer}
-use Rattle.chip.specs.Commands.{baseRule}
-use Rattle.chip.specs.Step.{commandOf}
 use Rattle.chip.specs.declared.Event.{Event}
 use Rattle.chip.specs.declared.Event.the-variants.{Push, Command}
+use Rattle.chip.specs.State.{resetState}
+use Rattle.chip.specs.Commands.{baseRule}
+use Rattle.chip.specs.Step.{commandOf}
 use Rattle.chip.specs.Events.{afterEvents, pushesOf}
 
 -- the events from reset, the code that follows them, and what it must give: the refusal, the whole stack, the status

@@ -12,11 +12,11 @@ use Rattle.float.specs.Float.{add, sub, mul, div}
 use Rattle.float.specs.Convert.{chsf}
 use Rattle.stack.specs.Stack.{tos}
 use Rattle.chip.specs.declared.State.{State}
+use Rattle.chip.specs.declared.Event.{Event}
+use Rattle.chip.specs.declared.Event.the-variants.{Command}
 use Rattle.chip.specs.State.{resetState}
 use Rattle.chip.specs.Status.{errorOf}
 use Rattle.chip.specs.Commands.{baseRule}
-use Rattle.chip.specs.declared.Event.{Event}
-use Rattle.chip.specs.declared.Event.the-variants.{Command}
 use Rattle.chip.specs.Events.{afterEvents, answered, quiet, pushesOf, AtRest}
 
 -- ---- chains

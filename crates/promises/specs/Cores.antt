@@ -11,12 +11,12 @@ use Rattle.float.specs.Word.{FloatWord}
 use Rattle.float.specs.Order.{Le}
 use Rattle.stack.specs.Stack.{Bytes, bytesOf, tos}
 use Rattle.chip.specs.declared.State.{State}
-use Rattle.chip.specs.Status.{errorOf}
-use Rattle.chip.specs.Commands.{baseRule}
 use Rattle.chip.specs.declared.Event.{Event}
 use Rattle.chip.specs.declared.Event.the-variants.{Push, Pop, Command, Status, Reset, Acknowledge}
-use Rattle.chip.specs.Events.{afterEvents}
+use Rattle.chip.specs.Status.{errorOf}
+use Rattle.chip.specs.Commands.{baseRule}
 use Rattle.chip.specs.Step.{answerTo}
+use Rattle.chip.specs.Events.{afterEvents}
 use Rattle.host.specs.Host.{hostOf, takenOf, hostReply, takenReply}
 use Rattle.stored.specs.Bytes.{isState, stateOf, bytesOf as stateBytes}
 use Rattle.pundaliket.specs.Calls.{Called, Signal, Sent, callOf, Calls, signalOf, Signals, sentOf, Sends, joinedOf}

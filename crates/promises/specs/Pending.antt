@@ -10,11 +10,11 @@ use Rattle.terms.specs.declared.Rule.{Rule}
 use Rattle.stack.specs.Stack.{Bytes, IsStack}
 use Rattle.chip.specs.declared.State.{State}
 use Rattle.chip.specs.declared.Answer.{Answer}
-use Rattle.chip.specs.Commands.{baseRule}
 use Rattle.chip.specs.declared.Event.{Event}
 use Rattle.chip.specs.declared.Event.the-variants.{Push, Pop, Command, Status, Reset, Acknowledge}
-use Rattle.chip.specs.Events.{afterEvents}
+use Rattle.chip.specs.Commands.{baseRule}
 use Rattle.chip.specs.Step.{answerTo}
+use Rattle.chip.specs.Events.{afterEvents}
 use Rattle.stored.specs.Bytes.{isState}
 use Rattle.promises.specs.Cores.{Core, Meets, Sendable, driven}
 

@@ -10,11 +10,11 @@ use Rattle.codes.specs.declared.Kind.the-variants.{Known, Derived, Unknown}
 use Rattle.codes.specs.Codes.{decoded}
 use Rattle.chip.specs.declared.State.{State}
 use Rattle.chip.specs.declared.Answer.{Answer}
+use Rattle.chip.specs.declared.Event.{Event}
+use Rattle.chip.specs.declared.Event.the-variants.{Push, Pop, Status, Reset, Acknowledge}
 use Rattle.chip.specs.State.{busy}
 use Rattle.chip.specs.Commands.{baseRule, properOperands}
 use Rattle.chip.specs.Step.{commandUnder, answerTo}
-use Rattle.chip.specs.declared.Event.{Event}
-use Rattle.chip.specs.declared.Event.the-variants.{Push, Pop, Status, Reset, Acknowledge}
 
 -- an answer with 01's number n, no byte read, and the very state
 pub record TurnedAway (s : State) (a : Answer) (n : ℕ) : Type 0 where

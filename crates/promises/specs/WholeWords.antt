@@ -15,13 +15,13 @@ use Rattle.codes.specs.declared.Command.{Command}
 use Rattle.codes.specs.declared.Kind.the-variants.{Known}
 use Rattle.codes.specs.Codes.{decoded}
 use Rattle.chip.specs.declared.State.{State}
+use Rattle.chip.specs.declared.Event.{Event}
+use Rattle.chip.specs.declared.Event.the-variants.{Push, Pop}
 use Rattle.chip.specs.State.{busy, moved}
 use Rattle.chip.specs.Commands.{baseRule}
 use Rattle.chip.specs.Step.{done, refused, pushOf, popOf, commandUnder}
-use Rattle.chip.specs.Turns.{afterPushes, bytesPopped, resultBytes}
-use Rattle.chip.specs.declared.Event.{Event}
-use Rattle.chip.specs.declared.Event.the-variants.{Push, Pop}
 use Rattle.chip.specs.Events.{afterEvents}
+use Rattle.chip.specs.Turns.{afterPushes, bytesPopped, resultBytes}
 
 -- events that push or pop a byte, n in all
 pub data Moves : List Event → ℕ → Type 0 where
