@@ -13,12 +13,12 @@ use Rattle.stack.specs.Stack.{IsStack}
 use Rattle.codes.specs.declared.Command.{Command}
 use Rattle.codes.specs.declared.Kind.{Kind}
 use Rattle.codes.specs.declared.Kind.the-variants.{Known, Derived, Unknown}
-use Rattle.codes.specs.Codes.{sr, kindOf}
+use Rattle.codes.specs.Codes.{sr, decoded}
 use Rattle.chip.specs.declared.State.{State}
 use Rattle.chip.specs.declared.Answer.{Answer}
 use Rattle.chip.specs.State.{busy, settled}
 use Rattle.chip.specs.Commands.{outcomeOf, properOperands}
-use Rattle.chip.specs.Step.{done, refused, carried, answerOf, commandUnder}
+use Rattle.chip.specs.Step.{done, refused, carried, answerByKind, commandUnder}
 use Rattle.chip.proofs.Outcomes.{outcome-fair}
 use Rattle.chip.proofs.Answers.{known-by, carried-done}
 
@@ -27,7 +27,7 @@ pub record Accepted (rule : Rule) (s : State) (code : ℕ) : Type 0 where
   pub ready : s .status < 128
   pub whole : s .pending ≡ false
   pub command : Command
-  pub known : kindOf (code % 128) ≡ Known command
+  pub known : decoded (code % 128) ≡ Known command
   pub operands : properOperands command (s .stack) ≡ true
   pub answer : commandUnder rule s code ≡ done 0 (settled s (sr code) (outcomeOf rule command (s .stack)))
 
@@ -37,31 +37,31 @@ not-done r h e = let z : numberOf r ≡ 0 = ap numberOf e in absurd (omega arith
 
 module _ (rule : Rule) (s : State) (code : ℕ) where
   -- given what 01 asks, a known command is accepted
-  pub accepts : (k : Command) → s .status < 128 → s .pending ≡ false → kindOf (code % 128) ≡ Known k → properOperands k (s .stack) ≡ true
+  pub accepts : (k : Command) → s .status < 128 → s .pending ≡ false → decoded (code % 128) ≡ Known k → properOperands k (s .stack) ≡ true
       → commandUnder rule s code ≡ done 0 (settled s (sr code) (outcomeOf rule k (s .stack)))
   accepts k h p e f = sym (known-by rule s code h (sym e) refl refl (carried-done rule s (sr code) k p f refl refl))
 
   -- each test on the way to an answer 0, with what it shows
-  by-operands : (k : Command) → s .status < 128 → s .pending ≡ false → kindOf (code % 128) ≡ Known k
+  by-operands : (k : Command) → s .status < 128 → s .pending ≡ false → decoded (code % 128) ≡ Known k
       → (x : Bool) → properOperands k (s .stack) ≡ x → (cond {A = Answer} x (done 0 (settled s (sr code) (outcomeOf rule k (s .stack)))) (refused Improper s)) .refusal ≡ Done → Accepted rule s code
   by-operands k h p e true f d = record { ready = h; whole = p; command = k; known = e; operands = f; answer = accepts k h p e f }
   by-operands k h p e false f d = not-done Improper (lit< tt) d
 
-  by-half : (k : Command) → s .status < 128 → kindOf (code % 128) ≡ Known k
+  by-half : (k : Command) → s .status < 128 → decoded (code % 128) ≡ Known k
       → (x : Bool) → s .pending ≡ x
       → (cond {A = Answer} x (refused HalfWord s) (cond (properOperands k (s .stack)) (done 0 (settled s (sr code) (outcomeOf rule k (s .stack)))) (refused Improper s))) .refusal ≡ Done → Accepted rule s code
   by-half k h e true p d = not-done HalfWord (lit< tt) d
   by-half k h e false p d = by-operands k h p e (properOperands k (s .stack)) refl d
 
-  by-kind : s .status < 128 → (k : Kind) → kindOf (code % 128) ≡ k → (answerOf rule s (sr code) k) .refusal ≡ Done → Accepted rule s code
+  by-kind : s .status < 128 → (k : Kind) → decoded (code % 128) ≡ k → (answerByKind rule s (sr code) k) .refusal ≡ Done → Accepted rule s code
   unfolding carried
   by-kind h (Known c) e d = by-half c h e (s .pending) refl d
   by-kind h Derived e d = not-done DerivedCode (lit< tt) d
   by-kind h Unknown e d = not-done UnknownCode (lit< tt) d
 
-  by-busy : (x : Bool) → busy s ≡ x → (cond {A = Answer} x (refused BadState s) (answerOf rule s (sr code) (kindOf (code % 128)))) .refusal ≡ Done → Accepted rule s code
+  by-busy : (x : Bool) → busy s ≡ x → (cond {A = Answer} x (refused BadState s) (answerByKind rule s (sr code) (decoded (code % 128)))) .refusal ≡ Done → Accepted rule s code
   by-busy true b d = not-done BadState (lit< tt) d
-  by-busy false b d = by-kind (leb-false 128 (s .status) b) (kindOf (code % 128)) refl d
+  by-busy false b d = by-kind (leb-false 128 (s .status) b) (decoded (code % 128)) refl d
 
   pub accepted : (commandUnder rule s code) .refusal ≡ Done → Accepted rule s code
   unfolding commandUnder

@@ -3,20 +3,19 @@ use mathlib.Core.Path.{_≡_, refl}
 use mathlib.Core.Logic.{_⊎_, inl, inr}
 use mathlib.Core.Bool.{Bool, true, false, cond}
 use Prim.Native.Nat.{ℕ, _%_}
-use Rattle.terms.specs.declared.Refusal.{Refusal}
-use Rattle.terms.specs.declared.Refusal.the-variants.{Done, UnknownCode, DerivedCode, HalfWord, Improper, BadState}
+use Rattle.terms.specs.declared.Refusal.the-variants.{Done, BadState}
 use Rattle.terms.specs.declared.Rule.{Rule}
 use Rattle.codes.specs.declared.Command.{Command}
 use Rattle.codes.specs.declared.Kind.{Kind}
 use Rattle.codes.specs.declared.Kind.the-variants.{Known, Derived, Unknown}
-use Rattle.codes.specs.Codes.{sr, kindOf}
+use Rattle.codes.specs.Codes.{sr, decoded}
 use Rattle.chip.specs.declared.State.{State}
 use Rattle.chip.specs.declared.Answer.{Answer}
 use Rattle.chip.specs.declared.Event.{Event}
 use Rattle.chip.specs.declared.Event.the-variants.{Push, Pop, Command as CommandEvent, Status, Reset, Acknowledge}
 use Rattle.chip.specs.State.{busy}
 use Rattle.chip.specs.Commands.{baseRule, properOperands}
-use Rattle.chip.specs.Step.{done, refused, unlessBusy, pushOf, popOf, resetOf, acknowledgeOf, readOf, carried, answerOf, commandUnder, eventOf}
+use Rattle.chip.specs.Step.{refused, unlessBusy, pushOf, popOf, resetOf, acknowledgeOf, readOf, carried, answerByKind, commandUnder, eventOf}
 
 -- an answer to a state: done, or refused with that state
 abbrev pub Keeps : State → Answer → Type 0
@@ -53,14 +52,14 @@ carried-keeps : (rule : Rule) (s : State) (service : Bool) (k : Command) → Kee
 unfolding carried
 carried-keeps rule s service k = keeps-cond s (s .pending) _ _ (inr refl) (keeps-cond s (properOperands k (s .stack)) _ _ (inl refl) (inr refl))
 
-answer-keeps : (rule : Rule) (s : State) (service : Bool) (k : Kind) → Keeps s (answerOf rule s service k)
+answer-keeps : (rule : Rule) (s : State) (service : Bool) (k : Kind) → Keeps s (answerByKind rule s service k)
 answer-keeps rule s service (Known command) = carried-keeps rule s service command
 answer-keeps rule s service Derived = inr refl
 answer-keeps rule s service Unknown = inr refl
 
 pub command-keeps : (rule : Rule) (s : State) (code : ℕ) → Keeps s (commandUnder rule s code)
 unfolding commandUnder
-command-keeps rule s code = unless-busy s _ (answer-keeps rule s (sr code) (kindOf (code % 128)))
+command-keeps rule s code = unless-busy s _ (answer-keeps rule s (sr code) (decoded (code % 128)))
 
 -- every event of the bus
 pub event-keeps : (s : State) (e : Event) → Keeps s (eventOf s e)

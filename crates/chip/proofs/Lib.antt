@@ -5,7 +5,8 @@ pub mod Answers
 pub mod Kept
 pub mod Outcomes
 pub mod Accepted
-pub mod Turns
+pub mod InTurn
 pub mod Ready
 pub mod OnTop
 pub mod InPlace
+pub mod Events

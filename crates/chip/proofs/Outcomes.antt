@@ -1,7 +1,7 @@
 -- What every command leaves: a stack of 16 bytes, a status below 128 whose error field is the command's error, and the bytes of R on top. Assumes nothing.
-use mathlib.Core.Path.{_≡_, refl, sym, ap, subst, _∙_}
+use mathlib.Core.Path.{_≡_, refl, _∙_}
 use mathlib.Core.Bool.{Bool, true, false, cond}
-use mathlib.Core.List.{List, _++_, append-assoc}
+use mathlib.Core.List.{List, _++_}
 use Prim.Native.Nat.{ℕ, _+_, _-_, _*_, _/_, _%_, _^_, _≤_, _<_}
 use native.Mathlib.Omega.{arith}
 use lib.Dec.{lit<, lit≤, eqb}
@@ -14,68 +14,54 @@ use Rattle.fixed.specs.declared.Fixed.{Fixed}
 use Rattle.fixed.specs.Fixed.{add, sub, mul, muu, div, chs}
 use Rattle.fixed.proofs.Exact.{add-few, sub-few, mul-few, muu-few, div-few, chs-few}
 use Rattle.float.specs.declared.Flagged.{Flagged}
-use Rattle.float.specs.Word.{proper, FloatWord}
+use Rattle.float.specs.Word.{proper}
 use Rattle.terms.specs.declared.Rule.{Rule}
-use Rattle.float.specs.Convert.{flts, fltd, fix, fixs, fixd, chsf}
+use Rattle.float.specs.Convert.{flts, fltd, fixs, fixd, chsf}
 use Rattle.float.specs.Root.{sqrt}
 use Rattle.float.proofs.Results.{fltd-result, flts-result}
 use Rattle.float.proofs.RootExact.{root-result}
 use Rattle.stack.specs.Stack.{IsStack, bytesOf, zeros, tos, nos, rotated, overA, overZero, replaced, copied, exchanged, pushedWord, converted, widened, narrowed, handedOut}
 use Rattle.stack.proofs.Words.{tos-lt, nos-lt, length-bytes}
-use Rattle.stack.proofs.Layouts.{overA-stack, overZero-stack, replaced-stack, rotated-stack, exchanged-stack, copied-stack, pushedWord-stack, converted-stack, widened-stack, narrowed-stack}
+use Rattle.stack.proofs.Layouts.{two-fit, overA-stack, overZero-stack, replaced-stack, rotated-stack, exchanged-stack, copied-stack, pushedWord-stack, converted-stack, widened-stack, narrowed-stack}
 use Rattle.stack.proofs.Moves.{pops-hand, pops-read}
-use Rattle.codes.specs.declared.FloatOp.{FloatOp}
 use Rattle.codes.specs.declared.Command.{Command}
 use Rattle.codes.specs.declared.Command.the-variants.{Nop, Add, Sub, Mul, Muu, Div, Chs, Float, Chsf, Flt, Fix, Pto, Pop, Xch, Pupi, Sqrt}
-use Rattle.chip.specs.State.{Outcome}
+use Rattle.chip.specs.State.{CommandOutcome}
 use Rattle.chip.specs.Status.{sign, zeroBits, statusOf, errorOf}
 use Rattle.chip.specs.Commands.{piOf, wordA, wordB, halfOf, ends, keepsA, losesA, changesA, floats, converts, widens, narrows, roots, floatOf, outcomeOf, properOperands}
-use Rattle.chip.specs.Turns.{resultBytes}
+use Rattle.chip.specs.InTurn.{resultBytes}
 use Rattle.chip.proofs.Errors.{float-result, fix-error}
 use Rattle.chip.proofs.Rows.{both-of}
 
 -- ---- the status
 module _ (w : Width) (t : List ℕ) (e : ℕ) (c : Bool) (h : e < 16) where
-  pub status-lt : statusOf w t e c < 128
+  status-fields : (statusOf w t e c < 128) × (errorOf (statusOf w t e c) ≡ e)
   unfolding statusOf
-  status-lt = go (sign w t) (zeroBits w t) c
+  status-fields = go (sign w t) (zeroBits w t) c
     where
-      go : (x y z : Bool) → cond x 64 0 + cond y 32 0 + e * 2 + cond z 1 0 < 128
-      go true true true = omega arith
-      go true true false = omega arith
-      go true false true = omega arith
-      go true false false = omega arith
-      go false true true = omega arith
-      go false true false = omega arith
-      go false false true = omega arith
-      go false false false = omega arith
+      go : (x y z : Bool) → (cond x 64 0 + cond y 32 0 + e * 2 + cond z 1 0 < 128) × ((cond x 64 0 + cond y 32 0 + e * 2 + cond z 1 0) / 2 % 16 ≡ e)
+      go true true true = (omega arith, omega arith)
+      go true true false = (omega arith, omega arith)
+      go true false true = (omega arith, omega arith)
+      go true false false = (omega arith, omega arith)
+      go false true true = (omega arith, omega arith)
+      go false true false = (omega arith, omega arith)
+      go false false true = (omega arith, omega arith)
+      go false false false = (omega arith, omega arith)
+
+  pub status-lt : statusOf w t e c < 128
+  status-lt = status-fields .0
 
   pub status-error : errorOf (statusOf w t e c) ≡ e
-  unfolding statusOf
-  status-error = go (sign w t) (zeroBits w t) c
-    where
-      go : (x y z : Bool) → (cond x 64 0 + cond y 32 0 + e * 2 + cond z 1 0) / 2 % 16 ≡ e
-      go true true true = omega arith
-      go true true false = omega arith
-      go true false true = omega arith
-      go true false false = omega arith
-      go false true true = omega arith
-      go false true false = omega arith
-      go false false true = omega arith
-      go false false false = omega arith
+  status-error = status-fields .1
 
 -- ---- a stack again, and a status that is not busy
-pub record Fair (o : Outcome) : Type 0 where
+pub record Fair (o : CommandOutcome) : Type 0 where
   pub stack : IsStack (o .stack)
   pub not-busy : o .status < 128
 
 fair : (w : Width) (t : List ℕ) (e : ℕ) (c : Bool) → IsStack t → e < 16 → Fair (ends w t e c)
 fair w t e c S h = record { stack = S; not-busy = status-lt w t e c h }
-
--- two words of either width are part of a stack
-two : (w : Width) → sizeOf w + sizeOf w ≤ 16
-two Single = lit≤ tt
-two Double = lit≤ tt
 
 one : (w : Width) → sizeOf w ≤ 16
 one Single = lit≤ tt
@@ -84,11 +70,11 @@ one Double = lit≤ tt
 module _ (s : List ℕ) (S : IsStack s) where
   keeps-fair : (w : Width) (r : Fixed) → r .error < 16 → Fair (keepsA w s r)
   unfolding keepsA
-  keeps-fair w r h = fair w (overA (sizeOf w) s (r .word)) (r .error) (r .carry) (overA-stack s S (sizeOf w) (two w) (r .word)) h
+  keeps-fair w r h = fair w (overA (sizeOf w) s (r .word)) (r .error) (r .carry) (overA-stack s S (sizeOf w) (two-fit w) (r .word)) h
 
   loses-fair : (w : Width) (r : Fixed) → r .error < 16 → Fair (losesA w s r)
   unfolding losesA
-  loses-fair w r h = fair w (overZero (sizeOf w) s (r .word)) (r .error) false (overZero-stack s S (sizeOf w) (two w) (r .word)) h
+  loses-fair w r h = fair w (overZero (sizeOf w) s (r .word)) (r .error) false (overZero-stack s S (sizeOf w) (two-fit w) (r .word)) h
 
   changes-fair : (w : Width) (r : Fixed) → r .error < 16 → Fair (changesA w s r)
   unfolding changesA
@@ -96,7 +82,7 @@ module _ (s : List ℕ) (S : IsStack s) where
 
   floats-fair : (r : Flagged) → r .error < 16 → Fair (floats s r)
   unfolding floats
-  floats-fair r h = fair Double (overZero 4 s (r .word)) (r .error) false (overZero-stack s S 4 (two Double) (r .word)) h
+  floats-fair r h = fair Double (overZero 4 s (r .word)) (r .error) false (overZero-stack s S 4 (two-fit Double) (r .word)) h
 
   converts-fair : (r : Flagged) → r .error < 16 → Fair (converts s r)
   unfolding converts
@@ -147,7 +133,7 @@ module _ (s : List ℕ) (S : IsStack s) where
   outcome-fair rule (Fix Single) p = narrows-fair (fixs (wordA Double s)) (fix-error (2 ^ 15) (wordA Double s))
   outcome-fair rule (Pto w) p = fair w (copied (sizeOf w) s) 0 false (copied-stack s S (sizeOf w) (one w)) (lit< tt)
   outcome-fair rule (Pop w) p = fair w (rotated (sizeOf w) s) 0 false (rotated-stack s S (sizeOf w) (one w)) (lit< tt)
-  outcome-fair rule (Xch w) p = fair w (exchanged (sizeOf w) s) 0 false (exchanged-stack s S (sizeOf w) (two w)) (lit< tt)
+  outcome-fair rule (Xch w) p = fair w (exchanged (sizeOf w) s) 0 false (exchanged-stack s S (sizeOf w) (two-fit w)) (lit< tt)
   outcome-fair rule Pupi p = fair Double (pushedWord s (piOf rule)) 0 false (pushedWord-stack s S (piOf rule)) (lit< tt)
   outcome-fair rule Sqrt p = roots-fair (sqrt rule (wordA Double s)) (root-result rule (wordA Double s) (record { fits = a-fits; is-proper = p }) .small)
 
@@ -187,7 +173,7 @@ module _ (s : List ℕ) (S : IsStack s) where
   unfolding narrows
   narrows-hand r = go (eqb (r .error) 0)
     where
-      go : (x : Bool) → handedOut (cond x 2 4) ((cond {A = Outcome} x (ends Single (narrowed s (r .word)) 0 false) (ends Double (converted s (r .word)) (r .error) false)) .stack) ≡ bytesOf (cond x 2 4) (r .word)
+      go : (x : Bool) → handedOut (cond x 2 4) ((cond {A = CommandOutcome} x (ends Single (narrowed s (r .word)) 0 false) (ends Double (converted s (r .word)) (r .error) false)) .stack) ≡ bytesOf (cond x 2 4) (r .word)
       go true = pops-read 2 (r .word) (take 8 (drop 4 s) ++ zeros 6)
       go false = pops-read 4 (r .word) (take 8 (drop 4 s) ++ zeros 4)
 
@@ -196,13 +182,13 @@ module _ (s : List ℕ) (S : IsStack s) where
   roots-hand r = go (eqb (r .error) 0)
     where
       go : (x : Bool)
-          → handedOut (length (cond x (bytesOf 4 (r .word)) (take 4 s))) ((cond {A = Outcome} x (ends Double (converted s (r .word)) 0 false) (ends Double s (r .error) false)) .stack) ≡ cond x (bytesOf 4 (r .word)) (take 4 s)
+          → handedOut (length (cond x (bytesOf 4 (r .word)) (take 4 s))) ((cond {A = CommandOutcome} x (ends Double (converted s (r .word)) 0 false) (ends Double s (r .error) false)) .stack) ≡ cond x (bytesOf 4 (r .word)) (take 4 s)
       go true = pops-read 4 (r .word) (take 8 (drop 4 s) ++ zeros 4)
       go false = let e = S .sixteen in rw (length-take-le 4 s (omega arith)) (pops-hand 4 s (omega arith))
 
   -- B has its bytes, and A its own
   b-bytes : (w : Width) → length (take (sizeOf w) (drop (sizeOf w) s)) ≡ sizeOf w
-  b-bytes w = let e = S .sixteen in let h = two w in length-take-le (sizeOf w) (drop (sizeOf w) s) (simp length-drop (omega arith))
+  b-bytes w = let e = S .sixteen in let h = two-fit w in length-take-le (sizeOf w) (drop (sizeOf w) s) (simp length-drop (omega arith))
 
   a-bytes : (w : Width) → length (take (sizeOf w) s) ≡ sizeOf w
   a-bytes w = let e = S .sixteen in let h = one w in length-take-le (sizeOf w) s (omega arith)
@@ -224,7 +210,7 @@ module _ (s : List ℕ) (S : IsStack s) where
   outcome-hands rule (Pto w) = rw (a-bytes w) (on-top (sizeOf w) (take (sizeOf w) s) (take (16 - sizeOf w) s) (a-bytes w))
   outcome-hands rule (Pop w) =
       let e = S .sixteen in
-      let h = two w in
+      let h = two-fit w in
       let l : sizeOf w ≤ length (drop (sizeOf w) s) = simp length-drop (omega arith) in
       let m : sizeOf w ≤ length (rotated (sizeOf w) s) = simp (length-append, length-drop, length-take) (omega arith) in
       rw (b-bytes w) (pops-hand (sizeOf w) (rotated (sizeOf w) s) m ∙ take-append-le (sizeOf w) (drop (sizeOf w) s) (take (sizeOf w) s) l)

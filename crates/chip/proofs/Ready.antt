@@ -1,7 +1,7 @@
 -- A state that 13 does not turn away stays one: every event leaves 16 bytes and busy clear, and answers 0 to 4. Assumes nothing.
 use mathlib.Core.Path.{_≡_, sym, subst}
 use mathlib.Core.Bool.{Bool, true, false, cond}
-use mathlib.Core.Logic.{_⊎_, ⊎-elim}
+use mathlib.Core.Logic.{⊎-elim}
 use Prim.Native.Nat.{ℕ, _%_, _≤_, _<_}
 use borrow.Author.Tests.{lt-leb}
 use lib.Dec.{lit≤, lit<}
@@ -10,12 +10,12 @@ use Rattle.stack.specs.Stack.{IsStack}
 use Rattle.stack.proofs.Layouts.{zeros-stack, pushed-stack, rotated-stack}
 use Rattle.codes.specs.declared.Kind.{Kind}
 use Rattle.codes.specs.declared.Kind.the-variants.{Known, Derived, Unknown}
-use Rattle.codes.specs.Codes.{sr, kindOf}
+use Rattle.codes.specs.Codes.{sr, decoded}
 use Rattle.chip.specs.declared.State.{State}
 use Rattle.chip.specs.declared.Answer.{Answer}
 use Rattle.chip.specs.State.{busy}
 use Rattle.chip.specs.Commands.{baseRule, properOperands}
-use Rattle.chip.specs.Step.{pushOf, popOf, readOf, resetOf, acknowledgeOf, carried, answerOf, commandUnder, commandOf}
+use Rattle.chip.specs.Step.{pushOf, popOf, readOf, resetOf, acknowledgeOf, carried, answerByKind, commandUnder, commandOf}
 use Rattle.chip.proofs.Kept.{command-keeps}
 use Rattle.chip.proofs.Accepted.{leaves}
 
@@ -61,7 +61,7 @@ picked P false x y p q = q
 abbrev Small : Answer → Type 0
 Small a = numberOf (a .refusal) ≤ 4
 
-by-kind : (s : State) (code : ℕ) (k : Kind) → Small (answerOf baseRule s (sr code) k)
+by-kind : (s : State) (code : ℕ) (k : Kind) → Small (answerByKind baseRule s (sr code) k)
 unfolding carried
 by-kind s code (Known c) = picked Small (s .pending) _ _ (lit≤ tt) (picked Small (properOperands c (s .stack)) _ _ (lit≤ tt) (lit≤ tt))
 by-kind s code Derived = lit≤ tt
@@ -70,7 +70,7 @@ by-kind s code Unknown = lit≤ tt
 -- a command of a state that is not busy is answered 0 to 4
 command-small : (s : State) (code : ℕ) → Ready s → Small (commandOf s code)
 unfolding commandUnder
-command-small s code r = rw (lt-leb 128 (s .status) (r .ready)) (by-kind s code (kindOf (code % 128)))
+command-small s code r = rw (lt-leb 128 (s .status) (r .ready)) (by-kind s code (decoded (code % 128)))
 
 pub command-fair : (s : State) (code : ℕ) → Ready s → Fair (commandOf s code)
 command-fair s code r =

@@ -17,7 +17,7 @@ use Rattle.stack.specs.Stack.{tos, overA, overZero, replaced, converted, widene
 use Rattle.codes.specs.declared.FloatOp.{FloatOp}
 use Rattle.codes.specs.declared.Command.{Command}
 use Rattle.codes.specs.declared.Command.the-variants.{Fix, Chsf, Flt, Sqrt}
-use Rattle.chip.specs.State.{Outcome, left}
+use Rattle.chip.specs.State.{CommandOutcome, left}
 use Rattle.chip.specs.declared.commands.Obeyed.{Obeyed}
 use Rattle.chip.specs.Status.{sign, statusOf}
 use Rattle.chip.specs.Commands.{baseRule, wordA, wordB, halfOf, ends, moves, keepsA, losesA, changesA, floats, converts, widens, narrows, roots, floatOf, outcomeOf}
@@ -45,10 +45,10 @@ module _ (w : Width) (s : List ℕ) (r : Fixed) {t : List ℕ} {x : ℕ} where
   change-row et ex = rw (ex, et)
 
 -- a result on the words of a stack, in a row that was found to be that of its width
-pub of-words : (row : Width → List ℕ → Fixed → Outcome) (f : ℕ → ℕ → ℕ → Fixed) (s : List ℕ) {v w : Width} {b a : ℕ} {r : Fixed} {o : Outcome} → v ≡ w → b ≡ wordB w s → a ≡ wordA w s → r ≡ f (halfOf w) b a → o ≡ row w s r → o ≡ row v s (f (halfOf v) (wordB v s) (wordA v s))
+pub of-words : (row : Width → List ℕ → Fixed → CommandOutcome) (f : ℕ → ℕ → ℕ → Fixed) (s : List ℕ) {v w : Width} {b a : ℕ} {r : Fixed} {o : CommandOutcome} → v ≡ w → b ≡ wordB w s → a ≡ wordA w s → r ≡ f (halfOf w) b a → o ≡ row w s r → o ≡ row v s (f (halfOf v) (wordB v s) (wordA v s))
 of-words row f s ev eb ea er eo = rw (ev, eo, er, eb, ea)
 
-pub of-word : (row : Width → List ℕ → Fixed → Outcome) (f : ℕ → ℕ → Fixed) (s : List ℕ) {v w : Width} {a : ℕ} {r : Fixed} {o : Outcome} → v ≡ w → a ≡ wordA w s → r ≡ f (halfOf w) a → o ≡ row w s r → o ≡ row v s (f (halfOf v) (wordA v s))
+pub of-word : (row : Width → List ℕ → Fixed → CommandOutcome) (f : ℕ → ℕ → Fixed) (s : List ℕ) {v w : Width} {a : ℕ} {r : Fixed} {o : CommandOutcome} → v ≡ w → a ≡ wordA w s → r ≡ f (halfOf w) a → o ≡ row w s r → o ≡ row v s (f (halfOf v) (wordA v s))
 of-word row f s ev ea er eo = rw (ev, eo, er, ea)
 
 pub float-row : (op : FloatOp) (s : List ℕ) {t : List ℕ} {b a : ℕ} {r : Flagged} {x : ℕ} → b ≡ wordB Double s → a ≡ wordA Double s → r ≡ floatOf baseRule op b a → t ≡ overZero 4 s (r .word) → x ≡ statusOf Double t (r .error) false → left t x ≡ floats s (floatOf baseRule op (wordB Double s) (wordA Double s))
@@ -56,10 +56,10 @@ unfolding floats
 float-row op s eb ea er et ex = rw (ex, et, er, eb, ea)
 
 -- a row of two shapes, by whether there is an error
-without-error : (x y : Outcome) (e : ℕ) → e ≡ 0 → x ≡ cond (eqb e 0) x y
+without-error : (x y : CommandOutcome) (e : ℕ) → e ≡ 0 → x ≡ cond (eqb e 0) x y
 without-error x y e z = rw (eq-eqb e 0 z)
 
-with-error : (x y : Outcome) (e : ℕ) → (e ≡ 0 → ⊥) → y ≡ cond (eqb e 0) x y
+with-error : (x y : CommandOutcome) (e : ℕ) → (e ≡ 0 → ⊥) → y ≡ cond (eqb e 0) x y
 with-error x y e nz = rw (ne-eqb e 0 nz)
 
 module _ (s : List ℕ) {t : List ℕ} {a x : ℕ} {r : Flagged} where

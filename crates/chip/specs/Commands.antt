@@ -20,7 +20,7 @@ use Rattle.codes.specs.declared.FloatOp.{FloatOp}
 use Rattle.codes.specs.declared.FloatOp.the-variants.{Add as FAdd, Sub as FSub, Mul as FMul, Div as FDiv}
 use Rattle.codes.specs.declared.Command.{Command}
 use Rattle.codes.specs.declared.Command.the-variants.{Nop, Add, Sub, Mul, Muu, Div, Chs, Float, Chsf, Flt, Fix, Pto, Pop, Xch, Pupi, Sqrt}
-use Rattle.chip.specs.State.{Outcome}
+use Rattle.chip.specs.State.{CommandOutcome}
 use Rattle.chip.specs.Status.{statusOf}
 
 -- the one rule of the base: a float result is cut
@@ -44,43 +44,43 @@ abbrev pub halfOf : Width → ℕ
 halfOf w = half (bitsOf w)
 
 -- ---- the column 'stack after', with the status by the new TOS
-abbrev pub ends : Width → List ℕ → ℕ → Bool → Outcome
+abbrev pub ends : Width → List ℕ → ℕ → Bool → CommandOutcome
 ends w stack error carry = record { stack = stack; status = statusOf w stack error carry }
 
 -- no error and no carry: words moved, copied or pushed, the sign of a float word changed
-abbrev pub moves : Width → List ℕ → Outcome
+abbrev pub moves : Width → List ℕ → CommandOutcome
 moves w stack = ends w stack 0 false
 
 -- R, C.., bottom holds A; with carry
-unfoldable pub keepsA : Width → List ℕ → Fixed → Outcome
+unfoldable pub keepsA : Width → List ℕ → Fixed → CommandOutcome
 keepsA w s r = ends w (overA (sizeOf w) s (r .word)) (r .error) (r .carry)
 
 -- R, C.., bottom 0
-unfoldable pub losesA : Width → List ℕ → Fixed → Outcome
+unfoldable pub losesA : Width → List ℕ → Fixed → CommandOutcome
 losesA w s r = ends w (overZero (sizeOf w) s (r .word)) (r .error) false
 
 -- only A replaced
-unfoldable pub changesA : Width → List ℕ → Fixed → Outcome
+unfoldable pub changesA : Width → List ℕ → Fixed → CommandOutcome
 changesA w s r = ends w (replaced (sizeOf w) s (r .word)) (r .error) false
 
 -- R, C, D, 0
-unfoldable pub floats : List ℕ → Flagged → Outcome
+unfoldable pub floats : List ℕ → Flagged → CommandOutcome
 floats s r = ends Double (overZero 4 s (r .word)) (r .error) false
 
 -- R, B, C, 0
-unfoldable pub converts : List ℕ → Flagged → Outcome
+unfoldable pub converts : List ℕ → Flagged → CommandOutcome
 converts s r = ends Double (converted s (r .word)) (r .error) false
 
 -- R (two cells), 16-bit B, C, D, E, 0, 0
-unfoldable pub widens : List ℕ → Flagged → Outcome
+unfoldable pub widens : List ℕ → Flagged → CommandOutcome
 widens s r = ends Double (widened s (r .word)) (r .error) false
 
 -- R (one cell), 32-bit B, C, then three zero cells; on an error A, B, C, 0, and status by the 32-bit A
-unfoldable pub narrows : List ℕ → Flagged → Outcome
+unfoldable pub narrows : List ℕ → Flagged → CommandOutcome
 narrows s r = cond (eqb (r .error) 0) (ends Single (narrowed s (r .word)) 0 false) (ends Double (converted s (r .word)) (r .error) false)
 
 -- R, B, C, 0; on an error, where A is negative, the whole stack as it stands, and status by A
-unfoldable pub roots : List ℕ → Flagged → Outcome
+unfoldable pub roots : List ℕ → Flagged → CommandOutcome
 roots s r = cond (eqb (r .error) 0) (ends Double (converted s (r .word)) 0 false) (ends Double s (r .error) false)
 
 -- ---- the rows
@@ -92,7 +92,7 @@ floatOf rule FMul b a = fmul rule b a
 floatOf rule FDiv b a = fdiv rule b a
 
 -- what a command leaves on a stack; NOP clears the whole status
-abbrev pub outcomeOf : Rule → Command → List ℕ → Outcome
+abbrev pub outcomeOf : Rule → Command → List ℕ → CommandOutcome
 outcomeOf rule Nop s = record { stack = s; status = 0 }
 outcomeOf rule (Add w) s = keepsA w s (add (halfOf w) (wordB w s) (wordA w s))
 outcomeOf rule (Sub w) s = keepsA w s (sub (halfOf w) (wordB w s) (wordA w s))

@@ -3,5 +3,6 @@ pub mod State
 pub mod Status
 pub mod Commands
 pub mod Step
+pub mod Events
 pub mod Place
-pub mod Turns
+pub mod InTurn

@@ -1,4 +1,5 @@
--- A state in two parts, the stack where it lies and the rest beside it, and what the code that works there has to say of both. Definitions only. Assumes nothing.
+-- A state as the program holds it and not as 01 does, in two parts, the stack where it lies and the rest beside it, and what the code that works there has to say of both.
+-- Definitions only. Assumes nothing.
 use Prim.Native.Nat.{ℕ, _/_, _%_, _<_}
 use mathlib.Core.Path.{_≡_}
 use mathlib.Core.Bool.{Bool, true, false, cond, not}
@@ -39,9 +40,9 @@ abbrev pub obeyedAs : ℕ → Obeyed
 obeyedAs n = cond (ltb n 256) (Done n) (Refused (refusalOf (n / 256)))
 
 -- the answer to a code, and what its refusal leaves of the stack
-abbrev pub answered : State → ℕ → List ℕ → Obeyed → Answer
-answered s code after (Done status) = done 0 (settled s (sr code) (left after status))
-answered s code after (Refused refusal) = refused refusal s
+abbrev pub answerObeyed : State → ℕ → List ℕ → Obeyed → Answer
+answerObeyed s code after (Done status) = done 0 (settled s (sr code) (left after status))
+answerObeyed s code after (Refused refusal) = refused refusal s
 
 abbrev pub Keeps : List ℕ → List ℕ → Obeyed → Type 0
 Keeps before after (Done status) = Unit
@@ -49,7 +50,7 @@ Keeps before after (Refused refusal) = after ≡ before
 
 -- a code on a stack, whatever stands beside it but pending
 pub record Commanded (pending : Bool) (code : ℕ) (before after : List ℕ) (o : Obeyed) : Type 0 where
-  pub answer-is : (s : State) → s .stack ≡ before → s .pending ≡ pending → s .status < 128 → answered s code after o ≡ commandOf s code
+  pub answer-is : (s : State) → s .stack ≡ before → s .pending ≡ pending → s .status < 128 → answerObeyed s code after o ≡ commandOf s code
   pub keeps : Keeps before after o
 
 -- the answer that an event in place makes with the stack it leaves

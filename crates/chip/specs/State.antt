@@ -1,6 +1,6 @@
 -- The state of document 01 by value, and what becomes of it. Definitions only. Assumes nothing.
 use Prim.Native.Nat.{ℕ}
-use mathlib.Core.Bool.{Bool, true, false, not}
+use mathlib.Core.Bool.{Bool, false, not}
 use mathlib.Core.List.{List}
 use lib.Dec.{leb}
 use Rattle.stack.specs.Stack.{zeros}
@@ -23,13 +23,13 @@ abbrev pub acknowledged : State → State
 acknowledged s = record { stack = s .stack; pending = s .pending; status = s .status; service = false }
 
 -- what a command leaves: the stack and the status
-pub record Outcome : Type 0 where
+pub record CommandOutcome : Type 0 where
   pub stack : List ℕ
   pub status : ℕ
 
-abbrev pub left : List ℕ → ℕ → Outcome
+abbrev pub left : List ℕ → ℕ → CommandOutcome
 left stack status = record { stack = stack; status = status }
 
 -- after an accepted command: the stack and the status that it leaves, and sr on the service line
-abbrev pub settled : State → Bool → Outcome → State
+abbrev pub settled : State → Bool → CommandOutcome → State
 settled s sr left = record { stack = left .stack; pending = s .pending; status = left .status; service = sr }

@@ -7,7 +7,7 @@ use Rattle.stack.specs.Stack.{topByte, pushed, popped}
 use Rattle.codes.specs.declared.Command.{Command}
 use Rattle.codes.specs.declared.Kind.{Kind}
 use Rattle.codes.specs.declared.Kind.the-variants.{Known, Derived, Unknown}
-use Rattle.codes.specs.Codes.{sr, kindOf}
+use Rattle.codes.specs.Codes.{sr, decoded}
 use Rattle.terms.specs.declared.Rule.{Rule}
 use Rattle.chip.specs.declared.State.{State}
 use Rattle.chip.specs.declared.Answer.{Answer}
@@ -51,23 +51,27 @@ carried rule s service command =
     (cond (properOperands command (s .stack)) (done 0 (settled s service (outcomeOf rule command (s .stack)))) (refused Improper s))
 
 -- a code by its kind: 1 unknown, 2 derived
-abbrev pub answerOf : Rule → State → Bool → Kind → Answer
-answerOf rule s service (Known command) = carried rule s service command
-answerOf rule s service Derived = refused DerivedCode s
-answerOf rule s service Unknown = refused UnknownCode s
+abbrev pub answerByKind : Rule → State → Bool → Kind → Answer
+answerByKind rule s service (Known command) = carried rule s service command
+answerByKind rule s service Derived = refused DerivedCode s
+answerByKind rule s service Unknown = refused UnknownCode s
 
 -- a command under a rule for float results: the order of refusals is 13, 1, 2, 3, 4
 unfoldable pub commandUnder : Rule → State → ℕ → Answer
-commandUnder rule s code = unlessBusy s (answerOf rule s (sr code) (kindOf (code % 128)))
+commandUnder rule s code = unlessBusy s (answerByKind rule s (sr code) (decoded (code % 128)))
 
 abbrev pub commandOf : State → ℕ → Answer
 commandOf s code = commandUnder baseRule s code
 
--- ---- an event of the bus
+-- ---- an event of the bus, float results being formed under a rule
+abbrev pub answerTo : Rule → State → Event → Answer
+answerTo rule s (Push byte) = pushOf s byte
+answerTo rule s Pop = popOf s
+answerTo rule s (CommandEvent code) = commandUnder rule s code
+answerTo rule s Status = readOf s
+answerTo rule s Reset = resetOf s
+answerTo rule s Acknowledge = acknowledgeOf s
+
+-- and under the one rule of the base
 abbrev pub eventOf : State → Event → Answer
-eventOf s (Push byte) = pushOf s byte
-eventOf s Pop = popOf s
-eventOf s (CommandEvent code) = commandOf s code
-eventOf s Status = readOf s
-eventOf s Reset = resetOf s
-eventOf s Acknowledge = acknowledgeOf s
+eventOf s e = answerTo baseRule s e

@@ -10,15 +10,13 @@ use stack::word::top_word;
 use terms::Refusal;
 use terms::Width;
 ghost use mathlib.Core.Path.{_≡_};
-ghost use mathlib.Core.Bool.{true};
 ghost use Prim.Native.Nat.{_<_};
 ghost use lib.ListN.{length};
 ghost use Rattle.terms.specs.declared.Width.the-variants.{Single, Double};
-ghost use Rattle.float.specs.Word.{proper};
 ghost use Rattle.fixed.specs.Fixed.{add, sub, mul, muu, div, chs};
 ghost use Rattle.codes.specs.declared.Command.the-variants.{Float, Chsf, Flt, Fix, Pto, Pop, Xch, Pupi, Sqrt};
 ghost use Rattle.chip.specs.State.{left};
-ghost use Rattle.chip.specs.Commands.{baseRule, wordA, wordB, halfOf, keepsA, losesA, changesA, outcomeOf, properOperands};
+ghost use Rattle.chip.specs.Commands.{baseRule, wordA, wordB, halfOf, keepsA, losesA, changesA, outcomeOf};
 ghost use Rattle.chip.specs.Place.{Obeys};
 
 // What became of a command: done, with the status that it leaves, or refused.

@@ -6,21 +6,21 @@ use native.Mathlib.Omega.{arith}
 use lib.Dec.{eqb}
 use borrow.Author.Tests.{le-leb, lt-leb}
 use Rattle.terms.specs.Refusal.{numberOf}
-use Rattle.codes.specs.Codes.{sr, kindOf, refusalOf}
+use Rattle.codes.specs.Codes.{sr, decoded, refusalOf}
 
 -- how many of the codes below n are answered with a refusal's number
 abbrev pub howMany : ℕ → ℕ → ℕ
 howMany number zero = 0
-howMany number (suc n) = cond (eqb (numberOf (refusalOf (kindOf n))) number) 1 0 + howMany number n
+howMany number (suc n) = cond (eqb (numberOf (refusalOf (decoded n))) number) 1 0 + howMany number n
 
 -- known (0), derived (2), unknown (1): 33, 10 and 85
 pub counted : (howMany 0 128 ≡ 33) × (howMany 2 128 ≡ 10) × (howMany 1 128 ≡ 85)
-unfolding kindOf
+unfolding decoded
 counted = (refl, refl, refl)
 
 -- a code with bit 7 and without is of one kind
-pub either-way : (code : ℕ) → kindOf ((code + 128) % 128) ≡ kindOf (code % 128)
-either-way code = ap kindOf (omega arith)
+pub either-way : (code : ℕ) → decoded ((code + 128) % 128) ≡ decoded (code % 128)
+either-way code = ap decoded (omega arith)
 
 -- and its service line is high with bit 7, low without
 pub service-line : (code : ℕ) → code < 128 → (sr (code + 128) ≡ true) × (sr code ≡ false)

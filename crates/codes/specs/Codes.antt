@@ -97,8 +97,8 @@ find code [] = Unknown
 find code (row ∷ rows) = cond (eqb code (row .0)) (row .1) (find code rows)
 
 -- what a code without its bit 7 stands for
-unfoldable pub kindOf : ℕ → Kind
-kindOf code = find code figure8
+unfoldable pub decoded : ℕ → Kind
+decoded code = find code figure8
 
 -- the refusal of a code by its kind alone: a known command is none
 abbrev pub refusalOf : Kind → Refusal

@@ -2,7 +2,7 @@
 // carries its width, a derived function, or an unknown code.
 ghost use mathlib.Core.Path.{_≡_};
 ghost use Prim.Native.Nat.{_%_};
-ghost use Rattle.codes.specs.Codes.{sr, kindOf};
+ghost use Rattle.codes.specs.Codes.{sr, decoded};
 use terms::Width;
 
 // The four float operations on B and A.
@@ -42,7 +42,7 @@ pub enum Kind {
 
 // What a code without its bit 7 stands for: the rows of Figure 8, in its order.
 fn named(code: u8) -> Kind
-    ensures { λ r. ⌜ r ≡ kindOf code ⌝ }
+    ensures { λ r. ⌜ r ≡ decoded code ⌝ }
 {
     match code {
         0x6c => Kind::Known(Command::Add(Width::Single)),
@@ -94,7 +94,7 @@ fn named(code: u8) -> Kind
 
 // What a code stands for, whatever its bit 7.
 pub fn decode(code: u8) -> Kind
-    ensures { λ r. ⌜ r ≡ kindOf (code % 128) ⌝ }
+    ensures { λ r. ⌜ r ≡ decoded (code % 128) ⌝ }
 {
     named(code % 128)
 }

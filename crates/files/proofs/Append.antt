@@ -7,7 +7,7 @@ use native.Mathlib.Nat.{not-suc-le-zero, add-zero, sub-zero}
 use lib.ListN.{length, take, drop, length-drop, length-append}
 use lib.Seq.{take-append-le, drop-append-le, length-take-le, take-take, drop-length}
 use borrow.Author.Tests.{eq-eqb, ne-eqb}
-use Rattle.files.specs.Run.{Turned, Step, Outcome, ended, took, after, run, runBy}
+use Rattle.files.specs.Run.{Turned, RecordStep, Outcome, ended, took, after, run, runBy}
 use Rattle.files.specs.Lawful.{Lawful}
 use Rattle.files.proofs.Tests.{either-eq}
 use Rattle.files.proofs.Running.{beyond, unroll, after-none, after-after}
@@ -17,10 +17,10 @@ pub room-after : (room : ℕ) (v w : List ℕ) → room - length (v ++ w) ≡ ro
 room-after room v w = let g = length-append v w in omega arith
 
 -- the run that goes on after an outcome, in the room that it left
-abbrev pub onward : {S : Type 0} → Step S → Outcome S → List ℕ → ℕ → Outcome S
+abbrev pub onward : {S : Type 0} → RecordStep S → Outcome S → List ℕ → ℕ → Outcome S
 onward step o rest room = after (o .taken) (o .written) (runBy step (o .state) rest (room - length (o .written)))
 
-module _ {S : Type 0} {most : ℕ} {step : Step S} (ok : Lawful most step) where
+module _ {S : Type 0} {most : ℕ} {step : RecordStep S} (ok : Lawful most step) where
   -- a file of no bytes
   pub nothing : (s : S) (room : ℕ) → runBy step s [] room ≡ ended 0 s
   unfolding runBy run

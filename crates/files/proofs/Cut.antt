@@ -7,7 +7,7 @@ use lib.ListN.{length, take, drop, length-drop}
 use lib.Seq.{length-take-le}
 use Rattle.terms.specs.declared.Refusal.the-variants.{CutShort}
 use Rattle.terms.specs.Refusal.{numberOf}
-use Rattle.files.specs.Run.{Step, Outcome, ended, after, runBy}
+use Rattle.files.specs.Run.{RecordStep, Outcome, ended, after, runBy}
 use Rattle.files.specs.Lawful.{Lawful}
 use Rattle.files.proofs.Tests.{either-lt}
 use Rattle.files.proofs.Running.{beyond}
@@ -25,17 +25,17 @@ pub record CutOf {S : Type 0} (p o : Outcome S) (k n : ℕ) : Type 0 where
   pub at-end : k ≡ n → p .refusal ≡ 0
   pub in-one : n < k → p .refusal ≡ numberOf CutShort
 
-abbrev pub CutAt : {S : Type 0} → Step S → S → List ℕ → ℕ → ℕ → ℕ → Type 0
+abbrev pub CutAt : {S : Type 0} → RecordStep S → S → List ℕ → ℕ → ℕ → ℕ → Type 0
 CutAt step s l room k n = CutOf (runBy step s (take k l) room) (runBy step s (take n l) room) k n
 
 -- where the run ends with o, every cut has its whole records
-abbrev Cuts : {S : Type 0} → Step S → S → List ℕ → ℕ → Outcome S → Type 0
+abbrev Cuts : {S : Type 0} → RecordStep S → S → List ℕ → ℕ → Outcome S → Type 0
 Cuts step s l room o = o .refusal ≡ 0 → (k : ℕ) → k ≤ length l → (n : ℕ) × CutAt step s l room k n
 
 zero-of : (k : ℕ) → k ≤ 0 → 0 ≡ k
 zero-of k h = omega arith
 
-module _ {S : Type 0} {most : ℕ} {step : Step S} (ok : Lawful most step) where
+module _ {S : Type 0} {most : ℕ} {step : RecordStep S} (ok : Lawful most step) where
   -- a cut before the first byte
   cut-none : (s : S) (l : List ℕ) (room : ℕ) → CutAt step s l room 0 0
   cut-none s l room = rw (nothing ok s room) record {

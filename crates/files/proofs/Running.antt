@@ -9,11 +9,11 @@ use lib.Seq.{length-take-le, drop-drop, drop-at, take-at}
 use lib.Dec.{eqb}
 use lib.ListN.{length, take, drop, length-drop, length-append, take-append-drop, drop-of-length-le}
 use borrow.Author.Tests.{eqb-true, eq-eqb, ne-eqb}
-use Rattle.files.specs.Run.{Turned, Step, Outcome, ended, after, next, run, runBy, Turns, Runs}
+use Rattle.files.specs.Run.{Turned, RecordStep, Outcome, ended, after, next, run, runBy, Turns, Runs}
 use Rattle.files.specs.Lawful.{Lawful}
 
 -- the run of what follows a record, in the room that its reply left
-abbrev pub beyond : {S : Type 0} → Step S → Turned S → List ℕ → ℕ → Outcome S
+abbrev pub beyond : {S : Type 0} → RecordStep S → Turned S → List ℕ → ℕ → Outcome S
 beyond step t l room = runBy step (t .state) (drop (t .size) l) (room - length (t .reply))
 
 -- next looks at what follows only where the record is not refused
@@ -25,7 +25,7 @@ same-next t o p h = pick (eqb (t .refusal) 0) refl
     pick false e = refl
 
 -- where a run of a file stands: at, w, the state and the replies so far
-pub record Going {S : Type 0} (step : Step S) (s₀ : S) (input replies₀ : List ℕ) (s : S) (at w : ℕ) (replies : List ℕ) : Type 0 where
+pub record Going {S : Type 0} (step : RecordStep S) (s₀ : S) (input replies₀ : List ℕ) (s : S) (at w : ℕ) (replies : List ℕ) : Type 0 where
   pub at-most : at ≤ length input
   pub room : w ≤ length replies
   pub same : length replies ≡ length replies₀
@@ -39,7 +39,7 @@ after-none o = rw (zero-add (o .taken))
 pub after-after : {S : Type 0} (m n : ℕ) (v w : List ℕ) (o : Outcome S) → after m v (after n w o) ≡ after (m + n) (v ++ w) o
 after-after m n v w o = rw (add-assoc m n (o .taken), append-assoc v w (o .written))
 
-module _ {S : Type 0} {most : ℕ} {step : Step S} (ok : Lawful most step) where
+module _ {S : Type 0} {most : ℕ} {step : RecordStep S} (ok : Lawful most step) where
   -- more steps than bytes make no difference
   enough : (f g : ℕ) (s : S) (l : List ℕ) (room : ℕ) → length l ≤ f → length l ≤ g → run step f s l room ≡ run step g s l room
   unfolding run

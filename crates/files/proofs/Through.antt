@@ -6,7 +6,7 @@ use native.Mathlib.Omega.{arith}
 use native.Mathlib.Nat.{not-suc-le-zero, zero-add, suc-add, sub-zero, mul-add, add-le-add}
 use lib.ListN.{length, take, drop, length-drop, length-append}
 use lib.Seq.{length-take-le, take-take, take-nil, drop-drop}
-use Rattle.files.specs.Run.{Step, Outcome, ended, after, runBy}
+use Rattle.files.specs.Run.{RecordStep, Outcome, ended, after, runBy}
 use Rattle.files.specs.Lawful.{Stopping, Lawful}
 use Rattle.files.proofs.Tests.{either-eq}
 use Rattle.files.proofs.Running.{beyond}
@@ -30,7 +30,7 @@ drop-take zero k l = rw (zero-add k)
 drop-take (suc m) k [] = rw (suc-add m k) (sym (take-nil k))
 drop-take (suc m) k (x ∷ l) = rw (suc-add m k) (drop-take m k l)
 
-module _ {S : Type 0} {most : ℕ} {step : Step S} (ok : Lawful most step) where
+module _ {S : Type 0} {most : ℕ} {step : RecordStep S} (ok : Lawful most step) where
   -- by the bytes of the file
   module _ (P : S → List ℕ → ℕ → Outcome S → Type 0)
       (none : (s : S) (room : ℕ) → P s [] room (ended 0 s))

@@ -1,18 +1,18 @@
--- What a record step must keep for the laws of a run. Definitions only. Assumes nothing.
+-- What a record step must keep for the laws of a run, as the proofs have it and 01 does not. Definitions only. Assumes nothing.
 use Prim.Native.Nat.{ℕ, _*_, _≤_, _<_}
 use mathlib.Core.Path.{_≡_}
 use mathlib.Core.List.{List}
 use lib.ListN.{length, take}
 use Rattle.terms.specs.declared.Refusal.the-variants.{NoSuchKind, CutShort, NoRoom}
 use Rattle.terms.specs.Refusal.{numberOf}
-use Rattle.files.specs.Run.{Step, idle}
+use Rattle.files.specs.Run.{RecordStep, idle}
 
 -- the refusals that end a run, 5 to 8
 abbrev pub Stopping : ℕ → Type 0
 Stopping r = (numberOf NoSuchKind ≤ r) × (r ≤ numberOf NoRoom)
 
 -- a step whose replies have at most so many bytes for each byte of their record
-pub record Lawful {S : Type 0} (most : ℕ) (step : Step S) : Type 0 where
+pub record Lawful {S : Type 0} (most : ℕ) (step : RecordStep S) : Type 0 where
   -- a record that stops stops with 5 to 8 and nothing done
   pub stops : (s : S) (l : List ℕ) (room : ℕ) → (step s l room .refusal ≡ 0 → ⊥) → Stopping (step s l room .refusal) × (step s l room ≡ idle (step s l room .refusal) s)
   -- a record that is taken has a byte, stands in the file, and its reply fits the room and is short

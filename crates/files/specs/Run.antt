@@ -18,8 +18,8 @@ abbrev pub idle : {S : Type 0} → ℕ → S → Turned S
 idle r s = record { refusal = r; state = s; size = 0; reply = [] }
 
 -- a record step: of a state, of what is left of the file, of the room for its reply
-abbrev pub Step : Type 0 → Type 0
-Step S = S → List ℕ → ℕ → Turned S
+abbrev pub RecordStep : Type 0 → Type 0
+RecordStep S = S → List ℕ → ℕ → Turned S
 
 -- what a run leaves: its refusal, the state, the bytes of whole records taken, the replies written
 pub record Outcome (S : Type 0) : Type 0 where
@@ -45,7 +45,7 @@ abbrev pub next : {S : Type 0} → Turned S → Outcome S → Outcome S
 next t o = cond (eqb (t .refusal) 0) (after (t .size) (t .reply) o) (ended (t .refusal) (t .state))
 
 -- a run of at most so many records, with so much room for the replies
-unfoldable pub run : {S : Type 0} → Step S → ℕ → S → List ℕ → ℕ → Outcome S
+unfoldable pub run : {S : Type 0} → RecordStep S → ℕ → S → List ℕ → ℕ → Outcome S
 run step zero s l room = ended 0 s
 run step (suc f) s [] room = ended 0 s
 run step (suc f) s (x ∷ l) room =
@@ -53,7 +53,7 @@ run step (suc f) s (x ∷ l) room =
     (run step f (step s (x ∷ l) room .state) (drop (step s (x ∷ l) room .size) (x ∷ l)) (room - length (step s (x ∷ l) room .reply)))
 
 -- the run of a file by a step: no file has more records than bytes
-unfoldable pub runBy : {S : Type 0} → Step S → S → List ℕ → ℕ → Outcome S
+unfoldable pub runBy : {S : Type 0} → RecordStep S → S → List ℕ → ℕ → Outcome S
 runBy step s l room = run step (length l) s l room
 
 -- a turn of the code beside a definition's: of a file and of room, as they were and as the room is left

@@ -1,23 +1,23 @@
 -- What the operations promise: the exact result where no error bit is set, the exact one modulo 2 ^ n, carry and borrow. Assumes nothing.
 use mathlib.Core.Path.{_≡_, refl, sym, ap, ap₂, _∙_, subst}
-use mathlib.Core.Logic.{_⊎_, ⊎-elim}
-use Prim.Native.Nat.{ℕ, zero, suc, _+_, _-_, _*_, _/_, _≤_, _<_}
+use mathlib.Core.Logic.{⊎-elim}
+use Prim.Native.Nat.{ℕ, zero, suc, _+_, _*_, _/_, _≤_, _<_}
 use native.Mathlib.Nat.{mod-lt, lt-of-le-of-lt, div-add-mod', div-le-self, le-of-lt}
 use native.Mathlib.Omega.{arith}
 use mathlib.Core.Bool.{Bool, true, false, not, _||_, cond}
-use lib.IntN.{ℤ, pos, negsuc, negℤ, subℕ, _+ℤ_, _-ℤ_, _*ℤ_, natAbs}
+use lib.IntN.{ℤ, pos, negsuc, negℤ, _+ℤ_, _-ℤ_, _*ℤ_, natAbs}
 use lib.Signed.{mag, quotZ, shrZ}
 use lib.Dec.{leb, ltb, eqb}
 use lib.Ieee.{unlike}
-use borrow.Author.Tests.{lt-ltb, le-ltb, le-leb, lt-leb, eq-eqb, eqb-false, not-false}
+use borrow.Author.Tests.{lt-ltb, le-leb, lt-leb, eq-eqb, eqb-false, not-false}
 use Rattle.whole.specs.Signed.{withSign}
-use Rattle.whole.proofs.Differences.{either, opposite-difference}
+use Rattle.whole.proofs.Differences.{either}
 use Rattle.whole.proofs.Signs.{opposite}
 use Rattle.fixed.specs.declared.Fixed.{Fixed}
 use Rattle.whole.proofs.Signs.{size-of-signed}
 use Rattle.fixed.specs.Parts.{Words, negativeAt, magnitudeAt}
 use Rattle.fixed.specs.Fixed.{signed, fits, low, overflowIf, outcome, eitherLeast, addOverflow, subOverflow, mulOverflow, add, sub, mul, muu, div, chs, isLeast, unlessLeast}
-use Rattle.fixed.proofs.LowBits.{fits-mag, low-is, low-lt, kept, parted}
+use Rattle.fixed.proofs.LowBits.{fits-mag, low-lt, kept, parted}
 use Rattle.fixed.proofs.Products.{upper-lt, signed-withSign, product, quotient, product-few, abs-some}
 
 no-overflow : (t : Bool) → overflowIf t ≡ 0 → t ≡ false
@@ -202,15 +202,6 @@ module _ (h b a : ℕ) (W : Words h b a) where
 pub chs-word : (h a : ℕ) → 0 < h → chs h a .word < 2 * h
 unfolding chs
 chs-word h a p = low-lt h (negℤ (signed h a)) p
-
--- the least value stays
-pub chs-least : (h : ℕ) → 0 < h → chs h h ≡ outcome h 1 false
-unfolding chs
-chs-least h p =
-    let e : signed h h ≡ subℕ h (2 * h) = rw (le-ltb h h (omega arith)) in
-    ap₂ (λ (w : ℕ) (t : Bool). outcome w (overflowIf t) false)
-    (ap (λ (z : ℤ). low h (negℤ z)) e ∙ ap (low h) (opposite-difference h (2 * h)) ∙ low-is h (2 * h) h h 0 0 (omega arith) (omega arith))
-    (eq-eqb h h refl)
 
 -- ---- the exact result modulo 2 ^ n: it is a multiple of 2 ^ n more than the word
 

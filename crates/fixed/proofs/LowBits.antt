@@ -1,6 +1,6 @@
 -- The range of a width, the low bits of a whole number, and what a word stands for. Assumes nothing.
 use mathlib.Core.Path.{_≡_, refl, sym, ap, _∙_}
-use mathlib.Core.Logic.{_⊎_, ⊎-elim}
+use mathlib.Core.Logic.{⊎-elim}
 use Prim.Native.Nat.{ℕ, zero, suc, _+_, _-_, _*_, _/_, _%_, _≤_, _<_}
 use native.Mathlib.Nat.{mod-add-div', mod-lt, mod-eq-of-lt, add-mul-mod-self-right, pos-of-ne-zero, div-add-mod'}
 use native.Mathlib.Omega.{arith}
@@ -164,15 +164,6 @@ kept h (negsuc k) f =
     let l : k < h = ltb-true k h (sym (fits-mag h (negsuc k)) ∙ f) in
     let e : 2 * h - suc (k % (2 * h)) ≡ 2 * h - suc k = ap (λ (n : ℕ). 2 * h - suc n) (mod-eq-of-lt (omega arith)) in
     rw (e, le-ltb (2 * h - suc k) h (omega arith)) (sub-lt (2 * h - suc k) (2 * h) (omega arith) ∙ ap negsuc (omega arith))
-
--- and each word is the low bits of what it stands for
-pub word-back : (h w : ℕ) → w < 2 * h → low h (signed h w) ≡ w
-unfolding low
-word-back h w l =
-    ⊎-elim
-    (λ (k : w < h). rw (lt-ltb w h k) (mod-eq-of-lt l))
-    (λ (k : h ≤ w). rw (le-ltb w h k) (ap (low h) (sub-lt w (2 * h) l) ∙ ap (λ (n : ℕ). 2 * h - suc n) (mod-eq-of-lt (omega arith)) ∙ omega arith))
-    (either w h)
 
 -- a whole number is its upper part, rounded down, times 2h, and its low bits
 pub parted : (h : ℕ) (z : ℤ) → 0 < h → z ≡ shrZ z (2 * h) *ℤ pos (2 * h) +ℤ pos (low h z)

@@ -1,18 +1,18 @@
 -- Products, quotients and the change of sign by sign and magnitude, as the code forms them. Assumes nothing.
 use mathlib.Core.Path.{_≡_, refl, sym, ap, ap₂, _∙_}
-use mathlib.Core.Logic.{_⊎_, ⊎-elim}
+use mathlib.Core.Logic.{⊎-elim}
 use Prim.Native.Nat.{ℕ, zero, suc, _-_, _*_, _/_, _%_, _≤_, _<_}
 use native.Mathlib.Nat.{mod-eq-of-lt, pos-of-ne-zero, mul-pos, mul-le-mul, le-trans, lt-of-le-of-lt, div-lt-iff-lt-mul, zero-div, div-zero, zero-mod}
 use native.Mathlib.Omega.{arith}
 use mathlib.Core.Bool.{Bool, true, false, not}
-use lib.IntN.{ℤ, pos, negℤ, _*ℤ_}
+use lib.IntN.{ℤ, negℤ, _*ℤ_}
 use lib.Signed.{quotZ, shrZ}
 use lib.Dec.{eqb, lit<}
 use lib.Ieee.{unlike}
 use borrow.Author.Tests.{lt-ltb, le-ltb, le-leb, lt-leb, eq-eqb, ne-eqb, leb-true, leb-false}
 use Rattle.whole.specs.Signed.{withSign}
 use Rattle.whole.proofs.Differences.{either, same, neg-pos}
-use Rattle.whole.proofs.Signs.{times, opposite}
+use Rattle.whole.proofs.Signs.{zero-signed, times, opposite}
 use Rattle.fixed.specs.Parts.{Words, negativeAt, magnitudeAt}
 use Rattle.fixed.specs.Fixed.{signed, fits, low, overflowIf, outcome, eitherLeast, mul, muu, div, chs}
 
@@ -21,11 +21,7 @@ upper-lt h m p l = div-lt-iff-lt-mul {k = 2 * h} {x = m} {y = h} (omega arith) .
 
 pub upper-none : (h m : ℕ) (s : Bool) → m ≡ 0 → 0 < h → 0 ≡ low h (shrZ (withSign s m) (2 * h))
 unfolding low
-upper-none h m s e p = sym (ap (λ (k : ℕ). low h (shrZ (withSign s k) (2 * h))) e ∙ ap (λ (z : ℤ). low h (shrZ z (2 * h))) (none s) ∙ ap (λ (k : ℕ). k % (2 * h)) (zero-div (2 * h)) ∙ zero-mod (2 * h))
-  where
-    none : (s : Bool) → withSign s 0 ≡ pos 0
-    none true = refl
-    none false = refl
+upper-none h m s e p = sym (ap (λ (k : ℕ). low h (shrZ (withSign s k) (2 * h))) e ∙ ap (λ (z : ℤ). low h (shrZ z (2 * h))) (zero-signed s) ∙ ap (λ (k : ℕ). k % (2 * h)) (zero-div (2 * h)) ∙ zero-mod (2 * h))
 
 pub upper-pos : (h m : ℕ) (s : Bool) → s ≡ false → 0 < h → m < 2 * h * h → m / (2 * h) ≡ low h (shrZ (withSign s m) (2 * h))
 unfolding low

@@ -1,4 +1,4 @@
--- 01's float bench rows, and the float results of READING's notes, computed from the definitions. Assumes nothing.
+-- 01's float bench rows, and the float rows that decide where the documents are silent, computed from the definitions. Assumes nothing.
 use mathlib.Core.Path.{_≡_, refl}
 use mathlib.Core.List.{List, [], _∷_}
 use Prim.Native.Nat.{ℕ}

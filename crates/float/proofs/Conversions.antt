@@ -10,7 +10,6 @@ use native.Mathlib.Omega.{arith}
 use borrow.Author.Tests.{le-leb, lt-leb, leb-true, leb-false}
 use lib.Dec.{leb, ltb, lit<, lit≤}
 use lib.IntN.{ℤ, pos, natAbs, _*ℤ_}
-use lib.Ieee.{unlike}
 use lib.Pow.{pow-pos}
 use Rattle.whole.specs.Signed.{withSign}
 use Rattle.whole.proofs.Differences.{either}
@@ -24,7 +23,7 @@ use Rattle.float.specs.Convert.{integer, fltd, flts, wholePart, compleme
 use Rattle.float.specs.Exact.{Exactly, Truncated, Fixes}
 use Rattle.float.proofs.Powers.{parted}
 use Rattle.float.proofs.Pair.{cut-zero}
-use Rattle.float.proofs.Signs.{cut-sign}
+use Rattle.float.proofs.Signs.{alone, cut-sign}
 use Rattle.float.proofs.Values.{grid, error-in, cut-stored, cut-value}
 use Rattle.float.proofs.Steps.{exactly, lost-least, lost-most}
 use Rattle.float.proofs.Kept.{fits-exact}
@@ -90,10 +89,6 @@ pub fltd-exactly : (a : ℕ) → a < 4294967296 → Exactly (integer (2 ^ 31) a)
 unfolding fltd
 fltd-exactly a h = integer-exactly (2 ^ 31) a (le-refl 2147483648) h
 
-pub flts-exactly : (a : ℕ) → a < 65536 → Exactly (integer (2 ^ 15) a) 1 (pos 1) (pos 32) (flts Cut a)
-unfolding flts
-flts-exactly a h = integer-exactly (2 ^ 15) a (lit≤ tt) h
-
 -- FLTS: the word's value is A's value
 pub flts-exact : (r : Rule) (a : ℕ) → a < 65536 → value ((flts r a) .word) ≡ integer (2 ^ 15) a *ℤ pos (2 ^ 88)
 flts-exact r a h =
@@ -110,10 +105,6 @@ flts-exact r a h =
   where
     shrink : (y z : ℕ) → y * 2 ^ 112 ≡ z * 2 ^ 112 → y ≡ z
     shrink y z e = omega arith
-
-    alone : (t : Bool) (n : ℕ) → withSign (unlike t false) n ≡ withSign t n
-    alone true n = refl
-    alone false n = refl
 
 -- ---- FIXD and FIXS
 -- the whole part: a whole number of 2 ^ 88, and less than one more

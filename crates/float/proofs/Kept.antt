@@ -8,7 +8,7 @@ use native.Mathlib.Nat.{le-refl, lt-of-lt-of-le, mul-assoc, mul-right-comm, mul-
 use native.Mathlib.Omega.{arith}
 use borrow.Author.Tests.{leb-true, leb-false}
 use lib.Dec.{leb, lit<}
-use lib.IntN.{ℤ, pos, negsuc, natAbs, _*ℤ_}
+use lib.IntN.{ℤ, pos, natAbs, _*ℤ_}
 use lib.Pow.{pow-add, pow-pos}
 use lib.Ieee.{size, nearest}
 use lib.Ieee.Digits.{size-le}
@@ -23,7 +23,7 @@ use Rattle.float.proofs.Powers.{parted}
 use Rattle.float.proofs.Proper.{proper-cases}
 use Rattle.float.proofs.Pair.{whole-same, lost-is, cut-of, cut-zero}
 use Rattle.float.proofs.Jams.{same-cut, stands-cut}
-use Rattle.float.proofs.Signs.{signed-parts, times-size, cut-sign}
+use Rattle.float.proofs.Signs.{signed-parts, nought, times-size, cut-sign}
 use Rattle.float.proofs.Values.{grid, error-in}
 
 -- ---- under either rule a whole number stays
@@ -90,10 +90,6 @@ own-value r w z d W D e = go (proper-cases w (W .is-proper))
     sizes : size88 w * d ≡ natAbs z * 2 ^ 88
     sizes =
         ap (λ (x : ℕ). x * d) (sym sized) ∙ sym (size-of-signed (below0 (value w)) (natAbs (value w) * d)) ∙ ap natAbs signs ∙ size-of-signed (below0 z) (natAbs z * 2 ^ 88)
-
-    nought : (y : ℤ) → natAbs y ≡ 0 → y ≡ pos 0
-    nought (pos n) f = ap pos f
-    nought (negsuc n) f = absurd (omega arith)
 
     zeroed : (x : ℕ) → x * 2 ^ 88 ≡ 0 → x ≡ 0
     zeroed x f = omega arith

@@ -6,7 +6,7 @@ use Prim.Native.Nat.{ℕ, _+_, _*_, _^_, _≤_, _<_}
 use native.Mathlib.Nat.{mul-one, mul-right-comm, mul-le-mul-right, mul-pos, pos-of-ne-zero, zero-mul}
 use native.Mathlib.Omega.{arith}
 use borrow.Author.Tests.{eq-eqb, ne-eqb}
-use lib.IntN.{ℤ, pos, negℤ, natAbs, _*ℤ_, +ℤ-comm}
+use lib.IntN.{ℤ, pos, negℤ, natAbs, _*ℤ_}
 use lib.Signed.{_≤ℤ_}
 use lib.Ieee.{unlike}
 use lib.Pow.{pow-pos}
@@ -126,11 +126,6 @@ cut-by r false z z' d D h e e' = cut-keeps r z z' d d D D (keep-factor z z' d h)
 pub add-keeps : (r : Rule) (b b' a : ℕ) → Le b b' → (add r b a) .error ≡ 0 → (add r b' a) .error ≡ 0 → Le ((add r b a) .word) ((add r b' a) .word)
 unfolding add
 add-keeps r b b' a h e e' = cut-by r false (exactSum b a) (exactSum b' a) (2 ^ 88) (pow-pos 88) (le-sum-left (value b) (value b') (value a) h) e e'
-
--- a sum does not ask for the order of its operands
-pub add-swap : (r : Rule) (b a : ℕ) → add r b a ≡ add r a b
-unfolding add
-add-swap r b a = ap (λ (z : ℤ). cut r z (2 ^ 88)) (+ℤ-comm (value b) (value a))
 
 pub add-keeps-right : (r : Rule) (b a a' : ℕ) → Le a a' → (add r b a) .error ≡ 0 → (add r b a') .error ≡ 0 → Le ((add r b a) .word) ((add r b a') .word)
 unfolding add

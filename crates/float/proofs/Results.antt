@@ -7,7 +7,7 @@ use native.Mathlib.Nat.{le-refl, le-trans, le-of-eq, le-of-lt, lt-of-lt-of-le, e
 use native.Mathlib.Omega.{arith}
 use borrow.Author.Tests.{le-leb, ltb-true, eqb-false}
 use lib.Dec.{ltb, leb, eqb, lit<, lit≤}
-use lib.IntN.{ℤ, pos, natAbs}
+use lib.IntN.{ℤ, natAbs}
 use lib.Pow.{pow-pos, pow-mono}
 use Rattle.float.specs.declared.Flagged.{Flagged}
 use Rattle.float.specs.Word.{biased, mantissa, size88, FloatWord}
@@ -67,11 +67,6 @@ exact-result r z d D h = cut-result r (below0 z) (natAbs z * 2 ^ 200) d D (reach
     reach : {n : ℕ} → (n ≡ 0) ⊎ (0 < n) → (n * 2 ^ 200 ≡ 0) ⊎ (8388608 * d ≤ n * 2 ^ 200)
     reach (inl e) = inl (ap (λ (y : ℕ). y * 2 ^ 200) e ∙ zero-mul (2 ^ 200))
     reach (inr p) = inr (le-trans h (le-trans (le-of-eq (sym (one-mul (2 ^ 200)))) (mul-le-mul-right (2 ^ 200) p)))
-
--- zero gives the zero word
-pub zero-word : (r : Rule) (d : ℕ) → cut r (pos 0) d ≡ zeroWord
-unfolding cut
-zero-word r d = cut-zero r false (0 * 2 ^ 200) d refl
 
 -- ---- the operations
 pub add-result : (r : Rule) (b a : ℕ) → Result (add r b a)

@@ -2,7 +2,7 @@
 use mathlib.Core.Path.{_≡_, refl, sym, ap, ap₂, _∙_, subst, subst₂}
 use mathlib.Core.Logic.{_⊎_, inl, inr}
 use mathlib.Core.Bool.{Bool, true, false}
-use Prim.Native.Nat.{ℕ, _+_, _-_, _*_, _^_, _≤_, _<_}
+use Prim.Native.Nat.{ℕ, _+_, _*_, _^_, _≤_, _<_}
 use native.Mathlib.Nat.{le-refl, le-trans, le-of-eq, lt-of-lt-of-le, lt-of-le-of-lt, eq-zero-or-pos, mul-assoc, mul-comm, mul-one, mul-mul-mul-comm, mul-le-mul, mul-le-mul-left, mul-le-mul-right, mul-lt-mul-of-pos-right, le-of-mul-le-mul-right, lt-of-mul-lt-mul-right}
 use native.Mathlib.Omega.{arith}
 use lib.Dec.{lit<, lit≤}
@@ -19,7 +19,7 @@ use Rattle.terms.specs.declared.Rule.the-variants.{Cut}
 use Rattle.float.specs.Cut.{lost, kept, digitsOf, stored, cutSize}
 use Rattle.float.specs.Float.{Result}
 use Rattle.float.specs.Order.{Le}
-use Rattle.float.specs.Root.{wholeRoot, rootHalves, radicand, sqrt, squareExponent, RootPair, Roots, ExactlyRoot}
+use Rattle.float.specs.Root.{wholeRoot, rootHalves, radicand, sqrt, squareExponent, RootPair, RootCuts, ExactlyRoot}
 use Rattle.float.proofs.Powers.{parted}
 use Rattle.float.proofs.Signs.{signed-le, le-signed, cut-scaled}
 use Rattle.float.proofs.Pair.{PairAt, cuts-only, cuts-one, cut-of, grid-mono}
@@ -138,7 +138,7 @@ halves-pair N m k p =
     (p .0, p .1, omega arith, omega arith)
 
 -- ---- SQRT under the base's rule: the one pair, no error, e from -32 to 32
-root-is : (a : ℕ) → negative a ≡ false → 2 ^ 23 ≤ size88 a → Roots (size88 a) (sqrt Cut a)
+root-is : (a : ℕ) → negative a ≡ false → 2 ^ 23 ≤ size88 a → RootCuts (size88 a) (sqrt Cut a)
 root-is a s h =
     let n = rootHalves (radicand a) in
     let m = kept Cut n 2 in
@@ -149,7 +149,7 @@ root-is a s h =
     let c = cuts-one n 2 (lit< tt) big in
     let e : sqrt Cut a ≡ stored false m k = root-cut Cut a s ∙ cut-of Cut false n 2 m k (lt-of-lt-of-le (lit< {m = 0} {n = 8388608 * 2} tt) big) (c .1) (refl, refl) in
     let w = steps false m k (c .1) (lt-of-le-of-lt hi (lit< tt)) .within (le-differences 112 176 k 176 (omega arith)) (le-differences k 176 239 176 (omega arith)) in
-    subst (λ (r : Flagged). Roots (size88 a) r) (sym e)
+    subst (λ (r : Flagged). RootCuts (size88 a) r) (sym e)
     (record {
       m = m;
       e = subℕ k 176;
@@ -158,8 +158,8 @@ root-is a s h =
       digits = packed-mantissa false m k (c .1);
       place = w .1;
       none = w .0;
-      least = le-differences 144 176 k 176 (omega arith);
-      most = le-differences k 176 208 176 (omega arith);
+      at-least = le-differences 144 176 k 176 (omega arith);
+      at-most = le-differences k 176 208 176 (omega arith);
     })
 
 pub root-exactly : (a : ℕ) → proper a ≡ true → ExactlyRoot a (sqrt Cut a)

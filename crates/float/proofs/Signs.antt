@@ -2,7 +2,8 @@
 use mathlib.Core.Path.{_≡_, refl, sym, ap, ap₂, _∙_, subst₂}
 use mathlib.Core.Logic.{inl}
 use mathlib.Core.Bool.{Bool, true, false, cond}
-use Prim.Native.Nat.{ℕ, zero, suc, _+_, _-_, _*_, _^_, _≤_}
+use Prim.Native.Nat.{ℕ, zero, suc, _+_, _*_, _^_, _≤_}
+use native.Mathlib.Omega.{arith}
 use lib.IntN.{ℤ, pos, negsuc, natAbs, _*ℤ_}
 use lib.Signed.{_≤ℤ_}
 use lib.Ieee.{unlike}
@@ -19,9 +20,14 @@ pub signed-parts : (z : ℤ) → z ≡ withSign (below0 z) (natAbs z)
 signed-parts (pos n) = refl
 signed-parts (negsuc n) = refl
 
-alone : (s : Bool) (n : ℕ) → withSign (unlike s false) n ≡ withSign s n
+pub alone : (s : Bool) (n : ℕ) → withSign (unlike s false) n ≡ withSign s n
 alone true n = refl
 alone false n = refl
+
+-- a number of magnitude 0 is zero
+pub nought : (z : ℤ) → natAbs z ≡ 0 → z ≡ pos 0
+nought (pos n) e = ap pos e
+nought (negsuc n) e = absurd (omega arith)
 
 pub times-size : (z : ℤ) (k : ℕ) → z *ℤ pos k ≡ withSign (below0 z) (natAbs z * k)
 times-size z k = ap (λ (u : ℤ). u *ℤ pos k) (signed-parts z) ∙ times (below0 z) false (natAbs z) k ∙ alone (below0 z) (natAbs z * k)

@@ -8,7 +8,7 @@ use native.Mathlib.Nat.{le-refl, le-trans, le-of-eq, le-of-lt, lt-of-lt-of-le, l
 use native.Mathlib.Omega.{arith}
 use borrow.Author.Tests.{lt-leb, le-leb, lt-ltb, eq-eqb}
 use lib.Dec.{lit<}
-use lib.IntN.{ℤ, pos, negsuc, negℤ, natAbs, subℕ, _+ℤ_}
+use lib.IntN.{ℤ, pos, negℤ, natAbs, subℕ, _+ℤ_}
 use lib.Ieee.{size, unlike}
 use lib.Ieee.Digits.{size-le}
 use lib.Pow.{pow-add, pow-pos, pow-mono}
@@ -26,6 +26,7 @@ use Rattle.float.proofs.Powers.{mul-digits}
 use Rattle.float.proofs.Proper.{proper-norm}
 use Rattle.float.proofs.Pair.{size-gt, cuts-one, cut-of, cut-zero}
 use Rattle.float.proofs.OnePair.{from-scale}
+use Rattle.float.proofs.Signs.{nought}
 use Rattle.float.proofs.Values.{packed-mantissa, packed-biased, packed-sign, error-in}
 use Rattle.float.proofs.Order.{size-pos, div-cut}
 
@@ -71,10 +72,6 @@ pub exactly : (z : ℤ) (d i j : ℕ) → 0 < d → j < 368 → (0 < natAbs z �
     → Exactly z d (subℕ i 176) (subℕ j 176) (cut Cut z d)
 exactly z d i j D J h = go (eq-zero-or-pos (natAbs z))
   where
-    nought : (y : ℤ) → natAbs y ≡ 0 → y ≡ pos 0
-    nought (pos n) e = ap pos e
-    nought (negsuc n) e = absurd (omega arith)
-
     go : (natAbs z ≡ 0) ⊎ (0 < natAbs z) → Exactly z d (subℕ i 176) (subℕ j 176) (cut Cut z d)
     go (inl e) = inl (nought z e, unfold cut in cut-zero Cut (below0 z) (natAbs z * 2 ^ 200) d (ap (λ (x : ℕ). x * 2 ^ 200) e ∙ zero-mul (2 ^ 200)))
     go (inr p) =
@@ -95,8 +92,8 @@ exactly z d i j D J h = go (eq-zero-or-pos (natAbs z))
           sign = packed-sign (below0 z) m k (c .1);
           digits = packed-mantissa (below0 z) m k (c .1);
           step = steps (below0 z) m k (c .1) (lt-of-le-of-lt hi J);
-          least = le-differences i 176 k 176 (omega arith);
-          most = le-differences k 176 j 176 (omega arith);
+          at-least = le-differences i 176 k 176 (omega arith);
+          at-most = le-differences k 176 j 176 (omega arith);
         }))
 
 -- ---- the magnitude of a word, times 2 ^ 88

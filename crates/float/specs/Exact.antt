@@ -30,8 +30,8 @@ pub record Cuts (z : ℤ) (d : ℕ) (lo hi : ℤ) (r : Flagged) : Type 0 where
   pub sign : negative (r .word) ≡ below0 z
   pub digits : mantissa (r .word) ≡ m
   pub step : Steps e r
-  pub least : lo ≤ℤ e
-  pub most : e ≤ℤ hi
+  pub at-least : lo ≤ℤ e
+  pub at-most : e ≤ℤ hi
 
 -- r is what 01 asks for the exact value z / d: the zero word for zero, else its cut
 abbrev pub Exactly : ℤ → ℕ → ℤ → ℤ → Flagged → Type 0

@@ -26,7 +26,7 @@ pub record RootPair (n m : ℕ) (e : ℤ) : Type 0 where
   pub passed : n * down (squareExponent e) < (m + 1) * (m + 1) * (2 ^ 88 * up (squareExponent e))
 
 -- the word of r is the root of the magnitude n / 2 ^ 88: no sign, no error, the m and e of the pair, e from -32 to 32
-pub record Roots (n : ℕ) (r : Flagged) : Type 0 where
+pub record RootCuts (n : ℕ) (r : Flagged) : Type 0 where
   pub m : ℕ
   pub e : ℤ
   pub pair : RootPair n m e
@@ -34,13 +34,13 @@ pub record Roots (n : ℕ) (r : Flagged) : Type 0 where
   pub digits : mantissa (r .word) ≡ m
   pub place : exponent (r .word) ≡ e
   pub none : r .error ≡ 0
-  pub least : negℤ (pos 32) ≤ℤ e
-  pub most : e ≤ℤ pos 32
+  pub at-least : negℤ (pos 32) ≤ℤ e
+  pub at-most : e ≤ℤ pos 32
 
 -- what request 1 wants of SQRT: zero for zero, A and the error of a negative root for a negative word, else the root
 abbrev pub ExactlyRoot : ℕ → Flagged → Type 0
 ExactlyRoot a r =
-    ((size88 a ≡ 0) × (r ≡ zeroWord)) ⊎ ((negative a ≡ true) × (r ≡ record { word = a; error = negativeRoot })) ⊎ ((negative a ≡ false) × Roots (size88 a) r)
+    ((size88 a ≡ 0) × (r ≡ zeroWord)) ⊎ ((negative a ≡ true) × (r ≡ record { word = a; error = negativeRoot })) ⊎ ((negative a ≡ false) × RootCuts (size88 a) r)
 
 -- ---- a function that finds it, under either rule, in whole numbers alone
 -- the whole part of the root of an n below 4 ^ k, digit by digit: that of n / 4, doubled, and one more where the square of that is at most n

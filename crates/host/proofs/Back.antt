@@ -9,13 +9,14 @@ use borrow.Author.Tests.{ltb-false, leb-false, eqb-true}
 use lib.Ieee.{Float, binary32, ofBits, toBits}
 use lib.Ieee.Bits.{ofBits-fits, ofBits-toBits}
 use Rattle.terms.specs.declared.Refusal.the-variants.{NotFinite, TooLarge, TooSmall}
+use Rattle.whole.proofs.Differences.{either}
 use Rattle.float.specs.Word.{negative, mantissa, FloatWord}
-use Rattle.host.specs.Host.{field, hostBits, wordOf, takenOf}
+use Rattle.host.specs.Host.{exponentField, hostBits, wordOf, takenOf}
 use Rattle.host.specs.Values.{Same, HasWord, Endless, Large, Small}
 use Rattle.host.specs.declared.Taken.{Taken}
 use Rattle.host.specs.declared.Taken.the-variants.{Word, Refused}
 use Rattle.host.proofs.Signs.{same-value}
-use Rattle.host.proofs.Patterns.{side, joined, rejoined}
+use Rattle.host.proofs.Patterns.{joined, rejoined}
 use Rattle.host.proofs.Outward.{bits-some, word-value}
 use Rattle.host.proofs.Apart.{one-word, held-endless, held-large, held-small, endless-large, endless-small, large-small}
 use Rattle.host.proofs.Inward.{parts, Right, held, endless, large, small, right}
@@ -56,7 +57,7 @@ word-back w f =
     (right (toBits binary32 x))
 
 -- ---- in and back
-word-bits : (p : ℕ) → 62 ≤ field p → field p < 190 → p < 4294967296 → hostBits (wordOf p) ≡ p
+word-bits : (p : ℕ) → 62 ≤ exponentField p → exponentField p < 190 → p < 4294967296 → hostBits (wordOf p) ≡ p
 word-bits p l h k =
     let c = parts p l h in
     let w = wordOf p in
@@ -70,12 +71,12 @@ word-bits p l h k =
 -- unless they are those of -0, the bits of an f32 that became a word are those of the word's f32
 pub bits-back : (p w : ℕ) → p < 4294967296 → (p ≡ 2147483648 → ⊥) → takenOf p ≡ Word w → hostBits w ≡ p
 unfolding takenOf
-bits-back p w l n e = go (eqb (field p) 255) (leb 190 (field p)) (eqb (p % 2147483648) 0) (ltb (field p) 62) refl refl refl e
+bits-back p w l n e = go (eqb (exponentField p) 255) (leb 190 (exponentField p)) (eqb (p % 2147483648) 0) (ltb (exponentField p) 62) refl refl refl e
   where
     zeroes : p % 2147483648 ≡ 0 → p ≡ 0
-    zeroes z = ⊎-elim (λ (k : p < 2147483648). omega arith) (λ (k : 2147483648 ≤ p). absurd (n (omega arith))) (side p 2147483648)
+    zeroes z = ⊎-elim (λ (k : p < 2147483648). omega arith) (λ (k : 2147483648 ≤ p). absurd (n (omega arith))) (either p 2147483648)
 
-    go : (t₁ t₂ t₃ t₄ : Bool) → leb 190 (field p) ≡ t₂ → eqb (p % 2147483648) 0 ≡ t₃ → ltb (field p) 62 ≡ t₄
+    go : (t₁ t₂ t₃ t₄ : Bool) → leb 190 (exponentField p) ≡ t₂ → eqb (p % 2147483648) 0 ≡ t₃ → ltb (exponentField p) 62 ≡ t₄
         → cond t₁ (Refused NotFinite) (cond t₂ (Refused TooLarge) (cond t₃ (Word 0) (cond t₄ (Refused TooSmall) (Word (wordOf p))))) ≡ Word w → hostBits w ≡ p
     go true t₂ t₃ t₄ e₂ e₃ e₄ e = let z : _≡_ {A = ℕ} 0 1 = (cc) in absurd (omega arith)
     go false true t₃ t₄ e₂ e₃ e₄ e = let z : _≡_ {A = ℕ} 0 1 = (cc) in absurd (omega arith)
@@ -83,4 +84,4 @@ bits-back p w l n e = go (eqb (field p) 255) (leb 190 (field p)) (eqb (p % 21474
     go false false false true e₂ e₃ e₄ e = let z : _≡_ {A = ℕ} 0 1 = (cc) in absurd (omega arith)
     go false false false false e₂ e₃ e₄ e =
         let f : wordOf p ≡ w = (cc) in
-        ap hostBits (sym f) ∙ word-bits p (ltb-false (field p) 62 e₄) (leb-false 190 (field p) e₂) l
+        ap hostBits (sym f) ∙ word-bits p (ltb-false (exponentField p) 62 e₄) (leb-false 190 (exponentField p) e₂) l

@@ -13,13 +13,14 @@ use lib.Ieee.Exact.{HasValue}
 use lib.Ieee.Positive.{first-pos}
 use lib.Ieee.Fits.{down-pos}
 use Rattle.terms.specs.declared.Refusal.the-variants.{NotFinite, TooLarge, TooSmall}
+use Rattle.whole.proofs.Differences.{either}
 use Rattle.float.specs.Word.{negative, biased, mantissa, size88}
-use Rattle.host.specs.Host.{field, fraction, wordOf, takenOf}
+use Rattle.host.specs.Host.{exponentField, fraction, wordOf, takenOf}
 use Rattle.host.specs.Values.{Same, HasWord, Endless, Large, Small}
 use Rattle.host.specs.declared.Taken.{Taken}
 use Rattle.host.specs.declared.Taken.the-variants.{Word, Refused}
 use Rattle.host.proofs.Signs.{united}
-use Rattle.host.proofs.Patterns.{side, of-bits, leading, leading-many, leading-lt, leading-none, leading-some, bits-value}
+use Rattle.host.proofs.Patterns.{of-bits, leading, leading-many, leading-lt, leading-none, leading-some, bits-value}
 use Rattle.host.proofs.Words.{size-zero, packed, packed-mantissa, packed-biased, packed-negative, packed-lt, size-is}
 
 -- ---- from the fraction a / c that an f32 is in size
@@ -63,15 +64,15 @@ all-ones s x t e = subst (λ (n : ℕ). Endless (ofFields binary32 s n t)) (sym 
 
 -- ---- the word of an f32, field by field
 pub record Parts (p : ℕ) : Type 0 where
-  pub shape : wordOf p ≡ packed (negative p) ((field p + 2) % 128) (8388608 + fraction p)
+  pub shape : wordOf p ≡ packed (negative p) ((exponentField p + 2) % 128) (8388608 + fraction p)
   pub mant : mantissa (wordOf p) ≡ 8388608 + fraction p
-  pub expo : biased (wordOf p) ≡ field p - 62
+  pub expo : biased (wordOf p) ≡ exponentField p - 62
   pub sign : negative (wordOf p) ≡ negative p
 
-pub parts : (p : ℕ) → 62 ≤ field p → field p < 190 → Parts p
+pub parts : (p : ℕ) → 62 ≤ exponentField p → exponentField p < 190 → Parts p
 parts p l h =
     let s = negative p in
-    let y = (field p + 2) % 128 in
+    let y = (exponentField p + 2) % 128 in
     let m = 8388608 + fraction p in
     let shape : wordOf p ≡ packed s y m = omega arith in
     record {
@@ -83,60 +84,60 @@ parts p l h =
 
 -- ---- the five answers
 module _ (p : ℕ) where
-  endless-right : field p ≡ 255 → Endless (ofBits binary32 p)
-  endless-right e = subst Endless (sym (of-bits p)) (all-ones (negative p) (field p) (fraction p) e)
+  endless-right : exponentField p ≡ 255 → Endless (ofBits binary32 p)
+  endless-right e = subst Endless (sym (of-bits p)) (all-ones (negative p) (exponentField p) (fraction p) e)
 
-  large-right : field p < 255 → 190 ≤ field p → Large (ofBits binary32 p)
+  large-right : exponentField p < 255 → 190 ≤ exponentField p → Large (ofBits binary32 p)
   large-right l h =
-      let a = leading (field p) (fraction p) in
-      let u : 8388608 ≤ a = subst (λ (n : ℕ). 8388608 ≤ n) (sym (leading-many (field p) (fraction p) (omega arith))) (omega arith) in
-      large-of (ofBits binary32 p) (negative p) (a * 2 ^ (field p - 1)) (2 ^ 149) (pow-pos 149) (bits-value p l)
-      (mul-le-mul {n₁ = 8388608} {m₁ = 2 ^ 189} u (pow-mono {i = 189} {j = field p - 1} (omega arith)))
+      let a = leading (exponentField p) (fraction p) in
+      let u : 8388608 ≤ a = subst (λ (n : ℕ). 8388608 ≤ n) (sym (leading-many (exponentField p) (fraction p) (omega arith))) (omega arith) in
+      large-of (ofBits binary32 p) (negative p) (a * 2 ^ (exponentField p - 1)) (2 ^ 149) (pow-pos 149) (bits-value p l)
+      (mul-le-mul {n₁ = 8388608} {m₁ = 2 ^ 189} u (pow-mono {i = 189} {j = exponentField p - 1} (omega arith)))
 
   zero-right : p % 2147483648 ≡ 0 → HasWord (ofBits binary32 p) 0
   zero-right e =
-      let a = leading (field p) (fraction p) in
-      let z : a ≡ 0 = leading-none (field p) (fraction p) (omega arith) (omega arith) in
+      let a = leading (exponentField p) (fraction p) in
+      let z : a ≡ 0 = leading-none (exponentField p) (fraction p) (omega arith) (omega arith) in
       record {
         word = record { fits = lit< tt; is-proper = refl };
-        same = same-of (ofBits binary32 p) (negative p) (a * 2 ^ (field p - 1)) (2 ^ 149) 0 (pow-pos 149) (bits-value p (omega arith))
-            (ap (λ (n : ℕ). n * 2 ^ (field p - 1) * 2 ^ 88) z
-            ∙ ap (λ (n : ℕ). n * 2 ^ 88) (zero-mul (2 ^ (field p - 1)))
+        same = same-of (ofBits binary32 p) (negative p) (a * 2 ^ (exponentField p - 1)) (2 ^ 149) 0 (pow-pos 149) (bits-value p (omega arith))
+            (ap (λ (n : ℕ). n * 2 ^ (exponentField p - 1) * 2 ^ 88) z
+            ∙ ap (λ (n : ℕ). n * 2 ^ 88) (zero-mul (2 ^ (exponentField p - 1)))
             ∙ sym (ap (λ (n : ℕ). n * 2 ^ 149) size-zero))
             (inr size-zero);
       }
 
-  small-right : field p < 62 → (p % 2147483648 ≡ 0 → ⊥) → Small (ofBits binary32 p)
+  small-right : exponentField p < 62 → (p % 2147483648 ≡ 0 → ⊥) → Small (ofBits binary32 p)
   small-right l n =
-      let a = leading (field p) (fraction p) in
+      let a = leading (exponentField p) (fraction p) in
       let k : 0 < p % 2147483648 = pos-of-ne-zero n in
-      let u : 0 < a = leading-some (field p) (fraction p) (omega arith) in
-      let v : a < 16777216 = leading-lt (field p) (fraction p) (omega arith) in
-      let w : a * 2 ^ (field p - 1) < 16777216 * 2 ^ 60 =
-      lt-of-le-of-lt (mul-le-mul-left a (pow-mono {i = field p - 1} {j = 60} (omega arith))) (mul-lt-mul-of-pos-right {m = a} {n = 16777216} {k = 2 ^ 60} v (pow-pos 60)) in
-      small-of (ofBits binary32 p) (negative p) (a * 2 ^ (field p - 1)) (2 ^ 149) (pow-pos 149) (bits-value p (omega arith)) (mul-pos u (pow-pos (field p - 1)))
-      (mul-lt-mul-of-pos-right {m = a * 2 ^ (field p - 1)} {n = 16777216 * 2 ^ 60} {k = 2 ^ 65} w (pow-pos 65))
+      let u : 0 < a = leading-some (exponentField p) (fraction p) (omega arith) in
+      let v : a < 16777216 = leading-lt (exponentField p) (fraction p) (omega arith) in
+      let w : a * 2 ^ (exponentField p - 1) < 16777216 * 2 ^ 60 =
+      lt-of-le-of-lt (mul-le-mul-left a (pow-mono {i = exponentField p - 1} {j = 60} (omega arith))) (mul-lt-mul-of-pos-right {m = a} {n = 16777216} {k = 2 ^ 60} v (pow-pos 60)) in
+      small-of (ofBits binary32 p) (negative p) (a * 2 ^ (exponentField p - 1)) (2 ^ 149) (pow-pos 149) (bits-value p (omega arith)) (mul-pos u (pow-pos (exponentField p - 1)))
+      (mul-lt-mul-of-pos-right {m = a * 2 ^ (exponentField p - 1)} {n = 16777216 * 2 ^ 60} {k = 2 ^ 65} w (pow-pos 65))
 
-  word-right : 62 ≤ field p → field p < 190 → HasWord (ofBits binary32 p) (wordOf p)
+  word-right : 62 ≤ exponentField p → exponentField p < 190 → HasWord (ofBits binary32 p) (wordOf p)
   word-right l h =
       let s = negative p in
-      let y = (field p + 2) % 128 in
+      let y = (exponentField p + 2) % 128 in
       let m = 8388608 + fraction p in
-      let a = leading (field p) (fraction p) in
+      let a = leading (exponentField p) (fraction p) in
       let c = parts p l h in
-      let z : size88 (wordOf p) ≡ m * 2 ^ (field p - 62) = size-is (wordOf p) m (field p - 62) (c .mant) (c .expo) in
-      let b : 2 ^ (field p - 1) * 2 ^ 88 ≡ 2 ^ (field p - 62) * 2 ^ 149 =
-      sym (pow-add 2 (field p - 1) 88) ∙ ap (λ (n : ℕ). 2 ^ n) (omega arith) ∙ pow-add 2 (field p - 62) 149 in
+      let z : size88 (wordOf p) ≡ m * 2 ^ (exponentField p - 62) = size-is (wordOf p) m (exponentField p - 62) (c .mant) (c .expo) in
+      let b : 2 ^ (exponentField p - 1) * 2 ^ 88 ≡ 2 ^ (exponentField p - 62) * 2 ^ 149 =
+      sym (pow-add 2 (exponentField p - 1) 88) ∙ ap (λ (n : ℕ). 2 ^ n) (omega arith) ∙ pow-add 2 (exponentField p - 62) 149 in
       record {
         word = record {
           fits = subst (λ (n : ℕ). n < 4294967296) (sym (c .shape)) (packed-lt s y m (omega arith) (omega arith));
           is-proper = ap (λ (t : Bool). t || eqb (wordOf p) 0)
               (le-leb 8388608 (mantissa (wordOf p)) (subst (λ (n : ℕ). 8388608 ≤ n) (sym (c .mant)) (omega arith)));
         };
-        same = same-of (ofBits binary32 p) s (a * 2 ^ (field p - 1)) (2 ^ 149) (wordOf p) (pow-pos 149) (bits-value p (omega arith))
-            (mul-assoc a (2 ^ (field p - 1)) (2 ^ 88)
-            ∙ ap₂ _*_ (leading-many (field p) (fraction p) (omega arith)) b
-            ∙ sym (mul-assoc m (2 ^ (field p - 62)) (2 ^ 149))
+        same = same-of (ofBits binary32 p) s (a * 2 ^ (exponentField p - 1)) (2 ^ 149) (wordOf p) (pow-pos 149) (bits-value p (omega arith))
+            (mul-assoc a (2 ^ (exponentField p - 1)) (2 ^ 88)
+            ∙ ap₂ _*_ (leading-many (exponentField p) (fraction p) (omega arith)) b
+            ∙ sym (mul-assoc m (2 ^ (exponentField p - 62)) (2 ^ 149))
             ∙ ap (λ (n : ℕ). n * 2 ^ 149) (sym z))
             (inl (sym (c .sign)));
       }
@@ -148,17 +149,17 @@ pub data Right (x : Float) (r : Taken) : Type 0 where
   large : r ≡ Refused TooLarge → Large x → Right x r
   small : r ≡ Refused TooSmall → Small x → Right x r
 
-below : (p : ℕ) → (field p ≡ 255 → ⊥) → field p < 255
-below p n = ⊎-elim (λ h. h) (λ (h : 255 ≤ field p). absurd (n (omega arith))) (side (field p) 255)
+below : (p : ℕ) → (exponentField p ≡ 255 → ⊥) → exponentField p < 255
+below p n = ⊎-elim (λ h. h) (λ (h : 255 ≤ exponentField p). absurd (n (omega arith))) (either (exponentField p) 255)
 
 pub right : (p : ℕ) → Right (ofBits binary32 p) (takenOf p)
 unfolding takenOf
-right p = go (eqb (field p) 255) (leb 190 (field p)) (eqb (p % 2147483648) 0) (ltb (field p) 62) refl refl refl refl
+right p = go (eqb (exponentField p) 255) (leb 190 (exponentField p)) (eqb (p % 2147483648) 0) (ltb (exponentField p) 62) refl refl refl refl
   where
-    go : (t₁ t₂ t₃ t₄ : Bool) → eqb (field p) 255 ≡ t₁ → leb 190 (field p) ≡ t₂ → eqb (p % 2147483648) 0 ≡ t₃ → ltb (field p) 62 ≡ t₄
+    go : (t₁ t₂ t₃ t₄ : Bool) → eqb (exponentField p) 255 ≡ t₁ → leb 190 (exponentField p) ≡ t₂ → eqb (p % 2147483648) 0 ≡ t₃ → ltb (exponentField p) 62 ≡ t₄
         → Right (ofBits binary32 p) (cond t₁ (Refused NotFinite) (cond t₂ (Refused TooLarge) (cond t₃ (Word 0) (cond t₄ (Refused TooSmall) (Word (wordOf p))))))
-    go true t₂ t₃ t₄ e₁ e₂ e₃ e₄ = endless refl (endless-right p (eqb-true (field p) 255 e₁))
-    go false true t₃ t₄ e₁ e₂ e₃ e₄ = large refl (large-right p (below p (eqb-false (field p) 255 e₁)) (leb-true 190 (field p) e₂))
+    go true t₂ t₃ t₄ e₁ e₂ e₃ e₄ = endless refl (endless-right p (eqb-true (exponentField p) 255 e₁))
+    go false true t₃ t₄ e₁ e₂ e₃ e₄ = large refl (large-right p (below p (eqb-false (exponentField p) 255 e₁)) (leb-true 190 (exponentField p) e₂))
     go false false true t₄ e₁ e₂ e₃ e₄ = held 0 refl (zero-right p (eqb-true (p % 2147483648) 0 e₃))
-    go false false false true e₁ e₂ e₃ e₄ = small refl (small-right p (ltb-true (field p) 62 e₄) (eqb-false (p % 2147483648) 0 e₃))
-    go false false false false e₁ e₂ e₃ e₄ = held (wordOf p) refl (word-right p (ltb-false (field p) 62 e₄) (leb-false 190 (field p) e₂))
+    go false false false true e₁ e₂ e₃ e₄ = small refl (small-right p (ltb-true (exponentField p) 62 e₄) (eqb-false (p % 2147483648) 0 e₃))
+    go false false false false e₁ e₂ e₃ e₄ = held (wordOf p) refl (word-right p (ltb-false (exponentField p) 62 e₄) (leb-false 190 (exponentField p) e₂))

@@ -12,7 +12,7 @@ use lib.Ieee.{Float, nan, inf, fin, binary32, ofBits, ofFields, isNan}
 use lib.Ieee.Exact.{HasValue}
 use Rattle.terms.specs.declared.Refusal.the-variants.{Improper}
 use Rattle.float.specs.Word.{negative, biased, mantissa, proper, size88}
-use Rattle.host.specs.Host.{field, hostBits, hostOf}
+use Rattle.host.specs.Host.{exponentField, hostBits, hostOf}
 use Rattle.host.specs.declared.Host.the-variants.{Float as Floats, Refused}
 use Rattle.host.proofs.Patterns.{lower, recast, normal, subnormal, of-bits, joined, joined-field, of-joined}
 use Rattle.host.proofs.Words.{proper-cases, size-zero}
@@ -21,17 +21,17 @@ use Rattle.host.proofs.Words.{proper-cases, size-zero}
 pub bits-some : (w : ℕ) → (w ≡ 0 → ⊥) → hostBits w ≡ joined (negative w) (biased w + 62) (mantissa w % 8388608)
 bits-some w n = simp (ne-eqb w 0 n)
 
-pub bits-field : (w : ℕ) → field (hostBits w) < 255
+pub bits-field : (w : ℕ) → exponentField (hostBits w) < 255
 bits-field w = go (eqb w 0) refl
   where
-    go : (t : Bool) → eqb w 0 ≡ t → field (hostBits w) < 255
+    go : (t : Bool) → eqb w 0 ≡ t → exponentField (hostBits w) < 255
     go true e = rw e (lit< tt)
     go false e =
         let f = joined-field (negative w) (biased w + 62) (mantissa w % 8388608) (omega arith) (omega arith) in
         rw e (omega arith)
 
-pub bits-are : (w p : ℕ) → p ≡ hostBits w → (p ≡ hostBits w) × (field p < 255)
-bits-are w p e = (e, subst (λ (n : ℕ). field n < 255) (sym e) (bits-field w))
+pub bits-are : (w p : ℕ) → p ≡ hostBits w → (p ≡ hostBits w) × (exponentField p < 255)
+bits-are w p e = (e, subst (λ (n : ℕ). exponentField n < 255) (sym e) (bits-field w))
 
 some-value : (w : ℕ) → 8388608 ≤ mantissa w → HasValue (ofBits binary32 (hostBits w)) (negative w) (size88 w) (2 ^ 88)
 unfolding size88

@@ -1,30 +1,23 @@
 -- The value of an f32 by the fields of its bits, and bits put together from fields. Assumes nothing.
 use mathlib.Core.Path.{_≡_, refl, sym, ap, _∙_, subst}
-use mathlib.Core.Logic.{_⊎_, inl, inr, ⊎-elim}
+use mathlib.Core.Logic.{⊎-elim}
 use mathlib.Core.Bool.{Bool, true, false, not, cond}
 use Prim.Native.Nat.{ℕ, zero, suc, _+_, _-_, _*_, _^_, _≤_, _<_}
 use native.Mathlib.Nat.{eq-of-mul-eq-mul-right, mul-assoc, mul-right-comm}
 use native.Mathlib.Omega.{arith}
-use lib.Dec.{T, ltb}
-use borrow.Author.Tests.{le-leb, lt-leb, ne-eqb, ltb-true, ltb-false}
+use lib.Dec.{T}
+use borrow.Author.Tests.{le-leb, lt-leb, ne-eqb}
 use lib.Ieee.{Float, nan, inf, fin, binary32, ofBits, ofFields, up, down, nanBits}
 use lib.Ieee.Exact.{HasValue, odd-sign}
+use Rattle.whole.proofs.Differences.{either}
 use Rattle.float.specs.Word.{negative}
-use Rattle.host.specs.Host.{field, fraction}
-
--- one number is below another or not
-pub side : (a b : ℕ) → (a < b) ⊎ (b ≤ a)
-side a b = go (ltb a b) refl
-  where
-    go : (t : Bool) → ltb a b ≡ t → (a < b) ⊎ (b ≤ a)
-    go true e = inl (ltb-true a b e)
-    go false e = inr (ltb-false a b e)
+use Rattle.host.specs.Host.{exponentField, fraction}
 
 -- bits whose field is below 255 are no NaN's
-pub no-nan : (p : ℕ) → field p < 255 → T (not (nanBits binary32 p))
+pub no-nan : (p : ℕ) → exponentField p < 255 → T (not (nanBits binary32 p))
 unfolding nanBits
 no-nan p h =
-    let n : field p ≡ 255 → ⊥ = λ e. omega arith in
+    let n : exponentField p ≡ 255 → ⊥ = λ e. omega arith in
     simp (ne-eqb _ _ n) tt
 
 -- a value's fraction in lower terms
@@ -50,7 +43,7 @@ pub subnormal : (s : Bool) (t : ℕ) → HasValue (ofFields binary32 s zero t) s
 unfolding ofFields
 subnormal s t = odd-sign 24 s t 0 149
 
-pub of-bits : (p : ℕ) → ofBits binary32 p ≡ ofFields binary32 (negative p) (field p) (fraction p)
+pub of-bits : (p : ℕ) → ofBits binary32 p ≡ ofFields binary32 (negative p) (exponentField p) (fraction p)
 unfolding ofBits
 of-bits p = refl
 
@@ -83,16 +76,16 @@ by-field s (suc x) t l =
     refl (ap (λ (n : ℕ). (8388608 + t) * 2 ^ n) (omega arith)) refl (normal s x t l)
 
 -- the value of bits that are not all ones in the field
-pub bits-value : (p : ℕ) → field p < 255 → HasValue (ofBits binary32 p) (negative p) (leading (field p) (fraction p) * 2 ^ (field p - 1)) (2 ^ 149)
+pub bits-value : (p : ℕ) → exponentField p < 255 → HasValue (ofBits binary32 p) (negative p) (leading (exponentField p) (fraction p) * 2 ^ (exponentField p - 1)) (2 ^ 149)
 bits-value p l =
-    subst (λ (x : Float). HasValue x (negative p) (leading (field p) (fraction p) * 2 ^ (field p - 1)) (2 ^ 149)) (sym (of-bits p))
-    (by-field (negative p) (field p) (fraction p) l)
+    subst (λ (x : Float). HasValue x (negative p) (leading (exponentField p) (fraction p) * 2 ^ (exponentField p - 1)) (2 ^ 149)) (sym (of-bits p))
+    (by-field (negative p) (exponentField p) (fraction p) l)
 
 -- bits put together from a sign, a field and a fraction, and taken apart
 abbrev pub joined : Bool → ℕ → ℕ → ℕ
 joined s x t = cond s 2147483648 0 + x * 8388608 + t
 
-pub joined-field : (s : Bool) (x t : ℕ) → x < 256 → t < 8388608 → field (joined s x t) ≡ x
+pub joined-field : (s : Bool) (x t : ℕ) → x < 256 → t < 8388608 → exponentField (joined s x t) ≡ x
 joined-field true x t h k = omega arith
 joined-field false x t h k = omega arith
 
@@ -108,8 +101,8 @@ pub of-joined : (s : Bool) (x t : ℕ) → x < 256 → t < 8388608 → ofBits bi
 of-joined s x t h k =
     of-bits (joined s x t) ∙ (λ i. ofFields binary32 (joined-sign s x t h k i) (joined-field s x t h k i) (joined-fraction s x t h k i))
 
-pub rejoined : (p : ℕ) → p < 4294967296 → joined (negative p) (field p) (fraction p) ≡ p
+pub rejoined : (p : ℕ) → p < 4294967296 → joined (negative p) (exponentField p) (fraction p) ≡ p
 rejoined p l = ⊎-elim
     (λ (k : p < 2147483648). rw (lt-leb 2147483648 p k) (omega arith))
     (λ (k : 2147483648 ≤ p). rw (le-leb 2147483648 p k) (omega arith))
-    (side p 2147483648)
+    (either p 2147483648)

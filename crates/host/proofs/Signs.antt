@@ -10,6 +10,7 @@ use lib.Ieee.{Float, nan, inf, fin, up, down}
 use lib.Ieee.Exact.{HasValue}
 use lib.Ieee.Fits.{down-pos}
 use Rattle.whole.specs.Signed.{withSign}
+use Rattle.whole.proofs.Signs.{zero-signed}
 use Rattle.float.specs.Word.{negative, size88}
 use Rattle.host.specs.Values.{Same}
 
@@ -25,10 +26,6 @@ signed false false a b e = (pos-same e, inl refl)
 signed true true a b e = (pos-same (sym (negℤ-negℤ (pos a)) ∙ ap negℤ e ∙ negℤ-negℤ (pos b)), inl refl)
 signed true false a b e = let p = neg-pos a b e in (p .0, inr (p .1))
 signed false true a b e = let p = neg-pos b a (sym e) in (sym (p .0), inr (p .0 ∙ p .1))
-
-zero-signed : (s : Bool) → withSign s 0 ≡ pos 0
-zero-signed true = refl
-zero-signed false = refl
 
 pub of-signed : (s t : Bool) (a b : ℕ) → a ≡ b → (s ≡ t) ⊎ (b ≡ 0) → withSign s a ≡ withSign t b
 of-signed s t a b e (inl q) = ap₂ withSign q e

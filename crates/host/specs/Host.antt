@@ -12,8 +12,8 @@ use Rattle.host.specs.declared.Taken.the-variants.{Word, Refused as Turn
 use Rattle.host.specs.declared.Reply.{Reply}
 
 -- bits 30 to 23 of an f32, the exponent's field: the exponent plus 127
-abbrev pub field : ℕ → ℕ
-field p = p % 2 ^ 31 / 2 ^ 23
+abbrev pub exponentField : ℕ → ℕ
+exponentField p = p % 2 ^ 31 / 2 ^ 23
 
 -- bits 22 to 0 of an f32, the digits below the leading one
 abbrev pub fraction : ℕ → ℕ
@@ -29,15 +29,15 @@ hostOf w = cond (proper w) (Float (ofBits binary32 (hostBits w))) (Refused Impro
 
 -- the word of an f32 with a field of 62 to 189: its sign, e in two's complement, the leading one and the fraction as the mantissa
 abbrev pub wordOf : ℕ → ℕ
-wordOf p = cond (negative p) (2 ^ 31) 0 + (field p + 2) % 128 * 2 ^ 24 + 2 ^ 23 + fraction p
+wordOf p = cond (negative p) (2 ^ 31) 0 + (exponentField p + 2) % 128 * 2 ^ 24 + 2 ^ 23 + fraction p
 
 -- what becomes of an f32: infinite or not a number (10); 2 ^ 63 or more (11); both zeros are the zero word; under 2 ^ -65 (12); else its word
 unfoldable pub takenOf : ℕ → Taken
 takenOf p =
-    cond (eqb (field p) 255) (Turned NotFinite)
-    (cond (leb (127 + 63) (field p)) (Turned TooLarge)
+    cond (eqb (exponentField p) 255) (Turned NotFinite)
+    (cond (leb (127 + 63) (exponentField p)) (Turned TooLarge)
     (cond (eqb (p % 2 ^ 31) 0) (Word 0)
-    (cond (ltb (field p) (127 - 65)) (Turned TooSmall)
+    (cond (ltb (exponentField p) (127 - 65)) (Turned TooSmall)
     (Word (wordOf p)))))
 
 -- what each case of an answer says: its refusal, whose number is 01's, and the 32 bits that it carries, 0 where it carries none

@@ -4,7 +4,7 @@ ghost use mathlib.Core.Path.{_≡_};
 ghost use mathlib.Core.Bool.{cond};
 ghost use Prim.Native.Nat.{_%_, _^_, _≤_, _<_};
 ghost use Rattle.float.specs.Word.{negative};
-ghost use Rattle.host.specs.Host.{field, hostBits, hostOf, wordOf, takenOf, hostReply, takenReply};
+ghost use Rattle.host.specs.Host.{exponentField, hostBits, hostOf, wordOf, takenOf, hostReply, takenReply};
 use terms::Refusal;
 
 // A word as an f32: a case that carries the float, or one that carries the refusal.
@@ -34,7 +34,7 @@ fn sign_bit(bits: u32) -> u32
 
 // The bits of the f32 that has a proper word's value; they are never those of an infinity or a NaN.
 fn bits_of(word: u32) -> u32
-    ensures { λ r. ⌜ (r ≡ hostBits word) × (field r < 255) ⌝ }
+    ensures { λ r. ⌜ (r ≡ hostBits word) × (exponentField r < 255) ⌝ }
 {
     if word == 0 {
         return 0;

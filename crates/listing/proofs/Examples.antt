@@ -1,11 +1,11 @@
--- 01's example and the input over the limit, computed from the definition. Assumes nothing.
+-- 01's example, from the replies that it yields to the text, computed from the definition. Assumes nothing.
 use mathlib.Core.Path.{_≡_, refl}
 use mathlib.Core.List.{List, [], _∷_}
 use Prim.Native.Nat.{ℕ}
 use Rattle.terms.specs.Refusal.{numberOf}
-use Rattle.terms.specs.declared.Refusal.the-variants.{Done, InputTooLong}
+use Rattle.terms.specs.declared.Refusal.the-variants.{Done}
 use Rattle.listing.specs.Text.{spelled}
-use Rattle.listing.specs.Listing.{whole, linesUpTo, listingOf}
+use Rattle.listing.specs.Listing.{hasReply, linesUpTo, listingOf}
 
 -- the replies that 01's example yields
 abbrev exampleReplies : List ℕ
@@ -16,7 +16,7 @@ exampleReplies =
     ∷ 4 ∷ 0 ∷ 132 ∷ 0 ∷ 0 ∷ 0 ∷ []
 
 -- the text that 01 prints, line by line
-abbrev exampleText : List ℕ
+abbrev pub exampleText : List ℕ
 exampleText =
     49 ∷ 32 ∷ 49 ∷ 32 ∷ 48 ∷ 10
     ∷ 50 ∷ 32 ∷ 51 ∷ 32 ∷ 48 ∷ 10
@@ -25,10 +25,5 @@ exampleText =
     ∷ 101 ∷ 110 ∷ 100 ∷ 32 ∷ 48 ∷ 32 ∷ 50 ∷ 50 ∷ 10 ∷ []
 
 pub example-of-01 : listingOf exampleReplies (numberOf Done) 22 ≡ exampleText
-unfolding linesUpTo whole spelled
+unfolding linesUpTo hasReply spelled
 example-of-01 = refl
-
--- an input over the limit prints only `end 9 0`
-pub too-long : listingOf [] (numberOf InputTooLong) 0 ≡ 101 ∷ 110 ∷ 100 ∷ 32 ∷ 57 ∷ 32 ∷ 48 ∷ 10 ∷ []
-unfolding linesUpTo whole spelled
-too-long = refl

@@ -10,17 +10,17 @@ use lib.Seq.{length-take-le, drop-drop, take-all, getD-drop, take-append-seam, d
 use Rattle.little.specs.Little.{wordAt}
 use Rattle.little.proofs.Exact.{two-bytes}
 use Rattle.listing.specs.Text.{Adds}
-use Rattle.listing.specs.Listing.{lineOf, replyBytes, replyKind, replyRefusal, replyData, replySize, replyLine, whole, wholeSize, Front, linesUpTo, linesOf, listingOf, countAt, printedOf}
+use Rattle.listing.specs.Listing.{lineOf, replyBytes, replyKind, replyRefusal, replyData, replySize, replyLine, hasReply, wholeSize, Front, linesUpTo, linesOf, listingOf, countAt, printedOf}
 use Rattle.listing.proofs.Adding.{take-least}
 use Rattle.listing.proofs.Decimal.{short}
 use Rattle.listing.proofs.Lines.{line-length, data-length}
 use Rattle.listing.proofs.Replies.{front, found, is-whole}
 
 -- what follows matters only where a whole reply stands at the front
-same-rest : (l line a b : List ℕ) → (whole l ≡ true → a ≡ b) → cond (whole l) (line ++ a) [] ≡ cond (whole l) (line ++ b) []
-same-rest l line a b h = pick (whole l) refl
+same-rest : (l line a b : List ℕ) → (hasReply l ≡ true → a ≡ b) → cond (hasReply l) (line ++ a) [] ≡ cond (hasReply l) (line ++ b) []
+same-rest l line a b h = pick (hasReply l) refl
   where
-    pick : (t : Bool) → whole l ≡ t → cond t (line ++ a) [] ≡ cond t (line ++ b) []
+    pick : (t : Bool) → hasReply l ≡ t → cond t (line ++ a) [] ≡ cond t (line ++ b) []
     pick true e = ap (λ (x : List ℕ). line ++ x) (h e)
     pick false e = refl
 
@@ -28,9 +28,9 @@ same-rest l line a b h = pick (whole l) refl
 enough : (f g number : ℕ) (l : List ℕ) → length l ≤ f → length l ≤ g → linesUpTo f number l ≡ linesUpTo g number l
 unfolding linesUpTo
 enough zero zero number l a b = refl
-enough zero (suc g) number [] a b = unfold whole in refl
+enough zero (suc g) number [] a b = unfold hasReply in refl
 enough zero (suc g) number (x ∷ l) a b = absurd (not-suc-le-zero a)
-enough (suc f) zero number [] a b = unfold whole in refl
+enough (suc f) zero number [] a b = unfold hasReply in refl
 enough (suc f) zero number (x ∷ l) a b = absurd (not-suc-le-zero b)
 enough (suc f) (suc g) number l a b =
     same-rest l (replyLine number l) (linesUpTo f (number + 1) (drop (replySize l) l)) (linesUpTo g (number + 1) (drop (replySize l) l)) (λ e.
@@ -39,15 +39,15 @@ enough (suc f) (suc g) number l a b =
     enough f g (number + 1) (drop (replySize l) l) (omega arith) (omega arith))
 
 -- no whole reply, no line
-pub no-more : (number : ℕ) (l : List ℕ) → whole l ≡ false → linesOf number l ≡ []
+pub no-more : (number : ℕ) (l : List ℕ) → hasReply l ≡ false → linesOf number l ≡ []
 unfolding linesUpTo
 no-more number [] e = refl
 no-more number (x ∷ l) e = rw e
 
 -- the first line, and the lines of what follows it
-pub one-more : (number : ℕ) (l : List ℕ) → whole l ≡ true → linesOf number l ≡ replyLine number l ++ linesOf (number + 1) (drop (replySize l) l)
+pub one-more : (number : ℕ) (l : List ℕ) → hasReply l ≡ true → linesOf number l ≡ replyLine number l ++ linesOf (number + 1) (drop (replySize l) l)
 unfolding linesUpTo
-one-more number [] e = unfold whole in (let z : _≡_ {A = ℕ} 0 1 = cc in absurd (omega arith))
+one-more number [] e = unfold hasReply in (let z : _≡_ {A = ℕ} 0 1 = cc in absurd (omega arith))
 one-more number (x ∷ l) e =
     let r = drop (replySize (x ∷ l)) (x ∷ l) in
     let w = front (x ∷ l) e in
@@ -61,7 +61,7 @@ line-short number l size f n a b c =
     omega (
       arith,
       f .is-size,
-      f .least,
+      f .at-least,
       line-length number (replyKind l) (replyRefusal l) (replyData l),
       short 20 5 number (omega arith) (omega arith),
       short 20 5 (replyKind l) (omega arith) (omega arith),
@@ -80,7 +80,7 @@ next-short replies number at size bytes few in-it h f =
     byte i = rw (getD-drop at replies i 0) (bytes (at + i))
 
 -- a size that is not 0 is that of the whole reply at the front
-pub sized : (l : List ℕ) (size : ℕ) → size ≡ wholeSize l → (size ≡ 0 → ⊥) → (whole l ≡ true) × Front l size
+pub sized : (l : List ℕ) (size : ℕ) → size ≡ wholeSize l → (size ≡ 0 → ⊥) → (hasReply l ≡ true) × Front l size
 sized l size e h =
     let w = found l (λ z. h (e ∙ z)) in
     let k : size ≡ replySize l = e ∙ ap (λ (b : Bool). cond b (replySize l) 0) w in
@@ -114,14 +114,14 @@ module _ (replies before after : List ℕ) (place number at : ℕ) (g : Going re
       let all : linesOf 1 replies ≡ take place after = g .so-far ∙ ap (λ (x : List ℕ). take place after ++ x) e ∙ append-nil (take place after) in
       record { moved = rw all (omega arith); reads = sym all }
 
-  pub stops : whole (drop at replies) ≡ false → Adds (linesOf 1 replies) before after 0 place
+  pub stops : hasReply (drop at replies) ≡ false → Adds (linesOf 1 replies) before after 0 place
   stops e = ends (no-more number (drop at replies) e)
 
   pub finishes : length replies ≤ at → Adds (linesOf 1 replies) before after 0 place
-  finishes h = ends (rw (drop-of-length-le replies h) (no-more number [] (unfold whole in refl)))
+  finishes h = ends (rw (drop-of-length-le replies h) (no-more number [] (unfold hasReply in refl)))
 
   -- one line more
-  pub goes-on : (out : List ℕ) (new size : ℕ) → whole (drop at replies) ≡ true → Front (drop at replies) size → length out ≡ length after
+  pub goes-on : (out : List ℕ) (new size : ℕ) → hasReply (drop at replies) ≡ true → Front (drop at replies) size → length out ≡ length after
       → length (replyLine number (drop at replies)) ≤ 4 * size → Adds (replyLine number (drop at replies)) after out place new
       → Going replies before out new (number + 1) (at + size)
   goes-on out new size e f s h a =
@@ -136,7 +136,7 @@ module _ (replies before after : List ℕ) (place number at : ℕ) (g : Going re
       record {
         at-most = omega (arith, f .within, g .at-most);
         same = s ∙ g .same;
-        few = omega (arith, g .few, f .least);
+        few = omega (arith, g .few, f .at-least);
         room = omega (arith, a .moved, g .room);
         so-far =
             g .so-far
@@ -163,7 +163,7 @@ reply-listed number kind refusal bytes rest =
     let size : replySize l ≡ 5 + length bytes = omega (arith, two-bytes (3 + length bytes)) in
     let word : wordAt l 2 ≡ kind + 128 = two-bytes (kind + 128) in
     let n = length-append bytes rest in
-    let w : whole l ≡ true = is-whole l (omega arith) (omega arith) (omega arith) (omega arith) in
+    let w : hasReply l ≡ true = is-whole l (omega arith) (omega arith) (omega arith) (omega arith) in
     let long : replySize l - 5 ≡ length bytes = omega arith in
     let data-is : replyData l ≡ bytes = ap (λ (k : ℕ). take k (bytes ++ rest)) long ∙ take-append-seam bytes rest in
     let whole-is : replySize l ≡ length (replyBytes kind refusal bytes) = omega arith in

@@ -8,27 +8,27 @@ use lib.Dec.{leb}
 use lib.ListN.{length}
 use borrow.Author.Tests.{le-leb, lt-leb, leb-true}
 use Rattle.little.specs.Little.{wordAt}
-use Rattle.listing.specs.Listing.{replySize, whole, wholeSize, Front}
+use Rattle.listing.specs.Listing.{replySize, hasReply, wholeSize, Front}
 
 -- each test that fails leaves none
 pub too-short : (l : List ℕ) → length l < 5 → 0 ≡ wholeSize l
-unfolding whole
+unfolding hasReply
 too-short l h = rw (lt-leb 5 (length l) h)
 
 pub low-length : (l : List ℕ) → 5 ≤ length l → replySize l < 5 → 0 ≡ wholeSize l
-unfolding whole
+unfolding hasReply
 low-length l h k = rw (le-leb 5 (length l) h, lt-leb 5 (replySize l) k)
 
 pub cut-off : (l : List ℕ) → 5 ≤ length l → 5 ≤ replySize l → length l < replySize l → 0 ≡ wholeSize l
-unfolding whole
+unfolding hasReply
 cut-off l h k m = rw (le-leb 5 (length l) h, le-leb 5 (replySize l) k, lt-leb (replySize l) (length l) m)
 
 pub low-kind : (l : List ℕ) → 5 ≤ length l → 5 ≤ replySize l → replySize l ≤ length l → wordAt l 2 < 128 → 0 ≡ wholeSize l
-unfolding whole
+unfolding hasReply
 low-kind l h k m n = rw (le-leb 5 (length l) h, le-leb 5 (replySize l) k, le-leb (replySize l) (length l) m, lt-leb 128 (wordAt l 2) n)
 
-pub is-whole : (l : List ℕ) → 5 ≤ length l → 5 ≤ replySize l → replySize l ≤ length l → 128 ≤ wordAt l 2 → whole l ≡ true
-unfolding whole
+pub is-whole : (l : List ℕ) → 5 ≤ length l → 5 ≤ replySize l → replySize l ≤ length l → 128 ≤ wordAt l 2 → hasReply l ≡ true
+unfolding hasReply
 is-whole l h k m n = rw (le-leb 5 (length l) h, le-leb 5 (replySize l) k, le-leb (replySize l) (length l) m, le-leb 128 (wordAt l 2) n)
 
 -- four tests in turn that all held
@@ -39,22 +39,22 @@ all-four true false c d e = let z : _≡_ {A = ℕ} 0 1 = cc in absurd (omega ar
 all-four false b c d e = let z : _≡_ {A = ℕ} 0 1 = cc in absurd (omega arith)
 
 -- what the test of a whole reply tells
-pub front : (l : List ℕ) → whole l ≡ true → Front l (replySize l)
-unfolding whole
+pub front : (l : List ℕ) → hasReply l ≡ true → Front l (replySize l)
+unfolding hasReply
 front l e =
     let t = all-four (leb 5 (length l)) (leb 5 (replySize l)) (leb (replySize l) (length l)) (leb 128 (wordAt l 2)) e in
-    record { is-size = refl; least = leb-true _ _ (t .1); within = leb-true _ _ (t .2); kind = leb-true _ _ (t .3) }
+    record { is-size = refl; at-least = leb-true _ _ (t .1); within = leb-true _ _ (t .2); kind = leb-true _ _ (t .3) }
 
 -- a size that is not 0 is that of a whole reply
-pub found : (l : List ℕ) → (wholeSize l ≡ 0 → ⊥) → whole l ≡ true
-found l h = pick (whole l) h
+pub found : (l : List ℕ) → (wholeSize l ≡ 0 → ⊥) → hasReply l ≡ true
+found l h = pick (hasReply l) h
   where
     pick : (b : Bool) → (cond b (replySize l) 0 ≡ 0 → ⊥) → b ≡ true
     pick true k = refl
     pick false k = absurd (k refl)
 
-pub none : (l : List ℕ) → wholeSize l ≡ 0 → whole l ≡ false
-none l h = pick (whole l) h
+pub none : (l : List ℕ) → wholeSize l ≡ 0 → hasReply l ≡ false
+none l h = pick (hasReply l) h
   where
     pick : (b : Bool) → cond b (replySize l) 0 ≡ 0 → b ≡ false
     pick true k = let z : 2 + wordAt l 0 ≡ 0 = k in absurd (omega arith)

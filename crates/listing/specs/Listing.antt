@@ -57,20 +57,20 @@ abbrev pub replyData : List ℕ → List ℕ
 replyData l = take (replySize l - 5) (drop 5 l)
 
 -- a whole reply stands at the front; what is none ends the lines
-unfoldable pub whole : List ℕ → Bool
-whole l =
+unfoldable pub hasReply : List ℕ → Bool
+hasReply l =
     cond (leb 5 (length l))
     (cond (leb 5 (replySize l)) (cond (leb (replySize l) (length l)) (leb 128 (wordAt l 2)) false) false)
     false
 
 -- the bytes of the whole reply at the front, 0 where there is none
 abbrev pub wholeSize : List ℕ → ℕ
-wholeSize l = cond (whole l) (replySize l) 0
+wholeSize l = cond (hasReply l) (replySize l) 0
 
 -- what a caller knows of a whole reply of this size at the front
 pub record Front (l : List ℕ) (size : ℕ) : Type 0 where
   pub is-size : size ≡ replySize l
-  pub least : 5 ≤ size
+  pub at-least : 5 ≤ size
   pub within : size ≤ length l
   pub kind : 128 ≤ wordAt l 2
 
@@ -82,7 +82,7 @@ replyLine number l = lineOf number (replyKind l) (replyRefusal l) (replyData l)
 unfoldable pub linesUpTo : ℕ → ℕ → List ℕ → List ℕ
 linesUpTo zero number l = []
 linesUpTo (suc most) number l =
-    cond (whole l)
+    cond (hasReply l)
     (replyLine number l ++ linesUpTo most (number + 1) (drop (replySize l) l))
     []
 

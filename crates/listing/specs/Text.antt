@@ -1,4 +1,4 @@
--- Numbers as text, and what it means to add text at a place. Definitions only. Assumes nothing.
+-- Numbers as text, and, as the program has it and 01 has not, what it means to add text at a place. Definitions only. Assumes nothing.
 use Prim.Native.Nat.{ℕ, zero, suc, _+_, _/_, _%_}
 use mathlib.Core.Path.{_≡_}
 use mathlib.Core.Bool.{cond}

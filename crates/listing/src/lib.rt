@@ -160,7 +160,7 @@ fn wide(b: u8) -> u64
 }
 
 // The lesser of two numbers.
-fn least(a: usize, b: usize) -> usize
+fn lesser(a: usize, b: usize) -> usize
     ensures { λ r. ⌜ (r ≡ min a b) × (r ≤ b) ⌝ }
 {
     if a < b { a } else { b }
@@ -174,7 +174,7 @@ pub fn list(replies: &[u8; REPLY_ROOM], report: &[u8; 9], text: &mut [u8; TEXT_R
 {
     let taken = count(report[1], report[2], report[3], report[4]);
     let written = count(report[5], report[6], report[7], report[8]);
-    let n = least(written as usize, REPLY_ROOM);
+    let n = lesser(written as usize, REPLY_ROOM);
     let all: &[u8] = replies;
     add_listing(text, &all[..n], wide(report[0]), taken)
 }

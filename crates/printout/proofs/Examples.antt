@@ -2,7 +2,7 @@
 use mathlib.Core.Path.{_≡_, refl}
 use mathlib.Core.List.{List, [], _∷_}
 use Prim.Native.Nat.{ℕ}
-use Rattle.codes.specs.Codes.{kindOf}
+use Rattle.codes.specs.Codes.{decoded}
 use Rattle.fixed.specs.Fixed.{low, add}
 use Rattle.chip.specs.Status.{statusOf}
 use Rattle.chip.specs.Commands.{keepsA}
@@ -12,7 +12,8 @@ use Rattle.records.specs.Record.{headOf, turnOf}
 use Rattle.stored.specs.Bytes.{isState}
 use Rattle.pundaliket.specs.Calls.{callOf}
 use Rattle.listing.specs.Text.{spelled}
-use Rattle.listing.specs.Listing.{whole, linesUpTo}
+use Rattle.listing.specs.Listing.{hasReply, linesUpTo}
+use Rattle.listing.proofs.Examples.{exampleText}
 use Rattle.printout.specs.Printout.{printoutOf}
 
 -- the input that 01 gives
@@ -20,15 +21,6 @@ abbrev exampleInput : List ℕ
 exampleInput =
     6 ∷ 0 ∷ 1 ∷ 0 ∷ 3 ∷ 0 ∷ 5 ∷ 0 ∷ 3 ∷ 0 ∷ 3 ∷ 0 ∷ 108 ∷ 3 ∷ 0 ∷ 2 ∷ 0 ∷ 2 ∷ 2 ∷ 0 ∷ 4 ∷ 0 ∷ []
 
--- the text that 01 prints
-abbrev exampleText : List ℕ
-exampleText =
-    49 ∷ 32 ∷ 49 ∷ 32 ∷ 48 ∷ 10
-    ∷ 50 ∷ 32 ∷ 51 ∷ 32 ∷ 48 ∷ 10
-    ∷ 51 ∷ 32 ∷ 50 ∷ 32 ∷ 48 ∷ 32 ∷ 48 ∷ 48 ∷ 32 ∷ 48 ∷ 56 ∷ 10
-    ∷ 52 ∷ 32 ∷ 52 ∷ 32 ∷ 48 ∷ 32 ∷ 48 ∷ 48 ∷ 10
-    ∷ 101 ∷ 110 ∷ 100 ∷ 32 ∷ 48 ∷ 32 ∷ 50 ∷ 50 ∷ 10 ∷ []
-
 pub example-printed : printoutOf exampleInput ≡ exampleText
-unfolding kindOf low add statusOf keepsA pushOf popOf readOf carried commandUnder headOf turnOf run runBy isState callOf spelled whole linesUpTo
+unfolding decoded low add statusOf keepsA pushOf popOf readOf carried commandUnder headOf turnOf run runBy isState callOf spelled hasReply linesUpTo
 example-printed = refl

@@ -1,5 +1,5 @@
 -- 01's bench values and the rows that decide where the documents disagree, in one table, through the whole step. Definitions and the statement only:
--- proofs/Benched.antt computes it. Assumes nothing.
+-- proofs/Bench.antt computes it. Assumes nothing.
 use Prim.Native.Nat.{ℕ, _+_, _-_}
 use mathlib.Core.Path.{_≡_}
 use mathlib.Core.List.{List, [], _∷_, _++_, map}
@@ -8,14 +8,16 @@ use Rattle.terms.specs.declared.Width.the-variants.{Single, Double}
 use Rattle.terms.specs.Width.{sizeOf}
 use Rattle.terms.specs.Refusal.{numberOf}
 use Rattle.stack.specs.Stack.{bytesOf, zeros}
-use Rattle.chip.specs.State.{resetState}
 use Rattle.chip.specs.declared.Answer.{Answer}
+use Rattle.chip.specs.declared.Event.{Event}
+use Rattle.chip.specs.declared.Event.the-variants.{Push, Command}
+use Rattle.chip.specs.State.{resetState}
 use Rattle.chip.specs.Commands.{baseRule}
 use Rattle.chip.specs.Step.{commandOf}
-use Rattle.promises.specs.Events.{Event, push, command, after, pushesOf}
+use Rattle.chip.specs.Events.{afterEvents, pushesOf}
 
 -- the events from reset, the code that follows them, and what it must give: the refusal, the whole stack, the status
-pub record Row : Type 0 where
+pub record BenchRow : Type 0 where
   pub events : List Event
   pub code : ℕ
   pub refusal : ℕ
@@ -23,7 +25,7 @@ pub record Row : Type 0 where
   pub status : ℕ
 
 -- B and A pushed, low byte first; R on top, and at the bottom the word that the command leaves there
-abbrev pub two : ℕ → Width → ℕ → ℕ → ℕ → ℕ → ℕ → Row
+abbrev pub two : ℕ → Width → ℕ → ℕ → ℕ → ℕ → ℕ → BenchRow
 two code w b a r bottom status = record {
   events = pushesOf (sizeOf w) b ++ pushesOf (sizeOf w) a;
   code = code;
@@ -33,15 +35,15 @@ two code w b a r bottom status = record {
 }
 
 -- A pushed; R, of the second width, on top of zeros
-abbrev pub one : ℕ → Width → ℕ → Width → ℕ → ℕ → Row
+abbrev pub one : ℕ → Width → ℕ → Width → ℕ → ℕ → BenchRow
 one code w a v r status = record { events = pushesOf (sizeOf w) a; code = code; refusal = 0; stack = bytesOf (sizeOf v) r ++ zeros (16 - sizeOf v); status = status }
 
 -- no event since reset but bytes pushed, and a refusal: the bytes stay on top of zeros and the status 0
-abbrev pub turnedAway : ℕ → List ℕ → ℕ → Row
-turnedAway code bytes refusal = record { events = map push bytes; code = code; refusal = refusal; stack = bytes ++ zeros 15; status = 0 }
+abbrev pub turnedAway : ℕ → List ℕ → ℕ → BenchRow
+turnedAway code bytes refusal = record { events = map Push bytes; code = code; refusal = refusal; stack = bytes ++ zeros 15; status = 0 }
 
 -- 01, 'Bench values', row by row
-abbrev pub benchValues : List Row
+abbrev pub benchValues : List BenchRow
 benchValues =
     two 0x6c Single 0x7fff 0x0001 0x8000 0x0001 0x42
     ∷ two 0x6c Single 0x8000 0x8000 0x0000 0x8000 0x23
@@ -60,7 +62,7 @@ benchValues =
     ∷ []
 
 -- SSUB with A least overflows for every B; SMUL overflows where the exact product does not fit; SDIV with A or B least, and by zero
-abbrev pub fixedConflicts : List Row
+abbrev pub fixedConflicts : List BenchRow
 fixedConflicts =
     two 0x6d Single 0x8000 0x8000 0x0000 0x8000 0x22
     ∷ two 0x6d Single 0xffff 0x8000 0x7fff 0x8000 0x02
@@ -72,7 +74,7 @@ fixedConflicts =
     ∷ []
 
 -- x - x, 0 x -y, 0 / -y and 0 / 0; magnitude under 1, 32767.5 and -0.5 made whole; the least numbers made floats
-abbrev pub floatDecisions : List Row
+abbrev pub floatDecisions : List BenchRow
 floatDecisions =
     two 0x11 Double 0x01c00000 0x01c00000 0x00000000 0 0x20
     ∷ two 0x12 Double 0x00000000 0x81800000 0x00000000 0 0x20
@@ -87,7 +89,7 @@ floatDecisions =
     ∷ []
 
 -- PUPI is 1A and 9A; 0C and 8C are unknown; POPS after an SADD with carry clears bit 0; NOP with a half word pending is 3
-abbrev pub otherDecisions : List Row
+abbrev pub otherDecisions : List BenchRow
 otherDecisions =
     record { events = []; code = 0x1a; refusal = 0; stack = bytesOf 4 0x02c90fda ++ zeros 12; status = 0x00 }
     ∷ record { events = []; code = 0x9a; refusal = 0; stack = bytesOf 4 0x02c90fda ++ zeros 12; status = 0x00 }
@@ -96,7 +98,7 @@ otherDecisions =
     ∷ turnedAway 0x02 (0x55 ∷ []) 2
     ∷ turnedAway 0x00 (0x55 ∷ []) 3
     ∷ record {
-      events = pushesOf 2 0x8000 ++ (pushesOf 2 0x8001 ++ (command 0x6c ∷ []));
+      events = pushesOf 2 0x8000 ++ (pushesOf 2 0x8001 ++ (Command 0x6c ∷ []));
       code = 0x78;
       refusal = 0;
       stack = zeros 12 ++ (bytesOf 2 0x8001 ++ bytesOf 2 0x0001);
@@ -104,17 +106,17 @@ otherDecisions =
     }
     ∷ []
 
-abbrev pub rows : List Row
+abbrev pub rows : List BenchRow
 rows = benchValues ++ (fixedConflicts ++ (floatDecisions ++ otherDecisions))
 
-abbrev pub answerOf : Row → Answer
-answerOf x = commandOf (after baseRule resetState (x .events)) (x .code)
+abbrev pub rowAnswer : BenchRow → Answer
+rowAnswer x = commandOf (afterEvents baseRule resetState (x .events)) (x .code)
 
 -- what the chip gives, and what the row says
-abbrev pub shown : Row → List ℕ
-shown x = numberOf ((answerOf x) .refusal) ∷ (answerOf x) .state .status ∷ (answerOf x) .state .stack
+abbrev pub shown : BenchRow → List ℕ
+shown x = numberOf ((rowAnswer x) .refusal) ∷ (rowAnswer x) .state .status ∷ (rowAnswer x) .state .stack
 
-abbrev pub expected : Row → List ℕ
+abbrev pub expected : BenchRow → List ℕ
 expected x = x .refusal ∷ x .status ∷ x .stack
 
 -- ---- the statement

@@ -1,9 +1,8 @@
--- Demand 3: chains of steps on one float word. Definitions and the statement only: proofs/Chained.antt proves it. Assumes nothing.
+-- Demand 3: chains of steps on one float word. Definitions and the statement only: proofs/Chains.antt proves it. Assumes nothing.
 use Prim.Native.Nat.{ℕ, _+_, _%_}
 use mathlib.Core.Path.{_≡_}
-use mathlib.Core.Bool.{Bool, true, false, _&&_, cond}
+use mathlib.Core.Bool.{Bool, true, false, cond}
 use mathlib.Core.List.{List, [], _∷_, _++_}
-use lib.Dec.{eqb}
 use lib.ListN.{replicate}
 use Rattle.float.specs.declared.Flagged.{Flagged}
 use Rattle.float.specs.Word.{negative, FloatWord}
@@ -13,26 +12,12 @@ use Rattle.float.specs.Float.{add, sub, mul, div}
 use Rattle.float.specs.Convert.{chsf}
 use Rattle.stack.specs.Stack.{tos}
 use Rattle.chip.specs.declared.State.{State}
-use Rattle.chip.specs.State.{busy, resetState}
+use Rattle.chip.specs.declared.Event.{Event}
+use Rattle.chip.specs.declared.Event.the-variants.{Command}
+use Rattle.chip.specs.State.{resetState}
 use Rattle.chip.specs.Status.{errorOf}
 use Rattle.chip.specs.Commands.{baseRule}
-use Rattle.chip.specs.Step.{commandUnder}
-use Rattle.promises.specs.Events.{Event, push, pop, command, read, reset, acknowledge, answerTo, after, answered, pushesOf}
-
--- ---- error bits
--- whether a command leaves a status with bits 4 to 1 clear; no other event of a run sets the status
-abbrev pub leavesClear : Rule → State → Event → Bool
-leavesClear rule s (command code) = eqb (errorOf ((commandUnder rule s code) .state .status)) 0
-leavesClear rule s (push byte) = true
-leavesClear rule s pop = true
-leavesClear rule s read = true
-leavesClear rule s reset = true
-leavesClear rule s acknowledge = true
-
--- whether each command of the events does so
-abbrev pub quiet : Rule → State → List Event → Bool
-quiet rule s [] = true
-quiet rule s (e ∷ es) = leavesClear rule s e && quiet rule ((answerTo rule s e) .state) es
+use Rattle.chip.specs.Events.{afterEvents, answered, quiet, pushesOf, AtRest}
 
 -- ---- chains
 -- add, subtract, multiply or divide by a constant, take from a constant, change the sign
@@ -46,7 +31,7 @@ pub data Step : Type 0 where
 
 -- a command with its bit 7, sr, set or clear
 abbrev pub given : Bool → ℕ → Event
-given sr code = command (cond sr (code + 128) code)
+given sr code = Command (cond sr (code + 128) code)
 
 -- FADD 10, FSUB 11, FMUL 12, FDIV 13, CHSF 15, XCHF 19; the commands of a step have the bits sr 0 and sr 1
 abbrev pub eventsOf : (ℕ → Bool) → Step → List Event
@@ -110,9 +95,9 @@ workOf rule (TakeFrom c) w = sub rule c w
 workOf rule Change w = record { word = chsf w; error = 0 }
 
 -- the steps in turn, each on the word that the one before made
-abbrev pub wordOf : Rule → ℕ → List Step → ℕ
-wordOf rule w [] = w
-wordOf rule w (k ∷ ks) = wordOf rule ((workOf rule k w) .word) ks
+abbrev pub wordAfter : Rule → ℕ → List Step → ℕ
+wordAfter rule w [] = w
+wordAfter rule w (k ∷ ks) = wordAfter rule ((workOf rule k w) .word) ks
 
 -- ---- runs
 -- from which state, on which word, and bit 7 of each command
@@ -121,27 +106,25 @@ pub record Run : Type 0 where
   pub word : ℕ
   pub sr : ℕ → Bool
 
--- a state that 13 does not turn away, with nothing pending
-pub record Ready (s : State) : Type 0 where
-  pub taken : busy s ≡ false
-  pub whole : s .pending ≡ false
-
--- a run may start from any such state, whatever its stack, status and service line, on a proper word
+-- a run may start from any state that 13 does not turn away, with nothing pending, whatever its stack, status and service line, on a proper word
 pub record Starts (x : Run) : Type 0 where
-  pub ready : Ready (x .state)
+  pub at-rest : AtRest (x .state)
   pub proper : FloatWord (x .word)
 
--- the word is pushed, then the chain is worked
+-- its events: the word is pushed, then the chain is worked, sr giving each command its bit 7
+abbrev pub runEvents : ℕ → (ℕ → Bool) → List Step → List Event
+runEvents w sr ks = pushesOf 4 w ++ chainOf sr ks
+
 abbrev pub eventsIn : Run → List Step → List Event
-eventsIn x ks = pushesOf 4 (x .word) ++ chainOf (x .sr) ks
+eventsIn x ks = runEvents (x .word) (x .sr) ks
 
 -- the state at the end
-abbrev pub endOf : Rule → Run → List Step → State
-endOf rule x ks = after rule (x .state) (eventsIn x ks)
+abbrev pub stateAtEnd : Rule → Run → List Step → State
+stateAtEnd rule x ks = afterEvents rule (x .state) (eventsIn x ks)
 
 -- the result: the TOS at the end
 abbrev pub resultOf : Rule → Run → List Step → ℕ
-resultOf rule x ks = tos 4 ((endOf rule x ks) .stack)
+resultOf rule x ks = tos 4 ((stateAtEnd rule x ks) .stack)
 
 -- no command of the run sets an error bit; bits that stood in the start status do not count
 abbrev pub Quiet : Rule → Run → List Step → Type 0
@@ -152,14 +135,14 @@ pub record Chains (rule : Rule) : Type 0 where
   -- every event is answered 0, error bits or not
   pub every-answered : (x : Run) (ks : List Step) → Starts x → Constants ks → answered rule (x .state) (eventsIn x ks) ≡ true
   -- the result is demand 2's word of the word and the chain alone: no stack, status, service line or sr bit enters
-  pub by-word-alone : (x : Run) (ks : List Step) → Starts x → Constants ks → resultOf rule x ks ≡ wordOf rule (x .word) ks
+  pub by-word-alone : (x : Run) (ks : List Step) → Starts x → Constants ks → resultOf rule x ks ≡ wordAfter rule (x .word) ks
   -- equal words give equal words
   pub equal-words : (x y : Run) (ks : List Step) → Starts x → Starts y → Constants ks → x .word ≡ y .word → resultOf rule x ks ≡ resultOf rule y ks
   -- a chain of no steps gives the word itself
   pub no-steps : (x : Run) → Starts x → resultOf rule x [] ≡ x .word
   -- the result is a proper word, and the state is one from which a run may start
   pub proper-result : (x : Run) (ks : List Step) → Starts x → Constants ks → FloatWord (resultOf rule x ks)
-  pub ready-again : (x : Run) (ks : List Step) → Starts x → Constants ks → Ready (endOf rule x ks)
+  pub ready-again : (x : Run) (ks : List Step) → Starts x → Constants ks → AtRest (stateAtEnd rule x ks)
   -- an even number of reversing steps keeps the order of the two values
   pub even-keeps : (x y : Run) (ks : List Step) → Starts x → Starts y → Constants ks → Quiet rule x ks → Quiet rule y ks → Le (x .word) (y .word)
       → reversing ks % 2 ≡ 0 → Le (resultOf rule x ks) (resultOf rule y ks)
@@ -208,4 +191,4 @@ pub record Examples : Type 0 where
   pub broken : (resultOf baseRule (fromReset 0x01800000) tooFar ≡ 0x3fffffff) × (resultOf baseRule (fromReset 0x3fffffff) tooFar ≡ 0x7efffffe)
   pub crossed : Le 0x01800000 0x3fffffff × (Le 0x3fffffff 0x7efffffe → ⊥)
   -- a look at the last status alone would miss it
-  pub last-is-clear : (errorOf ((endOf baseRule (fromReset 0x3fffffff) tooFarAndOn) .status) ≡ 0) × (resultOf baseRule (fromReset 0x3fffffff) tooFarAndOn ≡ 0x7efffffe)
+  pub last-is-clear : (errorOf ((stateAtEnd baseRule (fromReset 0x3fffffff) tooFarAndOn) .status) ≡ 0) × (resultOf baseRule (fromReset 0x3fffffff) tooFarAndOn ≡ 0x7efffffe)

@@ -1,5 +1,5 @@
 -- Demand 2, stack, status and service line: one law for each row of 01's tables of commands, over the width where two widths share it.
--- Definitions and the statement only: proofs/Commanded.antt proves it. Assumes nothing.
+-- Definitions and the statement only: proofs/Commands.antt proves it. Assumes nothing.
 use Prim.Native.Nat.{ℕ, _+_, _-_, _*_, _%_, _^_, _≤_, _<_}
 use mathlib.Core.Path.{_≡_}
 use mathlib.Core.Logic.{_⊎_}
@@ -29,7 +29,7 @@ use Rattle.codes.specs.declared.Command.the-variants.{Nop, Add, Sub, Mul, Muu, 
 use Rattle.codes.specs.declared.FloatOp.{FloatOp}
 use Rattle.codes.specs.declared.FloatOp.the-variants.{Add as FAdd, Sub as FSub, Mul as FMul, Div as FDiv}
 use Rattle.codes.specs.declared.Kind.the-variants.{Known}
-use Rattle.codes.specs.Codes.{kindOf}
+use Rattle.codes.specs.Codes.{decoded}
 use Rattle.chip.specs.declared.State.{State}
 use Rattle.chip.specs.Commands.{baseRule}
 use Rattle.chip.specs.Step.{done, refused, commandUnder}
@@ -69,13 +69,13 @@ holding stack status service = record { stack = stack; pending = false; status =
 -- answered 0, no byte read, nothing pending, status afresh by r, service line as bit 7 says
 abbrev pub Leaves : Rule → Command → List ℕ → Width → ℕ → ℕ → Bool → List ℕ → Type 0
 Leaves rule k before w r error carry below =
-    (code status : ℕ) (service : Bool) → kindOf (code % 128) ≡ Known k → status < 128
+    (code status : ℕ) (service : Bool) → decoded (code % 128) ≡ Known k → status < 128
     → commandUnder rule (holding before status service) code ≡ done 0 (holding (word w r below) (statusBy w r error carry) (leb 128 code))
 
 -- the command k is refused and the state is as before
 abbrev pub Refuses : Rule → Command → List ℕ → Refusal → Type 0
 Refuses rule k before refusal =
-    (code status : ℕ) (service : Bool) → kindOf (code % 128) ≡ Known k → status < 128
+    (code status : ℕ) (service : Bool) → decoded (code % 128) ≡ Known k → status < 128
     → commandUnder rule (holding before status service) code ≡ refused refusal (holding before status service)
 
 -- from A, B, C.. to R, C.., bottom
@@ -185,7 +185,7 @@ pub record Rows (rule : Rule) : Type 0 where
   -- PUPI: pushes pi, 02C90FDA where results are cut, bottom 32-bit word lost
   pub pupi-row : (lost : ℕ) (abc : List ℕ) → length abc ≡ 12 → Leaves rule Pupi (abc ++ bytesOf 4 lost) Double (piWord rule) 0 false abc
   -- NOP clears the whole status, and leaves the stack
-  pub nop-row : (stack : List ℕ) (code status : ℕ) (service : Bool) → kindOf (code % 128) ≡ Known Nop → status < 128
+  pub nop-row : (stack : List ℕ) (code status : ℕ) (service : Bool) → decoded (code % 128) ≡ Known Nop → status < 128
       → commandUnder rule (holding stack status service) code ≡ done 0 (holding stack 0 (leb 128 code))
 
 -- demand 2 of the chip as it stands

@@ -1,9 +1,9 @@
--- Any core of the four calls' types that meets the promises is the chip of the statements. Definitions and the statement only: proofs/Driven.antt proves
+-- Any core of the four calls' types that meets the promises is the chip of the statements. Definitions and the statement only: proofs/Cores.antt proves
 -- it. Assumes nothing.
 use Prim.Native.Nat.{ℕ, _%_, _^_, _<_}
 use mathlib.Core.Path.{_≡_}
 use mathlib.Core.Bool.{Bool, true, _&&_}
-use mathlib.Core.List.{List, [], _∷_, _++_}
+use mathlib.Core.List.{List, [], _∷_}
 use lib.Dec.{eqb}
 use lib.ListN.{take, getD}
 use Rattle.terms.specs.Refusal.{numberOf}
@@ -11,13 +11,16 @@ use Rattle.float.specs.Word.{FloatWord}
 use Rattle.float.specs.Order.{Le}
 use Rattle.stack.specs.Stack.{Bytes, bytesOf, tos}
 use Rattle.chip.specs.declared.State.{State}
+use Rattle.chip.specs.declared.Event.{Event}
+use Rattle.chip.specs.declared.Event.the-variants.{Push, Pop, Command, Status, Reset, Acknowledge}
 use Rattle.chip.specs.Status.{errorOf}
 use Rattle.chip.specs.Commands.{baseRule}
+use Rattle.chip.specs.Step.{answerTo}
+use Rattle.chip.specs.Events.{afterEvents}
 use Rattle.host.specs.Host.{hostOf, takenOf, hostReply, takenReply}
-use Rattle.stored.specs.Bytes.{isState, stateOf, bytesOf as stateBytes}
+use Rattle.stored.specs.Bytes.{isState, stateOf, stateBytesOf}
 use Rattle.pundaliket.specs.Calls.{Called, Signal, Sent, callOf, Calls, signalOf, Signals, sentOf, Sends, joinedOf}
-use Rattle.promises.specs.Events.{Event, push, pop, command, read, reset, acknowledge, answerTo, after, pushesOf}
-use Rattle.promises.specs.Chains.{Step, Constants, chainOf, reversing, wordOf}
+use Rattle.promises.specs.Chains.{Step, Constants, reversing, wordAfter, runEvents}
 
 -- ---- cores
 -- any four functions of the calls' types: what a call returns and what it leaves in each slice, by what it was lent
@@ -51,20 +54,20 @@ described = record {
 -- ---- events through the event call
 -- an event's kind and its byte, which is the byte pushed or the code, else ignored
 abbrev pub kindNumber : Event → ℕ
-kindNumber (push byte) = 1
-kindNumber pop = 2
-kindNumber (command code) = 3
-kindNumber read = 4
-kindNumber reset = 5
-kindNumber acknowledge = 6
+kindNumber (Push byte) = 1
+kindNumber Pop = 2
+kindNumber (Command code) = 3
+kindNumber Status = 4
+kindNumber Reset = 5
+kindNumber Acknowledge = 6
 
 abbrev pub byteOf : Event → ℕ
-byteOf (push byte) = byte
-byteOf pop = 0
-byteOf (command code) = code
-byteOf read = 0
-byteOf reset = 0
-byteOf acknowledge = 0
+byteOf (Push byte) = byte
+byteOf Pop = 0
+byteOf (Command code) = code
+byteOf Status = 0
+byteOf Reset = 0
+byteOf Acknowledge = 0
 
 -- the events given one at a time to a core's own event call: the state's bytes after them, and the numbers returned
 abbrev pub driven : Core → List ℕ → List Event → List ℕ
@@ -92,12 +95,12 @@ allZero (n ∷ l) = eqb n 0 && allZero l
 
 -- whether each command leaves a state whose status, byte 17, has bits 4 to 1 clear
 abbrev pub clearAfter : Event → List ℕ → Bool
-clearAfter (command code) state = eqb (errorOf (getD state 17 0)) 0
-clearAfter (push byte) state = true
-clearAfter pop state = true
-clearAfter read state = true
-clearAfter reset state = true
-clearAfter acknowledge state = true
+clearAfter (Command code) state = eqb (errorOf (getD state 17 0)) 0
+clearAfter (Push byte) state = true
+clearAfter Pop state = true
+clearAfter Status state = true
+clearAfter Reset state = true
+clearAfter Acknowledge state = true
 
 abbrev pub drivenQuietly : Core → List ℕ → List Event → Bool
 drivenQuietly c state [] = true
@@ -111,10 +114,6 @@ pub record Begins (state : List ℕ) (w : ℕ) : Type 0 where
   pub whole : getD state 16 0 ≡ 0
   pub proper : FloatWord w
 
--- the events of a run: the word pushed, then the chain, sr giving each command its bit 7
-abbrev pub runOf : ℕ → (ℕ → Bool) → List Step → List Event
-runOf w sr ks = pushesOf 4 w ++ chainOf sr ks
-
 -- the word that lies on top at the end, read off the state's first four bytes
 abbrev pub wordLeft : Core → List ℕ → List Event → ℕ
 wordLeft c state es = tos 4 (driven c state es)
@@ -122,22 +121,22 @@ wordLeft c state es = tos 4 (driven c state es)
 -- ---- the statement: of the 19 bytes of any good state, and any events
 pub record Driven (c : Core) : Type 0 where
   -- the bytes after the events are those of the state that the statements speak of
-  pub states : (state : List ℕ) (es : List Event) → Bytes state → isState state ≡ true → Sendable es → driven c state es ≡ stateBytes (after baseRule (stateOf state) es)
+  pub states : (state : List ℕ) (es : List Event) → Bytes state → isState state ≡ true → Sendable es → driven c state es ≡ stateBytesOf (afterEvents baseRule (stateOf state) es)
   -- and the calls return its answers
   pub returns : (state : List ℕ) (es : List Event) → Bytes state → isState state ≡ true → Sendable es → returned c state es ≡ answersOf (stateOf state) es
   -- demand 3 at the event call: every call of a run returns 0, error bits or not
-  pub chain-answers : (state : List ℕ) (w : ℕ) (sr : ℕ → Bool) (ks : List Step) → Begins state w → Constants ks → allZero (returned c state (runOf w sr ks)) ≡ true
+  pub chain-answers : (state : List ℕ) (w : ℕ) (sr : ℕ → Bool) (ks : List Step) → Begins state w → Constants ks → allZero (returned c state (runEvents w sr ks)) ≡ true
   -- at the end the word of demand 2 lies on top, high byte first, a function of the word and the chain alone
-  pub chain-bytes : (state : List ℕ) (w : ℕ) (sr : ℕ → Bool) (ks : List Step) → Begins state w → Constants ks → take 4 (driven c state (runOf w sr ks)) ≡ bytesOf 4 (wordOf baseRule w ks)
-  pub chain-word : (state : List ℕ) (w : ℕ) (sr : ℕ → Bool) (ks : List Step) → Begins state w → Constants ks → wordLeft c state (runOf w sr ks) ≡ wordOf baseRule w ks
+  pub chain-bytes : (state : List ℕ) (w : ℕ) (sr : ℕ → Bool) (ks : List Step) → Begins state w → Constants ks → take 4 (driven c state (runEvents w sr ks)) ≡ bytesOf 4 (wordAfter baseRule w ks)
+  pub chain-word : (state : List ℕ) (w : ℕ) (sr : ℕ → Bool) (ks : List Step) → Begins state w → Constants ks → wordLeft c state (runEvents w sr ks) ≡ wordAfter baseRule w ks
   -- where neither run leaves an error bit, an even number of reversing steps keeps the order of the values
   pub chain-even : (state state' : List ℕ) (v w : ℕ) (sr sr' : ℕ → Bool) (ks : List Step) → Begins state v → Begins state' w → Constants ks
-      → drivenQuietly c state (runOf v sr ks) ≡ true → drivenQuietly c state' (runOf w sr' ks) ≡ true → Le v w
-      → reversing ks % 2 ≡ 0 → Le (wordLeft c state (runOf v sr ks)) (wordLeft c state' (runOf w sr' ks))
+      → drivenQuietly c state (runEvents v sr ks) ≡ true → drivenQuietly c state' (runEvents w sr' ks) ≡ true → Le v w
+      → reversing ks % 2 ≡ 0 → Le (wordLeft c state (runEvents v sr ks)) (wordLeft c state' (runEvents w sr' ks))
   -- and an odd number turns it round
   pub chain-odd : (state state' : List ℕ) (v w : ℕ) (sr sr' : ℕ → Bool) (ks : List Step) → Begins state v → Begins state' w → Constants ks
-      → drivenQuietly c state (runOf v sr ks) ≡ true → drivenQuietly c state' (runOf w sr' ks) ≡ true → Le v w
-      → reversing ks % 2 ≡ 1 → Le (wordLeft c state' (runOf w sr' ks)) (wordLeft c state (runOf v sr ks))
+      → drivenQuietly c state (runEvents v sr ks) ≡ true → drivenQuietly c state' (runEvents w sr' ks) ≡ true → Le v w
+      → reversing ks % 2 ≡ 1 → Le (wordLeft c state' (runEvents w sr' ks)) (wordLeft c state (runEvents v sr ks))
 
 -- every core that meets the promises
 abbrev pub Cores : Type 0

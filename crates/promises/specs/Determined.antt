@@ -1,4 +1,4 @@
--- Demand 1: every call gets a fixed reply. Two results and exits that a call's contract allows coincide. Statements only: proofs/Coinciding.antt proves
+-- Demand 1: every call gets a fixed reply. Two results and exits that a call's contract allows coincide. Statements only: proofs/Determined.antt proves
 -- them. Assumes nothing.
 use Prim.Native.Nat.{ℕ}
 use mathlib.Core.Path.{_≡_}

@@ -1,5 +1,5 @@
 -- Files and events are one: the records of events, run as a file, leave what the events leave given one at a time, and their replies hold the answers;
--- with that demand 3 for files. Definitions and the statements only: proofs/FiledEvents.antt proves them. Assumes nothing.
+-- with that demand 3 for files. Definitions and the statements only: proofs/EventFiles.antt proves them. Assumes nothing.
 use Prim.Native.Nat.{ℕ, _/_, _%_, _≤_}
 use mathlib.Core.Path.{_≡_}
 use mathlib.Core.Bool.{Bool, true}
@@ -7,22 +7,23 @@ use mathlib.Core.List.{List, [], _∷_, _++_}
 use lib.ListN.{length, take, drop, getD}
 use Rattle.float.specs.Order.{Le}
 use Rattle.stack.specs.Stack.{Bytes, bytesOf, tos}
+use Rattle.chip.specs.declared.Event.{Event}
+use Rattle.chip.specs.declared.Event.the-variants.{Push, Pop, Command, Status, Reset, Acknowledge}
 use Rattle.chip.specs.Commands.{baseRule}
 use Rattle.stored.specs.Bytes.{isState}
 use Rattle.pundaliket.specs.Calls.{Called}
-use Rattle.promises.specs.Events.{Event, push, pop, command, read, reset, acknowledge}
 use Rattle.promises.specs.Records.{countAt}
-use Rattle.promises.specs.Chains.{Step, Constants, reversing, wordOf}
-use Rattle.promises.specs.Cores.{Core, Meets, Sendable, driven, returned, drivenQuietly, Begins, runOf}
+use Rattle.promises.specs.Chains.{Step, Constants, reversing, wordAfter, runEvents}
+use Rattle.promises.specs.Cores.{Core, Meets, Sendable, driven, returned, drivenQuietly, Begins}
 
 -- the record of an event: its length, its kind, its payload
 abbrev pub recordOf : Event → List ℕ
-recordOf (push byte) = 3 ∷ 0 ∷ 1 ∷ 0 ∷ byte ∷ []
-recordOf pop = 3 ∷ 0 ∷ 2 ∷ 0 ∷ 1 ∷ []
-recordOf (command code) = 3 ∷ 0 ∷ 3 ∷ 0 ∷ code ∷ []
-recordOf read = 2 ∷ 0 ∷ 4 ∷ 0 ∷ []
-recordOf reset = 2 ∷ 0 ∷ 5 ∷ 0 ∷ []
-recordOf acknowledge = 2 ∷ 0 ∷ 6 ∷ 0 ∷ []
+recordOf (Push byte) = 3 ∷ 0 ∷ 1 ∷ 0 ∷ byte ∷ []
+recordOf Pop = 3 ∷ 0 ∷ 2 ∷ 0 ∷ 1 ∷ []
+recordOf (Command code) = 3 ∷ 0 ∷ 3 ∷ 0 ∷ code ∷ []
+recordOf Status = 2 ∷ 0 ∷ 4 ∷ 0 ∷ []
+recordOf Reset = 2 ∷ 0 ∷ 5 ∷ 0 ∷ []
+recordOf Acknowledge = 2 ∷ 0 ∷ 6 ∷ 0 ∷ []
 
 abbrev pub fileOf : List Event → List ℕ
 fileOf [] = []
@@ -30,12 +31,12 @@ fileOf (e ∷ es) = recordOf e ++ fileOf es
 
 -- the reply of an event for which the event call returns n: 256 times the refusal plus the byte read, which a pop and a status read have
 abbrev pub replyTo : Event → ℕ → List ℕ
-replyTo (push byte) n = 3 ∷ 0 ∷ 129 ∷ 0 ∷ n / 256 ∷ []
-replyTo pop n = 4 ∷ 0 ∷ 130 ∷ 0 ∷ n / 256 ∷ n % 256 ∷ []
-replyTo (command code) n = 3 ∷ 0 ∷ 131 ∷ 0 ∷ n / 256 ∷ []
-replyTo read n = 4 ∷ 0 ∷ 132 ∷ 0 ∷ n / 256 ∷ n % 256 ∷ []
-replyTo reset n = 3 ∷ 0 ∷ 133 ∷ 0 ∷ n / 256 ∷ []
-replyTo acknowledge n = 3 ∷ 0 ∷ 134 ∷ 0 ∷ n / 256 ∷ []
+replyTo (Push byte) n = 3 ∷ 0 ∷ 129 ∷ 0 ∷ n / 256 ∷ []
+replyTo Pop n = 4 ∷ 0 ∷ 130 ∷ 0 ∷ n / 256 ∷ n % 256 ∷ []
+replyTo (Command code) n = 3 ∷ 0 ∷ 131 ∷ 0 ∷ n / 256 ∷ []
+replyTo Status n = 4 ∷ 0 ∷ 132 ∷ 0 ∷ n / 256 ∷ n % 256 ∷ []
+replyTo Reset n = 3 ∷ 0 ∷ 133 ∷ 0 ∷ n / 256 ∷ []
+replyTo Acknowledge n = 3 ∷ 0 ∷ 134 ∷ 0 ∷ n / 256 ∷ []
 
 -- the replies of events in turn, by the numbers returned for them
 abbrev pub repliesTo : List Event → List ℕ → List ℕ
@@ -66,7 +67,7 @@ EventFiles =
 
 -- ---- demand 3 for files: the file of a chain's events
 abbrev pub chainFile : ℕ → (ℕ → Bool) → List Step → List ℕ
-chainFile w sr ks = fileOf (runOf w sr ks)
+chainFile w sr ks = fileOf (runEvents w sr ks)
 
 -- no reply of the file holds another refusal than 0: its byte 4 is what a call that returns 0 for each event gives
 abbrev pub zerosFor : List Event → List ℕ
@@ -75,21 +76,21 @@ zerosFor (e ∷ es) = 0 ∷ zerosFor es
 
 pub record ChainFiles (c : Core) : Type 0 where
   -- every record is answered 0, error bits or not, and the call returns 0
-  pub answers : (state : List ℕ) (w : ℕ) (sr : ℕ → Bool) (ks : List Step) (replies report : List ℕ) → Begins state w → Constants ks → Lent c state (runOf w sr ks) replies report
+  pub answers : (state : List ℕ) (w : ℕ) (sr : ℕ → Bool) (ks : List Step) (replies report : List ℕ) → Begins state w → Constants ks → Lent c state (runEvents w sr ks) replies report
       → ((c .run state (chainFile w sr ks) replies report) .result ≡ 0)
       × ((c .run state (chainFile w sr ks) replies report) .replies
-      ≡ repliesTo (runOf w sr ks) (zerosFor (runOf w sr ks)) ++ drop (length (repliesTo (runOf w sr ks) (zerosFor (runOf w sr ks)))) replies)
+      ≡ repliesTo (runEvents w sr ks) (zerosFor (runEvents w sr ks)) ++ drop (length (repliesTo (runEvents w sr ks) (zerosFor (runEvents w sr ks)))) replies)
   -- the word of demand 2 lies on top, high byte first, a function of the word and the chain alone
-  pub bytes : (state : List ℕ) (w : ℕ) (sr : ℕ → Bool) (ks : List Step) (replies report : List ℕ) → Begins state w → Constants ks → Lent c state (runOf w sr ks) replies report
-      → take 4 ((c .run state (chainFile w sr ks) replies report) .state) ≡ bytesOf 4 (wordOf baseRule w ks)
+  pub bytes : (state : List ℕ) (w : ℕ) (sr : ℕ → Bool) (ks : List Step) (replies report : List ℕ) → Begins state w → Constants ks → Lent c state (runEvents w sr ks) replies report
+      → take 4 ((c .run state (chainFile w sr ks) replies report) .state) ≡ bytesOf 4 (wordAfter baseRule w ks)
   -- where the events of neither file leave an error bit, an even number of reversing steps keeps the order of the values, and an odd number turns it round
   pub even : (state state' : List ℕ) (v w : ℕ) (sr sr' : ℕ → Bool) (ks : List Step) (replies replies' report report' : List ℕ) → Begins state v → Begins state' w → Constants ks
-      → Lent c state (runOf v sr ks) replies report → Lent c state' (runOf w sr' ks) replies' report'
-      → drivenQuietly c state (runOf v sr ks) ≡ true → drivenQuietly c state' (runOf w sr' ks) ≡ true → Le v w → reversing ks % 2 ≡ 0
+      → Lent c state (runEvents v sr ks) replies report → Lent c state' (runEvents w sr' ks) replies' report'
+      → drivenQuietly c state (runEvents v sr ks) ≡ true → drivenQuietly c state' (runEvents w sr' ks) ≡ true → Le v w → reversing ks % 2 ≡ 0
       → Le (tos 4 ((c .run state (chainFile v sr ks) replies report) .state)) (tos 4 ((c .run state' (chainFile w sr' ks) replies' report') .state))
   pub odd : (state state' : List ℕ) (v w : ℕ) (sr sr' : ℕ → Bool) (ks : List Step) (replies replies' report report' : List ℕ) → Begins state v → Begins state' w → Constants ks
-      → Lent c state (runOf v sr ks) replies report → Lent c state' (runOf w sr' ks) replies' report'
-      → drivenQuietly c state (runOf v sr ks) ≡ true → drivenQuietly c state' (runOf w sr' ks) ≡ true → Le v w → reversing ks % 2 ≡ 1
+      → Lent c state (runEvents v sr ks) replies report → Lent c state' (runEvents w sr' ks) replies' report'
+      → drivenQuietly c state (runEvents v sr ks) ≡ true → drivenQuietly c state' (runEvents w sr' ks) ≡ true → Le v w → reversing ks % 2 ≡ 1
       → Le (tos 4 ((c .run state' (chainFile w sr' ks) replies' report') .state)) (tos 4 ((c .run state (chainFile v sr ks) replies report) .state))
 
 abbrev pub Demand3Files : Type 0

@@ -1,4 +1,4 @@
--- Demand 2, float results: how they are formed and cut, in whole numbers. Definitions and the statement only: proofs/Exactness.antt proves it. Assumes nothing.
+-- Demand 2, float results: how they are formed and cut, in whole numbers. Definitions and the statement only: proofs/Exact.antt proves it. Assumes nothing.
 -- Results are taken from the definitions that the commands cite, under the rule of the chip as it stands.
 use Prim.Native.Nat.{ℕ, _+_, _*_, _^_, _≤_, _<_}
 use mathlib.Core.Path.{_≡_}
@@ -35,7 +35,7 @@ pub record Operations : Type 0 where
   pub by-zero : (b a : ℕ) → FloatWord a → mantissa a ≡ 0 → div baseRule b a ≡ record { word = b; error = 8 }
 
 -- ---- what follows for the words
-pub record Words : Type 0 where
+pub record WordLaws : Type 0 where
   -- results are proper
   pub proper-sum : (b a : ℕ) → FloatWord ((add baseRule b a) .word) × FloatWord ((sub baseRule b a) .word)
   pub proper-product : (b a : ℕ) → FloatWord ((mul baseRule b a) .word)
@@ -70,5 +70,5 @@ pub record Conversions : Type 0 where
 pub record Exact : Type 0 where
   pub one-pair : OnePair
   pub operations : Operations
-  pub words : Words
+  pub words : WordLaws
   pub conversions : Conversions

@@ -1,5 +1,5 @@
 -- What stands under a name in the definitions, written out: 01's limits and refusal numbers, Figure 8 of 001 code by code, the bytes of a word, the fields of
--- a float word and of the status. Definitions and the statement only: proofs/Figured.antt proves it. Assumes nothing.
+-- a float word and of the status. Definitions and the statement only: proofs/Figures.antt proves it. Assumes nothing.
 use Prim.Native.Nat.{ℕ, zero, suc, _+_, _*_, _/_, _%_, _^_, _≤_, _<_}
 use mathlib.Core.Path.{_≡_}
 use mathlib.Core.Bool.{Bool, true, false, cond}
@@ -17,16 +17,16 @@ use Rattle.codes.specs.declared.FloatOp.the-variants.{Add as FAdd, Sub as FSub,
 use Rattle.codes.specs.declared.Command.the-variants.{Nop, Add, Sub, Mul, Muu, Div, Chs, Float, Chsf, Flt, Fix, Pto, Pop, Xch, Pupi, Sqrt}
 use Rattle.codes.specs.declared.Kind.{Kind}
 use Rattle.codes.specs.declared.Kind.the-variants.{Known, Derived, Unknown}
-use Rattle.codes.specs.Codes.{kindOf}
+use Rattle.codes.specs.Codes.{decoded}
 use Rattle.chip.specs.Status.{errorOf}
 
 -- ---- Figure 8 as a chart of 128 codes, sixteen to a row
-abbrev pub none : ℕ → List Kind
-none n = replicate n Unknown
+abbrev pub unknowns : ℕ → List Kind
+unknowns n = replicate n Unknown
 
 -- 00 to 0F: NOP, SQRT, ten derived functions
 abbrev pub row0 : List Kind
-row0 = Known Nop ∷ Known Sqrt ∷ (replicate 10 Derived ++ none 4)
+row0 = Known Nop ∷ Known Sqrt ∷ (replicate 10 Derived ++ unknowns 4)
 
 -- 10 to 1F: FADD, FSUB, FMUL, FDIV, -, CHSF, -, PTOF, POPF, XCHF, PUPI, -, FLTD, FLTS, FIXD, FIXS
 abbrev pub row1 : List Kind
@@ -38,22 +38,22 @@ row1 =
 
 -- 20 to 2F: DADD, DSUB, DMUL, DDIV last
 abbrev pub row2 : List Kind
-row2 = none 12 ++ (Known (Add Double) ∷ Known (Sub Double) ∷ Known (Mul Double) ∷ Known (Div Double) ∷ [])
+row2 = unknowns 12 ++ (Known (Add Double) ∷ Known (Sub Double) ∷ Known (Mul Double) ∷ Known (Div Double) ∷ [])
 
 -- 30 to 3F: CHSD at 34, DMUU, PTOD, POPD, XCHD from 36
 abbrev pub row3 : List Kind
-row3 = none 4 ++ (Known (Chs Double) ∷ Unknown ∷ Known (Muu Double) ∷ Known (Pto Double) ∷ Known (Pop Double) ∷ Known (Xch Double) ∷ none 6)
+row3 = unknowns 4 ++ (Known (Chs Double) ∷ Unknown ∷ Known (Muu Double) ∷ Known (Pto Double) ∷ Known (Pop Double) ∷ Known (Xch Double) ∷ unknowns 6)
 
 -- 60 to 6F: SADD, SSUB, SMUL, SDIV last
 abbrev pub row6 : List Kind
-row6 = none 12 ++ (Known (Add Single) ∷ Known (Sub Single) ∷ Known (Mul Single) ∷ Known (Div Single) ∷ [])
+row6 = unknowns 12 ++ (Known (Add Single) ∷ Known (Sub Single) ∷ Known (Mul Single) ∷ Known (Div Single) ∷ [])
 
 -- 70 to 7F: CHSS at 74, SMUU, PTOS, POPS, XCHS from 76
 abbrev pub row7 : List Kind
-row7 = none 4 ++ (Known (Chs Single) ∷ Unknown ∷ Known (Muu Single) ∷ Known (Pto Single) ∷ Known (Pop Single) ∷ Known (Xch Single) ∷ none 6)
+row7 = unknowns 4 ++ (Known (Chs Single) ∷ Unknown ∷ Known (Muu Single) ∷ Known (Pto Single) ∷ Known (Pop Single) ∷ Known (Xch Single) ∷ unknowns 6)
 
 abbrev pub chart : List Kind
-chart = row0 ++ (row1 ++ (row2 ++ (row3 ++ (none 16 ++ (none 16 ++ (row6 ++ row7))))))
+chart = row0 ++ (row1 ++ (row2 ++ (row3 ++ (unknowns 16 ++ (unknowns 16 ++ (row6 ++ row7))))))
 
 -- the n codes from one on
 abbrev pub from : ℕ → ℕ → List ℕ
@@ -74,7 +74,7 @@ pub record Figures : Type 0 where
   pub refusals : map numberOf (Done ∷ UnknownCode ∷ DerivedCode ∷ HalfWord ∷ Improper ∷ NoSuchKind ∷ CutShort ∷ BadLength ∷ NoRoom ∷ InputTooLong ∷ NotFinite ∷ TooLarge ∷ TooSmall ∷ BadState ∷ BadReport ∷ [])
       ≡ 0 ∷ 1 ∷ 2 ∷ 3 ∷ 4 ∷ 5 ∷ 6 ∷ 7 ∷ 8 ∷ 9 ∷ 10 ∷ 11 ∷ 12 ∷ 13 ∷ 14 ∷ []
   -- every code without its bit 7
-  pub codes : map kindOf (from 128 0) ≡ chart
+  pub codes : map decoded (from 128 0) ≡ chart
   -- a word's most significant byte is nearest the top, and its low byte is pushed first
   pub two-bytes : (x : ℕ) → (bytesOf 2 x ≡ x / 256 % 256 ∷ x % 256 ∷ []) × (lowFirst 2 x ≡ x % 256 ∷ x / 256 % 256 ∷ [])
   pub four-bytes : (x : ℕ) → (bytesOf 4 x ≡ x / 16777216 % 256 ∷ x / 65536 % 256 ∷ x / 256 % 256 ∷ x % 256 ∷ [])

@@ -1,5 +1,5 @@
 -- 01, 'Record files' and 'Refusal numbers': the number of a bad record from its bytes, in 01's order, and that nothing of it is done. Definitions and the
--- statement only: proofs/Fronted.antt proves it. Assumes nothing.
+-- statement only: proofs/Fronts.antt proves it. Assumes nothing.
 use Prim.Native.Nat.{ℕ, _+_, _*_, _≤_, _<_}
 use mathlib.Core.Path.{_≡_}
 use mathlib.Core.Logic.{_⊎_}

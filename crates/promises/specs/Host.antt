@@ -1,4 +1,4 @@
--- Demand 2 for host floats, "with the value unchanged, wherever the other side has that value": what a conversion replies, in 01's numbers and by the bits. Each statement is proved by name in proofs/Hosted.antt. Assumes nothing.
+-- Demand 2 for host floats, "with the value unchanged, wherever the other side has that value": what a conversion replies, in 01's numbers and by the bits. Each statement is proved by name in proofs/Host.antt. Assumes nothing.
 use Prim.Native.Nat.{ℕ, _^_, _<_}
 use mathlib.Core.Path.{_≡_}
 use mathlib.Core.Logic.{_⊎_, _↔_}

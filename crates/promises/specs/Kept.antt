@@ -1,6 +1,6 @@
 -- Demand 1: what is turned away leaves all as it stood, and a bad or cut file keeps the records done before. Definitions and statements only:
--- proofs/Keeping.antt proves them. Assumes nothing.
-use Prim.Native.Nat.{ℕ, _+_, _-_, _≤_, _<_}
+-- proofs/Kept.antt proves them. Assumes nothing.
+use Prim.Native.Nat.{ℕ, _-_, _≤_, _<_}
 use mathlib.Core.Path.{_≡_}
 use mathlib.Core.Bool.{true, false}
 use mathlib.Core.List.{List, [], _∷_}
@@ -11,7 +11,7 @@ use Rattle.chip.specs.declared.State.{State}
 use Rattle.host.specs.declared.Reply.{Reply}
 use Rattle.records.specs.Record.{turnOf}
 use Rattle.records.specs.Run.{runOf}
-use Rattle.stored.specs.Bytes.{isState, stateOf, bytesOf}
+use Rattle.stored.specs.Bytes.{isState, stateOf, stateBytesOf}
 use Rattle.pundaliket.specs.Calls.{Called, callOf, signalOf, sentOf}
 use Rattle.promises.specs.Records.{countAt}
 
@@ -49,7 +49,7 @@ GoodStates = (l : List ℕ) → (isState l ≡ true → Stands l) × (Stands l �
 
 -- they come back as they were: nothing is lost in reading and writing a state
 abbrev pub StateReturns : Type 0
-StateReturns = (l : List ℕ) → isState l ≡ true → bytesOf (stateOf l) ≡ l
+StateReturns = (l : List ℕ) → isState l ≡ true → stateBytesOf (stateOf l) ≡ l
 
 -- an input of no bytes ends at once with 0
 abbrev pub EmptyInput : Type 0

@@ -1,5 +1,4 @@
--- The demands of the order as statements. Each is proved under one name in proofs/.
-pub mod Events
+-- The demands of the order as statements. Each is proved under one name in the file of its own name in proofs/.
 pub mod Determined
 pub mod Refusals
 pub mod Kept

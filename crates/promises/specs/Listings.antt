@@ -1,5 +1,5 @@
 -- 01, 'The listing program', for every input: its lines are those of the records taken, then the last line. Definitions and the statements only:
--- proofs/Listed.antt proves them. Assumes nothing.
+-- proofs/Listings.antt proves them. Assumes nothing.
 use Prim.Native.Nat.{ℕ, _+_, _*_, _-_, _/_, _%_, _^_, _≤_, _<_}
 use mathlib.Core.Path.{_≡_}
 use mathlib.Core.List.{List, [], _∷_, _++_, map}

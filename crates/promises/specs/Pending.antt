@@ -1,5 +1,5 @@
 -- 01, 'The stack': what a push, a pop, a reset, an acknowledge and a status read leave, written out, and when a half word is pending, over any events.
--- Definitions and the statement only: proofs/Parity.antt proves it. Assumes nothing.
+-- Definitions and the statement only: proofs/Pending.antt proves it. Assumes nothing.
 use Prim.Native.Nat.{ℕ, suc, _%_, _≤_, _<_}
 use mathlib.Core.Path.{_≡_}
 use mathlib.Core.Bool.{Bool, true, false, not}
@@ -10,13 +10,16 @@ use Rattle.terms.specs.declared.Rule.{Rule}
 use Rattle.stack.specs.Stack.{Bytes, IsStack}
 use Rattle.chip.specs.declared.State.{State}
 use Rattle.chip.specs.declared.Answer.{Answer}
+use Rattle.chip.specs.declared.Event.{Event}
+use Rattle.chip.specs.declared.Event.the-variants.{Push, Pop, Command, Status, Reset, Acknowledge}
 use Rattle.chip.specs.Commands.{baseRule}
+use Rattle.chip.specs.Step.{answerTo}
+use Rattle.chip.specs.Events.{afterEvents}
 use Rattle.stored.specs.Bytes.{isState}
-use Rattle.promises.specs.Events.{Event, push, pop, command, read, reset, acknowledge, answerTo, after}
 use Rattle.promises.specs.Cores.{Core, Meets, Sendable, driven}
 
 -- an answer's number, the byte read, and the whole state after
-pub record Gives (a : Answer) (n byte : ℕ) (stack : List ℕ) (pending : Bool) (status : ℕ) (service : Bool) : Type 0 where
+pub record Answers (a : Answer) (n byte : ℕ) (stack : List ℕ) (pending : Bool) (status : ℕ) (service : Bool) : Type 0 where
   pub number : numberOf (a .refusal) ≡ n
   pub byte-read : a .byte ≡ byte
   pub state : a .state ≡ record { stack = stack; pending = pending; status = status; service = service }
@@ -28,12 +31,12 @@ stateWith stack pending status service = record { stack = stack; pending = pendi
 -- pushes plus pops since the last reset, n having gone before; no other event counts
 abbrev pub movedSince : ℕ → List Event → ℕ
 movedSince n [] = n
-movedSince n (push byte ∷ es) = movedSince (suc n) es
-movedSince n (pop ∷ es) = movedSince (suc n) es
-movedSince n (reset ∷ es) = movedSince 0 es
-movedSince n (command code ∷ es) = movedSince n es
-movedSince n (read ∷ es) = movedSince n es
-movedSince n (acknowledge ∷ es) = movedSince n es
+movedSince n (Push byte ∷ es) = movedSince (suc n) es
+movedSince n (Pop ∷ es) = movedSince (suc n) es
+movedSince n (Reset ∷ es) = movedSince 0 es
+movedSince n (Command code ∷ es) = movedSince n es
+movedSince n (Status ∷ es) = movedSince n es
+movedSince n (Acknowledge ∷ es) = movedSince n es
 
 -- a flag that is set where a number is odd
 pub record Odd (flag : Bool) (n : ℕ) : Type 0 where
@@ -44,24 +47,24 @@ pub record Odd (flag : Bool) (n : ℕ) : Type 0 where
 pub record Bus (rule : Rule) : Type 0 where
   -- push: the byte becomes the top, the bottom byte is lost, pending turns; status and service line stay
   pub push-leaves : (b : ℕ) (l : List ℕ) (p : Bool) (u : ℕ) (v : Bool) → u < 128
-      → Gives (answerTo rule (stateWith l p u v) (push b)) 0 0 (b ∷ take 15 l) (not p) u v
+      → Answers (answerTo rule (stateWith l p u v) (Push b)) 0 0 (b ∷ take 15 l) (not p) u v
   -- pop: the top byte is handed out and goes to the bottom, pending turns
   pub pop-leaves : (b : ℕ) (l : List ℕ) (p : Bool) (u : ℕ) (v : Bool) → u < 128
-      → Gives (answerTo rule (stateWith (b ∷ l) p u v) pop) 0 b (l ++ (b ∷ [])) (not p) u v
+      → Answers (answerTo rule (stateWith (b ∷ l) p u v) Pop) 0 b (l ++ (b ∷ [])) (not p) u v
   -- reset: stack all zero, nothing pending, status 0, service line low
   pub reset-leaves : (l : List ℕ) (p : Bool) (u : ℕ) (v : Bool) → u < 128
-      → Gives (answerTo rule (stateWith l p u v) reset) 0 0 (0 ∷ 0 ∷ 0 ∷ 0 ∷ 0 ∷ 0 ∷ 0 ∷ 0 ∷ 0 ∷ 0 ∷ 0 ∷ 0 ∷ 0 ∷ 0 ∷ 0 ∷ 0 ∷ []) false 0 false
+      → Answers (answerTo rule (stateWith l p u v) Reset) 0 0 (0 ∷ 0 ∷ 0 ∷ 0 ∷ 0 ∷ 0 ∷ 0 ∷ 0 ∷ 0 ∷ 0 ∷ 0 ∷ 0 ∷ 0 ∷ 0 ∷ 0 ∷ 0 ∷ []) false 0 false
   -- acknowledge: the service line goes low, and nothing else changes
   pub acknowledge-leaves : (l : List ℕ) (p : Bool) (u : ℕ) (v : Bool) → u < 128
-      → Gives (answerTo rule (stateWith l p u v) acknowledge) 0 0 l p u false
+      → Answers (answerTo rule (stateWith l p u v) Acknowledge) 0 0 l p u false
   -- a status read hands out the status, and nothing changes
   pub read-leaves : (l : List ℕ) (p : Bool) (u : ℕ) (v : Bool) → u < 128
-      → Gives (answerTo rule (stateWith l p u v) read) 0 u l p u v
+      → Answers (answerTo rule (stateWith l p u v) Status) 0 u l p u v
   -- every event of a state whose busy bit is set: 13, no byte, and the state as it came
-  pub busy-answers : (e : Event) (l : List ℕ) (p : Bool) (u : ℕ) (v : Bool) → 128 ≤ u → Gives (answerTo rule (stateWith l p u v) e) 13 0 l p u v
+  pub busy-answers : (e : Event) (l : List ℕ) (p : Bool) (u : ℕ) (v : Bool) → 128 ≤ u → Answers (answerTo rule (stateWith l p u v) e) 13 0 l p u v
   -- a half word is pending when pushes plus pops since reset are odd in number: over any events, refused ones among them, from a state reached by n
   pub half-pending : (s : State) (n : ℕ) (es : List Event) → IsStack (s .stack) → s .status < 128 → Sendable es → Odd (s .pending) n
-      → Odd ((after rule s es) .pending) (movedSince n es)
+      → Odd ((afterEvents rule s es) .pending) (movedSince n es)
 
 -- the same of the event call of any core that meets the promises: byte 16 of the state is that number modulo 2
 abbrev pub PendingByte : Type 0

@@ -1,9 +1,9 @@
--- Demand 2 for files: every whole record of a file in turn, and the two counts as sums. Definitions and statements only: proofs/Recorded.antt proves
+-- Demand 2 for files: every whole record of a file in turn, and the two counts as sums. Definitions and statements only: proofs/Records.antt proves
 -- them. Assumes nothing.
 use Prim.Native.Nat.{ℕ, _+_, _*_, _-_, _≤_, _<_}
 use mathlib.Core.Path.{_≡_}
 use mathlib.Core.Bool.{true, false}
-use mathlib.Core.List.{List, [], _∷_, _++_, map}
+use mathlib.Core.List.{List, [], _∷_, _++_}
 use lib.ListN.{length, getD}
 use Rattle.terms.specs.Refusal.{numberOf}
 use Rattle.terms.specs.Limits.{mostInput, mostPayload, reportBytes}
@@ -11,7 +11,7 @@ use Rattle.stack.specs.Stack.{Bytes, IsStack}
 use Rattle.chip.specs.declared.State.{State}
 use Rattle.chip.specs.State.{busy, resetState, acknowledged}
 use Rattle.chip.specs.Step.{commandOf}
-use Rattle.chip.specs.Turns.{afterPushes, afterPops, bytesPopped}
+use Rattle.chip.specs.InTurn.{afterPushes, afterPops, bytesPopped}
 use Rattle.records.specs.declared.head.Event.{Event}
 use Rattle.records.specs.Record.{payloadOf, answeredOf, headNumber, headOf, Holds}
 use Rattle.records.specs.Run.{Outcome, ended, took, after, runOf}

@@ -1,5 +1,5 @@
 -- Request 1 of document 02, SQRT: what the command leaves, the root in whole numbers, the order that it keeps, and a table of roots through the
--- whole step. Definitions and the statements only: proofs/Rooted.antt proves them. Assumes nothing.
+-- whole step. Definitions and the statements only: proofs/Roots.antt proves them. Assumes nothing.
 use Prim.Native.Nat.{ℕ, _^_, _<_}
 use mathlib.Core.Path.{_≡_}
 use mathlib.Core.Bool.{true, false}
@@ -15,17 +15,17 @@ use Rattle.float.specs.Root.{sqrt, RootPair, ExactlyRoot}
 use Rattle.stack.specs.Stack.{bytesOf, zeros}
 use Rattle.codes.specs.declared.Command.the-variants.{Sqrt}
 use Rattle.codes.specs.declared.Kind.the-variants.{Known}
-use Rattle.codes.specs.Codes.{kindOf}
+use Rattle.codes.specs.Codes.{decoded}
 use Rattle.chip.specs.Commands.{baseRule}
-use Rattle.promises.specs.Events.{pushesOf}
+use Rattle.chip.specs.Events.{pushesOf}
 use Rattle.promises.specs.Commands.{words, word, statusBy, Leaves, Refuses}
 use Rattle.promises.specs.Exact.{clean}
-use Rattle.promises.specs.Bench.{Row, one, turnedAway, shown, expected}
+use Rattle.promises.specs.Bench.{BenchRow, one, turnedAway, shown, expected}
 
 -- ---- the command
 pub record RootRows (rule : Rule) : Type 0 where
   -- code 01, and so 81
-  pub code : kindOf 0x01 ≡ Known Sqrt
+  pub code : decoded 0x01 ≡ Known Sqrt
   -- a proper word not below zero: its root, no error; R, B, C, 0
   pub root-row : (a b c : ℕ) → FloatWord a → negative a ≡ false → (ds : List ℕ)
       → Leaves rule Sqrt (word Double a (word Double b (word Double c ds))) Double ((sqrt rule a) .word) 0 false (word Double b (word Double c (zeros 4)))
@@ -60,7 +60,7 @@ abbrev pub RootOrder : Type 0
 RootOrder = (rule : Rule) (a b : ℕ) → FloatWord a → FloatWord b → negative a ≡ false → negative b ≡ false → Le a b → Le ((sqrt rule a) .word) ((sqrt rule b) .word)
 
 -- ---- roots of 0, 1, 2, 4, 9, 1/4, the least and the largest word; the words beside 1 and 2; D cleared, and kept for -1; refusals 3 and 4
-abbrev pub rootTable : List Row
+abbrev pub rootTable : List BenchRow
 rootTable =
     one 0x01 Double 0x00000000 Double 0x00000000 0x20
     ∷ one 0x01 Double 0x01800000 Double 0x01800000 0x00

@@ -1,5 +1,5 @@
 -- 01, 'Record files': the exported run over the run of a file, byte by byte, and the record at which a bad file stops, said of the call. Definitions and
--- the statement only: proofs/RunCalled.antt proves it. Assumes nothing.
+-- the statement only: proofs/RunCall.antt proves it. Assumes nothing.
 use Prim.Native.Nat.{ℕ, _/_, _%_, _≤_}
 use mathlib.Core.Path.{_≡_}
 use mathlib.Core.Bool.{true, cond}

@@ -1,5 +1,5 @@
 -- 01, 'Record files': the exported event and the two exported conversions, number by number and byte by byte. Definitions and the statements only:
--- proofs/SmallCalled.antt proves them. Assumes nothing.
+-- proofs/SmallCalls.antt proves them. Assumes nothing.
 use Prim.Native.Nat.{ℕ, _-_, _/_, _%_, _≤_, _<_}
 use mathlib.Core.Path.{_≡_}
 use mathlib.Core.Logic.{_⊎_}

@@ -1,5 +1,5 @@
 -- 01, 'Fixed point, n = 16 or 32, two's complement': what fits, what carry and borrow are, and that FLTS and FLTD read a word as the fixed-point commands
--- do. Definitions and the statement only: proofs/Complements.antt proves it. Assumes nothing.
+-- do. Definitions and the statement only: proofs/TwosComplement.antt proves it. Assumes nothing.
 use Prim.Native.Nat.{ℕ, _+_, _*_, _≤_, _<_}
 use mathlib.Core.Path.{_≡_}
 use mathlib.Core.Bool.{Bool, true, false, cond}

@@ -1,5 +1,5 @@
 -- The order's own fear, a word joined from two units: by which bytes a word goes in and comes out. Definitions and the statement only:
--- proofs/Whole.antt proves it. Assumes nothing.
+-- proofs/WholeWords.antt proves it. Assumes nothing.
 use Prim.Native.Nat.{ℕ, zero, suc, _-_, _%_, _<_}
 use mathlib.Core.Path.{_≡_}
 use mathlib.Core.Bool.{Bool, true, false, not}
@@ -13,19 +13,21 @@ use Rattle.terms.specs.declared.Rule.{Rule}
 use Rattle.stack.specs.Stack.{IsStack, bytesOf, lowFirst, topByte, pushed, popped}
 use Rattle.codes.specs.declared.Command.{Command}
 use Rattle.codes.specs.declared.Kind.the-variants.{Known}
-use Rattle.codes.specs.Codes.{kindOf}
+use Rattle.codes.specs.Codes.{decoded}
 use Rattle.chip.specs.declared.State.{State}
+use Rattle.chip.specs.declared.Event.{Event}
+use Rattle.chip.specs.declared.Event.the-variants.{Push, Pop}
 use Rattle.chip.specs.State.{busy, moved}
 use Rattle.chip.specs.Commands.{baseRule}
 use Rattle.chip.specs.Step.{done, refused, pushOf, popOf, commandUnder}
-use Rattle.chip.specs.Turns.{afterPushes, bytesPopped, resultBytes}
-use Rattle.promises.specs.Events.{Event, push, pop, after}
+use Rattle.chip.specs.Events.{afterEvents}
+use Rattle.chip.specs.InTurn.{afterPushes, bytesPopped, resultBytes}
 
 -- events that push or pop a byte, n in all
 pub data Moves : List Event → ℕ → Type 0 where
   none : Moves [] zero
-  pushing : {es : List Event} {n : ℕ} (byte : ℕ) → Moves es n → Moves (push byte ∷ es) (suc n)
-  popping : {es : List Event} {n : ℕ} → Moves es n → Moves (pop ∷ es) (suc n)
+  pushing : {es : List Event} {n : ℕ} (byte : ℕ) → Moves es n → Moves (Push byte ∷ es) (suc n)
+  popping : {es : List Event} {n : ℕ} → Moves es n → Moves (Pop ∷ es) (suc n)
 
 -- odd in number
 abbrev pub odd : ℕ → Bool
@@ -37,19 +39,19 @@ pub record Whole (rule : Rule) : Type 0 where
   pub push-answer : (s : State) (byte : ℕ) → busy s ≡ false → pushOf s byte ≡ done 0 (moved s (pushed (s .stack) byte))
   pub pop-answer : (s : State) → busy s ≡ false → popOf s ≡ done (topByte (s .stack)) (moved s (popped (s .stack)))
   -- with nothing pending, after an odd number of bytes pushed and popped a half word is pending, and after an even number none
-  pub parity : (s : State) (es : List Event) (n : ℕ) → Moves es n → busy s ≡ false → s .pending ≡ false → (after rule s es) .pending ≡ odd n
+  pub parity : (s : State) (es : List Event) (n : ℕ) → Moves es n → busy s ≡ false → s .pending ≡ false → (afterEvents rule s es) .pending ≡ odd n
   -- with nothing pending, a word's bytes pushed, low first, lie on top, the rest moves down, and nothing is pending
   pub lies-on-top : (w : Width) (s : State) (x : ℕ) → busy s ≡ false → s .pending ≡ false
       → afterPushes s (lowFirst (sizeOf w) x) ≡ record { stack = bytesOf (sizeOf w) x ++ take (16 - sizeOf w) (s .stack); pending = false; status = s .status; service = s .service }
   -- and as many pops hand out that word's bytes, high first
   pub handed-back : (w : Width) (s : State) (x : ℕ) → busy s ≡ false → bytesPopped (sizeOf w) (afterPushes s (lowFirst (sizeOf w) x)) ≡ bytesOf (sizeOf w) x
   -- after any accepted command the pops hand out R's bytes
-  pub after-command : (s : State) (code : ℕ) (k : Command) → IsStack (s .stack) → kindOf (code % 128) ≡ Known k → (commandUnder rule s code) .refusal ≡ Done
+  pub after-command : (s : State) (code : ℕ) (k : Command) → IsStack (s .stack) → decoded (code % 128) ≡ Known k → (commandUnder rule s code) .refusal ≡ Done
       → bytesPopped (length (resultBytes rule k (s .stack))) ((commandUnder rule s code) .state) ≡ resultBytes rule k (s .stack)
   -- an accepted command found nothing pending, and leaves nothing pending
   pub nothing-pending : (s : State) (code : ℕ) → (commandUnder rule s code) .refusal ≡ Done → (s .pending ≡ false) × ((commandUnder rule s code) .state .pending ≡ false)
   -- while a half word is pending, every known command, NOP too, is refused with 3 and no byte changes
-  pub half-refused : (s : State) (code : ℕ) (k : Command) → kindOf (code % 128) ≡ Known k → busy s ≡ false → s .pending ≡ true → commandUnder rule s code ≡ refused HalfWord s
+  pub half-refused : (s : State) (code : ℕ) (k : Command) → decoded (code % 128) ≡ Known k → busy s ≡ false → s .pending ≡ true → commandUnder rule s code ≡ refused HalfWord s
 
 -- of the chip as it stands
 abbrev pub WholeWords : Type 0

@@ -1,5 +1,5 @@
 -- The wrong cores of 01's section 'What the proofs have to say', each as a class of cores of the four calls' types, none of which meets the promises.
--- Definitions and the statement only: proofs/ShutOut.antt proves it. Assumes nothing.
+-- Definitions and the statement only: proofs/WrongCores.antt proves it. Assumes nothing.
 use Prim.Native.Nat.{ℕ, _^_, _≤_, _<_}
 use mathlib.Core.Path.{_≡_}
 use mathlib.Core.Logic.{_⊎_}
@@ -10,8 +10,8 @@ use Rattle.terms.specs.Limits.{mostInput, reportBytes}
 use Rattle.stack.specs.Stack.{Bytes, zeros}
 use Rattle.records.specs.Run.{runOf as fileRun}
 use Rattle.stored.specs.Bytes.{isState, stateOf}
-use Rattle.promises.specs.Cores.{Core, Meets, described, driven, Begins, runOf}
-use Rattle.promises.specs.Chains.{Step, Change, Constants}
+use Rattle.promises.specs.Cores.{Core, Meets, described, driven, Begins}
+use Rattle.promises.specs.Chains.{Step, Change, Constants, runEvents}
 use Rattle.promises.specs.Records.{IsRecord, Split, total, lengths, repliesOf, countAt}
 
 -- no core of a class meets the promises
@@ -70,7 +70,7 @@ pub data InventedCounts (c : Core) : Type 0 where
 -- after every chain of one or more steps, from any state with nothing pending, on any proper word, the zero word lies on top
 abbrev pub ZeroChains : Core → Type 0
 ZeroChains c =
-    (state : List ℕ) (w : ℕ) (sr : ℕ → Bool) (k : Step) (ks : List Step) → Begins state w → Constants (k ∷ ks) → take 4 (driven c state (runOf w sr (k ∷ ks))) ≡ zeros 4
+    (state : List ℕ) (w : ℕ) (sr : ℕ → Bool) (k : Step) (ks : List Step) → Begins state w → Constants (k ∷ ks) → take 4 (driven c state (runEvents w sr (k ∷ ks))) ≡ zeros 4
 
 -- ---- the inputs that tell
 -- the 19 bytes of a state after reset, a report's nine bytes, and a file of two records that push 55 and AA
@@ -113,7 +113,7 @@ pub record Tells (c : Core) : Type 0 where
   pub float-out : (c .word-to-f32 0x01800000 (zeros 4)) .out ≡ 0 ∷ 0 ∷ 0x80 ∷ 0x3f ∷ []
   pub word-out : (c .f32-to-word 0x3f800000 (zeros 4)) .out ≡ 0 ∷ 0 ∷ 0x80 ∷ 1 ∷ []
   -- (f): the sign of 1 changed is -1
-  pub chain : take 4 (driven c fresh (runOf 0x01800000 (λ (n : ℕ). false) (Change ∷ []))) ≡ 0x81 ∷ 0x80 ∷ 0 ∷ 0 ∷ []
+  pub chain : take 4 (driven c fresh (runEvents 0x01800000 (λ (n : ℕ). false) (Change ∷ []))) ≡ 0x81 ∷ 0x80 ∷ 0 ∷ 0 ∷ []
 
 -- ---- the statement
 pub record WrongCores : Type 0 where

@@ -19,7 +19,7 @@ use Rattle.chip.proofs.Kept.{event-keeps}
 use Rattle.host.specs.declared.Reply.{Reply}
 use Rattle.files.specs.Run.{Runs}
 use Rattle.records.specs.Run.{Outcome, runOf}
-use Rattle.stored.specs.Bytes.{isState, stateOf, bytesOf, reportOf}
+use Rattle.stored.specs.Bytes.{isState, stateOf, stateBytesOf, reportOf}
 use Rattle.pundaliket.specs.declared.Named.{Named}
 use Rattle.pundaliket.specs.declared.Named.the-variants.{Known, Unknown}
 use Rattle.pundaliket.specs.Calls.{ranOf, away, callOf, Calls, Names, joinedOf, signalBy, signalOf, Signals, sentOf, Sends}
@@ -38,7 +38,7 @@ passed false y e n = absurd (false-true (sym n))
 
 -- a run of the code, with its state and report laid out
 pub called : (o : Outcome) (refusal : ℕ) (s : State) (taken written : ℕ) (input replies left state report : List ℕ)
-    → Runs o refusal s taken written input replies left → state ≡ bytesOf s → report ≡ reportOf refusal taken written
+    → Runs o refusal s taken written input replies left → state ≡ stateBytesOf s → report ≡ reportOf refusal taken written
     → Calls (ranOf o replies) refusal state left report
 called o refusal s taken written input replies left state report r a b = record {
   result-is = r .refusal-is;
@@ -80,7 +80,7 @@ module _ (state : List ℕ) (e : Event) (a : Answer) (is : a ≡ eventOf (stateO
   pub no-event : (n ≡ 0 → ⊥) → Signals (signalBy state (eventOf (stateOf state) e)) r (a .state .stack ++ drop 16 state)
   no-event g = rw (← is, ← en, ne-eqb n 0 g) record { result-is = er; state-is = ap (λ (l : List ℕ). l ++ drop 16 state) (kept g) ∙ take-append-drop 16 state }
 
-  pub an-event : (left : List ℕ) → n ≡ 0 → left ≡ bytesOf (a .state) → Signals (signalBy state (eventOf (stateOf state) e)) r left
+  pub an-event : (left : List ℕ) → n ≡ 0 → left ≡ stateBytesOf (a .state) → Signals (signalBy state (eventOf (stateOf state) e)) r left
   an-event left g d = rw (← is, ← en, eq-eqb n 0 g) record { result-is = er; state-is = d }
 
 -- an event by its kind: turned away, one that the kind names, or 5

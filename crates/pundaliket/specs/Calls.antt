@@ -12,11 +12,10 @@ use Rattle.terms.specs.Refusal.{numberOf}
 use Rattle.terms.specs.Limits.{reportBytes, mostInput}
 use Rattle.chip.specs.declared.State.{State}
 use Rattle.chip.specs.declared.Answer.{Answer}
-use Rattle.chip.specs.Step.{pushOf, popOf, readOf, resetOf, acknowledgeOf, commandOf}
-use Rattle.chip.specs.Step.{eventOf as answerTo}
+use Rattle.chip.specs.Step.{pushOf, popOf, readOf, resetOf, acknowledgeOf, commandOf, eventOf}
 use Rattle.host.specs.declared.Reply.{Reply}
 use Rattle.records.specs.Run.{Outcome, runOf}
-use Rattle.stored.specs.Bytes.{isState, stateOf, bytesOf, reportOf}
+use Rattle.stored.specs.Bytes.{isState, stateOf, stateBytesOf, reportOf}
 use Rattle.pundaliket.specs.declared.Named.{Named}
 use Rattle.pundaliket.specs.declared.Named.the-variants.{Known, Unknown}
 
@@ -33,7 +32,7 @@ pub record Called : Type 0 where
 abbrev pub ranOf : Outcome → List ℕ → Called
 ranOf o replies = record {
   result = o .refusal;
-  state = bytesOf (o .state);
+  state = stateBytesOf (o .state);
   replies = o .written ++ drop (length (o .written)) replies;
   report = reportOf (o .refusal) (o .taken) (length (o .written));
 }
@@ -61,8 +60,8 @@ pub record Calls (c : Called) (result : ℕ) (state replies report : List ℕ) :
 -- ---- a single event
 
 -- an event by its kind: 5 for a kind that is not 1 to 6
-abbrev pub eventOf : State → ℕ → ℕ → Answer
-eventOf s kind byte =
+abbrev pub answerToKind : State → ℕ → ℕ → Answer
+answerToKind s kind byte =
     cond (eqb kind 1) (pushOf s byte)
     (cond (eqb kind 2) (popOf s)
     (cond (eqb kind 3) (commandOf s byte)
@@ -73,12 +72,12 @@ eventOf s kind byte =
 
 -- the answer to what a kind names: the event's, or 5
 abbrev pub answeredBy : State → Named → Answer
-answeredBy s (Known e) = answerTo s e
+answeredBy s (Known e) = eventOf s e
 answeredBy s Unknown = record { refusal = NoSuchKind; byte = 0; state = s }
 
 -- a kind and a byte name it: its answer is theirs on every state
 abbrev pub Names : ℕ → ℕ → Named → Type 0
-Names kind byte n = (s : State) → answeredBy s n ≡ eventOf s kind byte
+Names kind byte n = (s : State) → answeredBy s n ≡ answerToKind s kind byte
 
 -- what the call returns, and what the state holds after
 pub record Signal : Type 0 where
@@ -93,13 +92,13 @@ joinedOf refusal byte = 256 * refusal + byte
 abbrev pub signalBy : List ℕ → Answer → Signal
 signalBy state a = record {
   result = joinedOf (numberOf (a .refusal)) (a .byte);
-  state = cond (eqb (numberOf (a .refusal)) 0) (bytesOf (a .state)) state;
+  state = cond (eqb (numberOf (a .refusal)) 0) (stateBytesOf (a .state)) state;
 }
 
 -- 13 comes first
 unfoldable pub signalOf : List ℕ → ℕ → ℕ → Signal
 signalOf state kind byte =
-    cond (isState state) (signalBy state (eventOf (stateOf state) kind byte)) (record { result = joinedOf (numberOf BadState) 0; state = state })
+    cond (isState state) (signalBy state (answerToKind (stateOf state) kind byte)) (record { result = joinedOf (numberOf BadState) 0; state = state })
 
 pub record Signals (t : Signal) (result : ℕ) (state : List ℕ) : Type 0 where
   pub result-is : result ≡ t .result

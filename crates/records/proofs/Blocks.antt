@@ -15,9 +15,9 @@ use Rattle.chip.specs.declared.State.{State}
 use Rattle.chip.specs.declared.Answer.{Answer}
 use Rattle.chip.specs.State.{moved}
 use Rattle.chip.specs.Step.{done, refused, pushOf, popOf}
-use Rattle.chip.specs.Turns.{bytesPopped}
+use Rattle.chip.specs.InTurn.{bytesPopped}
 use Rattle.chip.specs.Place.{held, flipped}
-use Rattle.chip.proofs.Turns.{turned, restacked, push-done, pop-done, pops-bytes}
+use Rattle.chip.proofs.InTurn.{turned, restacked, push-done, pop-done, pops-bytes}
 use Rattle.chip.proofs.InPlace.{flips}
 use Rattle.records.specs.Record.{before, pushAll, popAll}
 

@@ -17,8 +17,8 @@ use Rattle.chip.specs.declared.State.{State}
 use Rattle.chip.specs.declared.Answer.{Answer}
 use Rattle.chip.specs.State.{busy, resetState, acknowledged}
 use Rattle.chip.specs.Step.{done, pushOf, popOf, readOf, resetOf, acknowledgeOf, commandOf}
-use Rattle.chip.specs.Turns.{afterPushes, afterPops, bytesPopped}
-use Rattle.chip.proofs.Turns.{push-done, pop-done}
+use Rattle.chip.specs.InTurn.{afterPushes, afterPops, bytesPopped}
+use Rattle.chip.proofs.InTurn.{push-done, pop-done}
 use Rattle.files.proofs.Append.{nothing, first-stops, first-taken}
 use Rattle.records.specs.declared.head.Event.{Event}
 use Rattle.records.specs.declared.head.Event.the-variants.{Push, Pop, Command, Status, Reset, Acknowledge}

@@ -13,7 +13,7 @@ use Rattle.terms.specs.Limits.{mostPayload, leastLength, mostLength}
 use Rattle.chip.specs.declared.State.{State}
 use Rattle.chip.specs.declared.Answer.{Answer}
 use Rattle.chip.specs.Step.{pushOf, popOf, readOf, resetOf, acknowledgeOf, commandOf}
-use Rattle.chip.specs.Turns.{bytesPopped}
+use Rattle.chip.specs.InTurn.{bytesPopped}
 use Rattle.files.specs.Run as files
 use Rattle.records.specs.declared.head.Event.{Event}
 use Rattle.records.specs.declared.head.Event.the-variants.{Push, Pop, Command, Status, Reset, Acknowledge}

@@ -4,7 +4,7 @@ use mathlib.Core.List.{List}
 use Prim.Native.Nat.{ℕ}
 use lib.ListN.{length}
 use Rattle.stack.specs.Diagrams.{Diagrams}
-use Rattle.stack.proofs.Elems.{elems, rest}
+use Rattle.stack.proofs.Elems.{rest}
 
 pub diagrams : (s : List ℕ) (r : ℕ) → length s ≡ 16 → Diagrams s r
 diagrams s r h =

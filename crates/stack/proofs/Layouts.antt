@@ -1,13 +1,16 @@
 -- Every layout of a stack is a stack again, what 01 keeps is kept below R, POP turns the stack by a word and XCH swaps its first two. Assumes nothing.
-use mathlib.Core.Path.{_≡_, refl, sym, ap, ap₂, _∙_}
-use mathlib.Core.List.{List, [], _∷_, _++_, append-assoc}
-use Prim.Native.Nat.{ℕ, zero, suc, _+_, _-_, _≤_, _<_, _^_}
+use mathlib.Core.Path.{_≡_, refl, ap, ap₂}
+use mathlib.Core.List.{List, _++_, append-assoc}
+use Prim.Native.Nat.{ℕ, zero, suc, _+_, _-_, _≤_, _<_}
 use native.Mathlib.Omega.{arith}
-use lib.Dec.{lit<}
+use lib.Dec.{lit<, lit≤}
 use lib.ListN.{length, take, drop, length-append, length-take, length-drop}
 use lib.Seq.{take-at, drop-at}
-use Rattle.stack.specs.Stack.{Bytes, IsStack, bytesOf, zeros, tos, pushed, rotated, popped, overA, overZero, replaced, copied, exchanged, pushedWord, converted, widened, narrowed}
-use Rattle.stack.proofs.Words.{length-bytes, length-zeros, bytes-append, bytes-take, bytes-drop, bytes-of, tos-over}
+use Rattle.terms.specs.declared.Width.{Width}
+use Rattle.terms.specs.declared.Width.the-variants.{Single, Double}
+use Rattle.terms.specs.Width.{sizeOf}
+use Rattle.stack.specs.Stack.{Bytes, IsStack, bytesOf, zeros, pushed, rotated, overA, overZero, replaced, copied, exchanged, pushedWord, converted, widened, narrowed}
+use Rattle.stack.proofs.Words.{length-bytes, length-zeros, bytes-append, bytes-take, bytes-drop, bytes-of}
 
 -- ---- zeros
 bytes-zeros : (n : ℕ) → Bytes (zeros n)
@@ -16,6 +19,11 @@ bytes-zeros (suc n) = (lit< tt, bytes-zeros n)
 
 pub zeros-stack : IsStack (zeros 16)
 zeros-stack = record { sixteen = refl; bytes = bytes-zeros 16 }
+
+-- two words of either width are part of a stack
+pub two-fit : (w : Width) → sizeOf w + sizeOf w ≤ 16
+two-fit Single = lit≤ tt
+two-fit Double = lit≤ tt
 
 -- ---- every layout is a stack
 module _ (s : List ℕ) (S : IsStack s) where
@@ -91,9 +99,6 @@ module _ (s : List ℕ) (S : IsStack s) where
 -- ---- R on top, and what is below it
 pub top-bytes : (n r : ℕ) (t : List ℕ) → take n (bytesOf n r ++ t) ≡ bytesOf n r
 top-bytes n r t = take-at (bytesOf n r) t n (length-bytes n r)
-
-pub below-top : (n r : ℕ) (t : List ℕ) → drop n (bytesOf n r ++ t) ≡ t
-below-top n r t = drop-at (bytesOf n r) t n (length-bytes n r)
 
 -- ---- POP is a rotation by the width, XCH a swap of two blocks
 pub pop-turns : (n : ℕ) (a t : List ℕ) → length a ≡ n → rotated n (a ++ t) ≡ t ++ a

@@ -1,12 +1,12 @@
 -- Bytes pushed and popped one after the other: a word pushed low byte first lies on top, its bytes come back high byte first, and the rest moves by as many places. Assumes nothing.
 use mathlib.Core.Path.{_≡_, refl, sym, ap, ap₂, _∙_}
 use mathlib.Core.List.{List, [], _∷_, _++_, append-assoc, append-nil}
-use Prim.Native.Nat.{ℕ, zero, suc, _+_, _-_, _/_, _%_, _≤_}
+use Prim.Native.Nat.{ℕ, zero, suc, _-_, _/_, _%_, _≤_}
 use native.Mathlib.Nat.{le-of-suc-le-suc, not-suc-le-zero}
 use native.Mathlib.Omega.{arith}
 use lib.ListN.{length, take, drop, length-append}
 use lib.Seq.{take-take, take-append-le, drop-append-le}
-use Rattle.stack.specs.Stack.{bytesOf, pushed, rotated, popped, topByte, pushedAll, lowFirst, poppedAll, handedOut}
+use Rattle.stack.specs.Stack.{bytesOf, pushed, rotated, pushedAll, lowFirst, poppedAll, handedOut}
 use Rattle.stack.proofs.Words.{length-bytes}
 use Rattle.stack.proofs.Layouts.{top-bytes}
 
@@ -49,7 +49,3 @@ pops-read n r t =
 -- a word pushed low byte first and popped comes back high byte first
 pub pushed-then-popped : (n r : ℕ) (s : List ℕ) → n ≤ 15 → handedOut (suc n) (pushedAll s (lowFirst (suc n) r)) ≡ bytesOf (suc n) r
 pushed-then-popped n r s h = ap (handedOut (suc n)) (pushes-lay n r s h) ∙ pops-read (suc n) r (take (15 - n) s)
-
--- a push and a pop of one byte: the byte comes back, and goes to the bottom where the lost one was
-pub push-pop : (s : List ℕ) (b : ℕ) → popped (pushed s b) ≡ take 15 s ++ (b ∷ [])
-push-pop s b = refl

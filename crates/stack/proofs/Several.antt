@@ -1,11 +1,11 @@
 -- Bytes pushed or popped several at a time are the same bytes one after the other: pushed, they lie on top the other way round; popped, they are the top bytes, which go to the bottom. Assumes nothing.
-use mathlib.Core.Path.{_≡_, refl, sym, ap, ap₂, subst, _∙_}
+use mathlib.Core.Path.{_≡_, refl, sym, ap, ap₂, _∙_}
 use mathlib.Core.List.{List, [], _∷_, _++_, append-assoc, reverseAux}
 use Prim.Native.Nat.{ℕ, zero, suc, _+_, _-_, _≤_, _<_}
 use native.Mathlib.Nat.{zero-add, suc-add, add-assoc, sub-zero, le-of-suc-le-suc, not-suc-le-zero}
 use native.Mathlib.Numerals.{add-one}
 use native.Mathlib.Omega.{arith}
-use lib.ListN.{length, getD, take, drop, set, length-append, length-take, length-drop, take-append-drop, drop-of-length-le}
+use lib.ListN.{length, getD, take, drop, set, length-append, length-take, take-append-drop, drop-of-length-le}
 use lib.Seq.{paste, take-paste, drop-paste, take-suc, take-take, take-all, drop-at, drop-drop, length-take-le}
 use Rattle.stack.specs.Stack.{pushed, popped, topByte, rotated, copied, pushedAll, poppedAll, handedOut}
 use Rattle.stack.proofs.Moves.{pops-hand, pops-turn}

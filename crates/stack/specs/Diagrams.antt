@@ -45,25 +45,25 @@ abbrev pub D : List ℕ → List ℕ
 D s = take 4 (drop 12 s)
 
 -- a diagram: words from the top down
-abbrev pub words : List (List ℕ) → List ℕ
-words [] = []
-words (w ∷ ws) = w ++ words ws
+abbrev pub stacked : List (List ℕ) → List ℕ
+stacked [] = []
+stacked (w ∷ ws) = w ++ stacked ws
 
 -- each stack after, of a stack s and a result r of 16 or of 32 bits
 pub record Diagrams (s : List ℕ) (r : ℕ) : Type 0 where
-  pub sadd-ssub : overA 2 s r ≡ words (bytesOf 2 r ∷ c s ∷ d s ∷ e s ∷ f s ∷ g s ∷ h s ∷ a s ∷ [])
-  pub dadd-dsub : overA 4 s r ≡ words (bytesOf 4 r ∷ C s ∷ D s ∷ A s ∷ [])
-  pub smul-smuu-sdiv : overZero 2 s r ≡ words (bytesOf 2 r ∷ c s ∷ d s ∷ e s ∷ f s ∷ g s ∷ h s ∷ zeros 2 ∷ [])
-  pub dmul-dmuu-ddiv-float : overZero 4 s r ≡ words (bytesOf 4 r ∷ C s ∷ D s ∷ zeros 4 ∷ [])
-  pub chss : replaced 2 s r ≡ words (bytesOf 2 r ∷ b s ∷ c s ∷ d s ∷ e s ∷ f s ∷ g s ∷ h s ∷ [])
-  pub chsd-chsf : replaced 4 s r ≡ words (bytesOf 4 r ∷ B s ∷ C s ∷ D s ∷ [])
-  pub pops : rotated 2 s ≡ words (b s ∷ c s ∷ d s ∷ e s ∷ f s ∷ g s ∷ h s ∷ a s ∷ [])
-  pub popd-popf : rotated 4 s ≡ words (B s ∷ C s ∷ D s ∷ A s ∷ [])
-  pub ptos : copied 2 s ≡ words (a s ∷ a s ∷ b s ∷ c s ∷ d s ∷ e s ∷ f s ∷ g s ∷ [])
-  pub ptod-ptof : copied 4 s ≡ words (A s ∷ A s ∷ B s ∷ C s ∷ [])
-  pub xchs : exchanged 2 s ≡ words (b s ∷ a s ∷ c s ∷ d s ∷ e s ∷ f s ∷ g s ∷ h s ∷ [])
-  pub xchd-xchf : exchanged 4 s ≡ words (B s ∷ A s ∷ C s ∷ D s ∷ [])
-  pub pupi : pushedWord s r ≡ words (bytesOf 4 r ∷ A s ∷ B s ∷ C s ∷ [])
-  pub fltd-fixd : converted s r ≡ words (bytesOf 4 r ∷ B s ∷ C s ∷ zeros 4 ∷ [])
-  pub flts : widened s r ≡ words (bytesOf 4 r ∷ b s ∷ c s ∷ d s ∷ e s ∷ zeros 2 ∷ zeros 2 ∷ [])
-  pub fixs : narrowed s r ≡ words (bytesOf 2 r ∷ B s ∷ C s ∷ zeros 2 ∷ zeros 2 ∷ zeros 2 ∷ [])
+  pub sadd-ssub : overA 2 s r ≡ stacked (bytesOf 2 r ∷ c s ∷ d s ∷ e s ∷ f s ∷ g s ∷ h s ∷ a s ∷ [])
+  pub dadd-dsub : overA 4 s r ≡ stacked (bytesOf 4 r ∷ C s ∷ D s ∷ A s ∷ [])
+  pub smul-smuu-sdiv : overZero 2 s r ≡ stacked (bytesOf 2 r ∷ c s ∷ d s ∷ e s ∷ f s ∷ g s ∷ h s ∷ zeros 2 ∷ [])
+  pub dmul-dmuu-ddiv-float : overZero 4 s r ≡ stacked (bytesOf 4 r ∷ C s ∷ D s ∷ zeros 4 ∷ [])
+  pub chss : replaced 2 s r ≡ stacked (bytesOf 2 r ∷ b s ∷ c s ∷ d s ∷ e s ∷ f s ∷ g s ∷ h s ∷ [])
+  pub chsd-chsf : replaced 4 s r ≡ stacked (bytesOf 4 r ∷ B s ∷ C s ∷ D s ∷ [])
+  pub pops : rotated 2 s ≡ stacked (b s ∷ c s ∷ d s ∷ e s ∷ f s ∷ g s ∷ h s ∷ a s ∷ [])
+  pub popd-popf : rotated 4 s ≡ stacked (B s ∷ C s ∷ D s ∷ A s ∷ [])
+  pub ptos : copied 2 s ≡ stacked (a s ∷ a s ∷ b s ∷ c s ∷ d s ∷ e s ∷ f s ∷ g s ∷ [])
+  pub ptod-ptof : copied 4 s ≡ stacked (A s ∷ A s ∷ B s ∷ C s ∷ [])
+  pub xchs : exchanged 2 s ≡ stacked (b s ∷ a s ∷ c s ∷ d s ∷ e s ∷ f s ∷ g s ∷ h s ∷ [])
+  pub xchd-xchf : exchanged 4 s ≡ stacked (B s ∷ A s ∷ C s ∷ D s ∷ [])
+  pub pupi : pushedWord s r ≡ stacked (bytesOf 4 r ∷ A s ∷ B s ∷ C s ∷ [])
+  pub fltd-fixd : converted s r ≡ stacked (bytesOf 4 r ∷ B s ∷ C s ∷ zeros 4 ∷ [])
+  pub flts : widened s r ≡ stacked (bytesOf 4 r ∷ b s ∷ c s ∷ d s ∷ e s ∷ zeros 2 ∷ zeros 2 ∷ [])
+  pub fixs : narrowed s r ≡ stacked (bytesOf 2 r ∷ B s ∷ C s ∷ zeros 2 ∷ zeros 2 ∷ zeros 2 ∷ [])

@@ -29,8 +29,8 @@ abbrev pub flagOf : Bool → ℕ
 flagOf set = cond set 1 0
 
 -- the 19 bytes of a state
-abbrev pub bytesOf : State → List ℕ
-bytesOf s = s .stack ++ (flagOf (s .pending) ∷ s .status ∷ flagOf (s .service) ∷ [])
+abbrev pub stateBytesOf : State → List ℕ
+stateBytesOf s = s .stack ++ (flagOf (s .pending) ∷ s .status ∷ flagOf (s .service) ∷ [])
 
 -- the report: refusal, bytes of whole records taken, bytes of replies written
 abbrev pub reportOf : ℕ → ℕ → ℕ → List ℕ

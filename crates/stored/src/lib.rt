@@ -5,7 +5,7 @@ ghost use mathlib.Core.Path.{_≡_};
 ghost use lib.ListN.{length, take};
 ghost use Rattle.terms.specs.Limits.{stackBytes, stateBytes, reportBytes};
 ghost use Rattle.chip.specs.Place.{held};
-ghost use Rattle.stored.specs.Bytes.{isState, stateOf, flagOf, bytesOf, reportOf};
+ghost use Rattle.stored.specs.Bytes.{isState, stateOf, flagOf, stateBytesOf, reportOf};
 
 // Whether the bytes stand for a state: 19 of them, both flags 0 or 1, busy clear.
 pub fn is_state(state: &[u8]) -> bool
@@ -48,7 +48,7 @@ fn flag(set: bool) -> u8
 // The three bytes behind the stack, which stays.
 pub fn put_flags(state: &mut [u8], pending: bool, status: u8, service: bool)
     requires { ⌜ length (now state) ≡ stateBytes ⌝ }
-    ensures { λ _. ⌜ now (state .exit) ≡ bytesOf (held (take stackBytes (now (state .entry))) pending status service) ⌝ }
+    ensures { λ _. ⌜ now (state .exit) ≡ stateBytesOf (held (take stackBytes (now (state .entry))) pending status service) ⌝ }
 {
     state[16] = flag(pending);
     state[17] = status;

@@ -4,7 +4,7 @@ use mathlib.Core.Bool.{Bool, true, false, not, cond, true≢false}
 use Prim.Native.Nat.{ℕ, zero, suc, _+_, _-_, _*_, _≤_}
 use native.Mathlib.Nat.{mul-zero, zero-mul}
 use native.Mathlib.Omega.{arith}
-use lib.IntN.{ℤ, pos, negℤ, negℤ-negℤ, natAbs, subℕ, _+ℤ_, _*ℤ_}
+use lib.IntN.{pos, negℤ, negℤ-negℤ, natAbs, subℕ, _+ℤ_, _*ℤ_}
 use lib.Ieee.{unlike}
 use Rattle.whole.specs.Signed.{withSign}
 use Rattle.whole.proofs.Differences.{sub-ge, same, sum-differences, neg-pos, pos-is}
@@ -12,6 +12,11 @@ use Rattle.whole.proofs.Differences.{sub-ge, same, sum-differences, neg
 pub sign-difference : (s : Bool) (n : ℕ) → withSign s n ≡ subℕ (cond s 0 n) (cond s n 0)
 sign-difference true n = neg-pos n
 sign-difference false n = pos-is n
+
+-- zero has no sign
+pub zero-signed : (s : Bool) → withSign s 0 ≡ pos 0
+zero-signed true = refl
+zero-signed false = refl
 
 pub sum-signs : (s t : Bool) (i j : ℕ) → withSign s i +ℤ withSign t j ≡ subℕ (cond s 0 i + cond t 0 j) (cond s i 0 + cond t j 0)
 sum-signs s t i j = ap₂ _+ℤ_ (sign-difference s i) (sign-difference t j) ∙ sum-differences (cond s 0 i) (cond s i 0) (cond t 0 j) (cond t j 0)

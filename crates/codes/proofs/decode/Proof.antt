@@ -1,4 +1,4 @@
--- `codes::decode` meets its contract. Assumes nothing.
+-- `codes::decode` meets its contract: the code without its bit 7 is named. Assumes nothing.
 use borrow.Author.Needs.{needs}
 use Rattle.codes.proofs.decode.Statement.{statement}
 use Rattle.codes.proofs.decode.Tie as tie

@@ -3,7 +3,7 @@ use mathlib.Core.Path.{_≡_, refl, sym}
 use mathlib.Core.List.{List, [], _∷_}
 use Prim.Native.Nat.{ℕ}
 use borrow.Author.Tests.{ne-eqb}
-use Rattle.codes.specs.Codes.{Row, figure8, find, kindOf}
+use Rattle.codes.specs.Codes.{Row, figure8, find, decoded}
 use Rattle.codes.specs.declared.Kind.the-variants.{Unknown}
 use Rattle.codes.proofs.named.Statement.{statement}
 use Rattle.codes.proofs.named.Tie as tie
@@ -19,12 +19,12 @@ absent n known (row ∷ rows) h =
     let q = absent n (known × (n ≡ row .0 → ⊥)) rows h in
     (q .0 .0, rw (ne-eqb n (row .0) (q .0 .1)) (q .1))
 
-unnamed : (n : ℕ) → Left n Unit figure8 → Unknown ≡ kindOf n
-unfolding kindOf
+unnamed : (n : ℕ) → Left n Unit figure8 → Unknown ≡ decoded n
+unfolding decoded
 unnamed n h = sym (absent n Unit figure8 h .1)
 
 pub named-spec : {M : Type 1} → statement M
-unfolding kindOf
+unfolding decoded
 named-spec =
     tie.close
     (tie.spec

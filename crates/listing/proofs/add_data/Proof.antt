@@ -23,20 +23,11 @@ abbrev μ-loop : tie.MeasureT-loop
 loop-holds : tie.Need-loop-holds Inv-loop μ-loop
 loop-holds c = let a = c .before .before .args in (search needs, refl, nothing (now (a .out)) (a .place))
 
-shared-slice-read-add-hex : tie.Need-shared-slice-read-add-hex Inv-loop μ-loop
-shared-slice-read-add-hex c = search needs
-
 add-hex-requires : tie.Need-add-hex-requires Inv-loop μ-loop
 add-hex-requires c κs =
     let a = c .before .before .before .before .before .before .args in
     let l = c .before .before .before .loop in
     data-room (now (a .bytes)) (l .i) (a .place) (l .next) (omega arith) (l .inv .2) (l .inv .1) (c .before .before .before .before .before .before .pre)
-
-add-i : tie.Need-add-i Inv-loop μ-loop
-add-i c = search needs
-
-loop-less : tie.Need-loop-less Inv-loop μ-loop
-loop-less c = search needs
 
 loop-again : tie.Need-loop-again Inv-loop μ-loop
 loop-again c =
@@ -60,10 +51,10 @@ add-data-spec =
     Inv-loop
     μ-loop
     loop-holds
-    shared-slice-read-add-hex
+    (λ c. search needs)
     add-hex-requires
-    add-i
-    loop-less
+    (λ c. search needs)
+    (λ c. search needs)
     loop-again
     same-length
     returns)

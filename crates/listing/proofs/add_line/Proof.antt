@@ -1,5 +1,4 @@
 -- `listing::add_line` adds the parts of the line in turn. Assumes nothing.
-use Prim.Native.Nat.{_-_}
 use native.Mathlib.Omega.{arith}
 use denote.Ref.{now}
 use Rattle.listing.proofs.Adding.{both}
@@ -20,14 +19,8 @@ add-field-requires-2 c κs = let a = c .before .before .before .before .before .
 add-data-requires : tie.Need-add-data-requires
 add-data-requires c κs = let a = c .before .before .before .before .before .before .before .before .before .before .before .before .before .before .before .args in omega (arith, line-length (a .number) (a .kind) (a .refusal) (now (a .bytes)))
 
-slice-aggregate-add : tie.Need-slice-aggregate-add
-slice-aggregate-add c = search needs
-
 add-requires : tie.Need-add-requires
 add-requires c κs = let a = c .before .before .before .before .before .before .before .before .before .before .before .before .before .before .before .before .before .before .before .before .args in omega (arith, line-length (a .number) (a .kind) (a .refusal) (now (a .bytes)))
-
-same-length : tie.Need-same-length
-same-length c = search needs
 
 returns : tie.Need-returns
 returns c =
@@ -44,7 +37,7 @@ add-line-spec =
     add-field-requires
     add-field-requires-2
     add-data-requires
-    slice-aggregate-add
+    (λ c. search needs)
     add-requires
-    same-length
+    (λ c. search needs)
     returns)

@@ -37,18 +37,6 @@ line-fits c =
 loop-holds : tie.Need-loop-holds Inv-loop μ-loop
 loop-holds c = let a = c .before .before .args in starts (now (a .replies)) (now (a .out))
 
-sub-whole-size : tie.Need-sub-whole-size Inv-loop μ-loop
-sub-whole-size c = search needs
-
-part-whole-size-start : tie.Need-part-whole-size-start Inv-loop μ-loop
-part-whole-size-start c = search needs
-
-part-whole-size-end : tie.Need-part-whole-size-end Inv-loop μ-loop
-part-whole-size-end c = search needs
-
-whole-size-requires : tie.Need-whole-size-requires Inv-loop μ-loop
-whole-size-requires c κs = search needs
-
 same-length : tie.Need-same-length Inv-loop μ-loop
 same-length c = c .before .before .before .before .loop .inv .same
 
@@ -61,15 +49,6 @@ returns c =
       omega (arith, l .inv .room, l .inv .at-most),
     )
 
-sub-add-reply : tie.Need-sub-add-reply Inv-loop μ-loop
-sub-add-reply c = search needs
-
-part-add-reply-start : tie.Need-part-add-reply-start Inv-loop μ-loop
-part-add-reply-start c = search needs
-
-part-add-reply-end : tie.Need-part-add-reply-end Inv-loop μ-loop
-part-add-reply-end c = search needs
-
 add-reply-requires : tie.Need-add-reply-requires Inv-loop μ-loop
 add-reply-requires c κs =
     let e = c .before .before in
@@ -78,9 +57,6 @@ add-reply-requires c κs =
     let f = sized (drop (l .at) replies) (e .before .whole-size .result) (size-is (e .before)) (e .if1 .left) .1 in
     let d = length-drop (l .at) replies in
     rw (all-rest replies (l .at)) (f, omega (arith, line-fits e, f .within))
-
-add-number : tie.Need-add-number Inv-loop μ-loop
-add-number c = search needs
 
 add-at : tie.Need-add-at Inv-loop μ-loop
 add-at c =
@@ -122,17 +98,17 @@ add-lines-spec =
     Inv-loop
     μ-loop
     loop-holds
-    sub-whole-size
-    part-whole-size-start
-    part-whole-size-end
-    whole-size-requires
+    (λ c. search needs)
+    (λ c. search needs)
+    (λ c. search needs)
+    (λ c κs. search needs)
     same-length
     returns
-    sub-add-reply
-    part-add-reply-start
-    part-add-reply-end
+    (λ c. search needs)
+    (λ c. search needs)
+    (λ c. search needs)
     add-reply-requires
-    add-number
+    (λ c. search needs)
     add-at
     loop-less
     loop-again

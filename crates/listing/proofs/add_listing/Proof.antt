@@ -7,19 +7,13 @@ use borrow.Author.Needs.{needs}
 use Rattle.listing.proofs.add_listing.Statement.{statement}
 use Rattle.listing.proofs.add_listing.Tie as tie
 
-add-lines-requires : tie.Need-add-lines-requires
-add-lines-requires c κs = search needs
-
 add-end-requires : tie.Need-add-end-requires
 add-end-requires c κs =
     let a = c .before .before .before .before .before .before .before .args in
     omega (arith, end-length (a .refusal) (a .taken), at-most 20 (a .refusal), at-most 20 (a .taken))
 
-same-length : tie.Need-same-length
-same-length c = search needs
-
 returns : tie.Need-returns
 returns c = both (c .before .before .before .before .before .before .add-lines .ensures .0) (c .before .before .add-end .ensures)
 
 pub add-listing-spec : {M : Type 1} → statement M
-add-listing-spec = tie.close (tie.spec add-lines-requires add-end-requires same-length returns)
+add-listing-spec = tie.close (tie.spec (λ c κs. search needs) add-end-requires (λ c. search needs) returns)

@@ -1,7 +1,7 @@
 -- `listing::whole_size` makes the tests of a whole reply in their order. Assumes nothing.
 use mathlib.Core.Path.{sym, ap, _∙_}
 use mathlib.Core.Bool.{Bool, cond}
-use Prim.Native.Nat.{ℕ, _+_, _-_}
+use Prim.Native.Nat.{ℕ, _+_}
 use native.Mathlib.Omega.{arith}
 use borrow.Author.Needs.{needs}
 use denote.Ref.{now}
@@ -13,32 +13,11 @@ use Rattle.listing.proofs.whole_size.Tie as tie
 returns : tie.Need-returns
 returns c = too-short (now (c .before .before .args .rest)) (omega arith)
 
-shared-slice-read-word : tie.Need-shared-slice-read-word
-shared-slice-read-word c = search needs
-
-shared-slice-read-word-2 : tie.Need-shared-slice-read-word-2
-shared-slice-read-word-2 c = search needs
-
-word-requires : tie.Need-word-requires
-word-requires c κs = search needs
-
-add-size : tie.Need-add-size
-add-size c = search needs
-
 returns-2 : tie.Need-returns-2
 returns-2 c = low-length (now (c .before .before .before .before .before .before .args .rest)) (omega arith) (omega arith)
 
 returns-3 : tie.Need-returns-3
 returns-3 c = cut-off (now (c .before .before .before .before .before .before .before .args .rest)) (omega arith) (omega arith) (omega arith)
-
-shared-slice-read-word-3 : tie.Need-shared-slice-read-word-3
-shared-slice-read-word-3 c = search needs
-
-shared-slice-read-word-4 : tie.Need-shared-slice-read-word-4
-shared-slice-read-word-4 c = search needs
-
-word-requires-2 : tie.Need-word-requires-2
-word-requires-2 c κs = search needs
 
 returns-4 : tie.Need-returns-4
 returns-4 c = low-kind (now (c .before .before .before .before .before .before .before .before .before .before .before .args .rest)) (omega arith) (omega arith) (omega arith) (omega arith)
@@ -54,14 +33,14 @@ whole-size-spec =
     tie.close
     (tie.spec
     returns
-    shared-slice-read-word
-    shared-slice-read-word-2
-    word-requires
-    add-size
+    (λ c. search needs)
+    (λ c. search needs)
+    (λ c κs. search needs)
+    (λ c. search needs)
     returns-2
     returns-3
-    shared-slice-read-word-3
-    shared-slice-read-word-4
-    word-requires-2
+    (λ c. search needs)
+    (λ c. search needs)
+    (λ c κs. search needs)
     returns-4
     returns-5)

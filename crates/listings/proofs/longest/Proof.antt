@@ -17,35 +17,8 @@ abbrev μ-loop : tie.MeasureT-loop
 loop-holds : tie.Need-loop-holds Inv-loop μ-loop
 loop-holds c = refl
 
-array-write-file : tie.Need-array-write-file Inv-loop μ-loop
-array-write-file c = search needs
-
-add-file : tie.Need-add-file Inv-loop μ-loop
-add-file c = search needs
-
-array-write-file-2 : tie.Need-array-write-file-2 Inv-loop μ-loop
-array-write-file-2 c = search needs
-
-add-at : tie.Need-add-at Inv-loop μ-loop
-add-at c = search needs
-
-loop-less : tie.Need-loop-less Inv-loop μ-loop
-loop-less c = search needs
-
 loop-again : tie.Need-loop-again Inv-loop μ-loop
 loop-again c = simp length-set (c .before .loop .inv)
-
-array-write-file-3 : tie.Need-array-write-file-3 Inv-loop μ-loop
-array-write-file-3 c = search needs
-
-array-write-file-4 : tie.Need-array-write-file-4 Inv-loop μ-loop
-array-write-file-4 c = search needs
-
-array-write-file-5 : tie.Need-array-write-file-5 Inv-loop μ-loop
-array-write-file-5 c = search needs
-
-array-write-file-6 : tie.Need-array-write-file-6 Inv-loop μ-loop
-array-write-file-6 c = search needs
 
 returns : tie.Need-returns Inv-loop μ-loop
 returns c =
@@ -60,14 +33,14 @@ longest-spec =
     Inv-loop
     μ-loop
     loop-holds
-    array-write-file
-    add-file
-    array-write-file-2
-    add-at
-    loop-less
+    (λ c. search needs)
+    (λ c. search needs)
+    (λ c. search needs)
+    (λ c. search needs)
+    (λ c. search needs)
     loop-again
-    array-write-file-3
-    array-write-file-4
-    array-write-file-5
-    array-write-file-6
+    (λ c. search needs)
+    (λ c. search needs)
+    (λ c. search needs)
+    (λ c. search needs)
     returns)

@@ -6,21 +6,6 @@ use borrow.Author.Needs.{needs}
 use Rattle.printout.proofs.print.Statement.{statement}
 use Rattle.printout.proofs.print.Tie as tie
 
-slice-aggregate-pundaliket-run : tie.Need-slice-aggregate-pundaliket-run
-slice-aggregate-pundaliket-run c = search needs
-
-slice-aggregate-pundaliket-run-2 : tie.Need-slice-aggregate-pundaliket-run-2
-slice-aggregate-pundaliket-run-2 c = search needs
-
-slice-aggregate-pundaliket-run-3 : tie.Need-slice-aggregate-pundaliket-run-3
-slice-aggregate-pundaliket-run-3 c = search needs
-
-pundaliket-run-requires : tie.Need-pundaliket-run-requires
-pundaliket-run-requires c κs = search needs
-
-list-requires : tie.Need-list-requires
-list-requires c κs = search needs
-
 returns : tie.Need-returns
 returns c =
     let r = c .before .before .before .before .before .before .before .pundaliket-run .ensures in
@@ -30,9 +15,9 @@ pub print-spec : {M : Type 1} → statement M
 print-spec =
     tie.close
     (tie.spec
-    slice-aggregate-pundaliket-run
-    slice-aggregate-pundaliket-run-2
-    slice-aggregate-pundaliket-run-3
-    pundaliket-run-requires
-    list-requires
+    (λ c. search needs)
+    (λ c. search needs)
+    (λ c. search needs)
+    (λ c κs. search needs)
+    (λ c κs. search needs)
     returns)

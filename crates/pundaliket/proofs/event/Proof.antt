@@ -9,7 +9,7 @@ use denote.Ref.{now}
 use Rattle.chip.specs.declared.State.{State}
 use Rattle.chip.specs.Step.{eventOf}
 use Rattle.chip.specs.Place.{held, answerBy}
-use Rattle.stored.specs.Bytes.{bytesOf}
+use Rattle.stored.specs.Bytes.{stateBytesOf}
 use Rattle.stored.proofs.States.{state-length, state-ready}
 use Rattle.pundaliket.proofs.Calling.{no-event, an-event}
 use borrow.Author.Needs.{needs}
@@ -63,7 +63,7 @@ returns-2 c =
     let x = v .last .0 in
     let n : length x ≡ 16 = omega (arith, c .before .before .before .before .before .before .before .before .state .given, length-take-le 16 l (omega (arith, state-length l (c .before .before .before .before .before .before .before .before .before .before .before .before .before .before .pre)))) in
     an-event l (c .before .before .before .before .before .before .before .before .before .before .before .before .before .before .args .e) (answerBy (v .result) x) (v .ensures ∙ ap (λ (s : State). eventOf s (c .before .before .before .before .before .before .before .before .before .before .before .before .before .before .args .e)) (c .before .before .before .before .before .before .before .before .before .before .before .flags .ensures)) (c .before .before .before .before .before .before .number .ensures .0) (c .joined2 .ensures) (c .before .before .before .put-flags .last .0) (c .before .before .before .before .before .if1 .left)
-    (c .before .before .before .put-flags .ensures ∙ ap (λ (k : List ℕ). bytesOf (held k (v .result .pending) (v .result .status) (v .result .service))) (take-at x (drop 16 l) 16 n))
+    (c .before .before .before .put-flags .ensures ∙ ap (λ (k : List ℕ). stateBytesOf (held k (v .result .pending) (v .result .status) (v .result .service))) (take-at x (drop 16 l) 16 n))
 
 pub event-spec : {M : Type 1} → statement M
 event-spec =

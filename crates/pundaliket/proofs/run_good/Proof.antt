@@ -7,7 +7,7 @@ use lib.ListN.{length, drop}
 use lib.Seq.{length-take-le, take-at}
 use denote.Ref.{now}
 use Rattle.chip.specs.Place.{held}
-use Rattle.stored.specs.Bytes.{bytesOf}
+use Rattle.stored.specs.Bytes.{stateBytesOf}
 use Rattle.pundaliket.proofs.Calling.{called}
 use borrow.Author.Needs.{needs}
 use Rattle.pundaliket.proofs.run_good.Statement.{statement}
@@ -26,7 +26,7 @@ returns c =
     let x = k .last .0 in
     let n : length x ≡ 16 = omega (arith, c .before .before .before .before .before .before .before .before .before .before .before .before .state .given, length-take-le 16 l (omega (arith, c .before .before .before .before .before .before .before .before .before .before .before .before .before .before .before .before .before .before .before .before .before .before .pre .0))) in
     called _ _ _ _ _ _ _ _ _ _ (rw (c .before .before .before .before .before .before .before .before .before .before .before .before .before .before .before .before .flags .ensures) at (k .ensures))
-    (c .before .before .before .before .before .before .before .put-flags .ensures ∙ ap (λ (m : List ℕ). bytesOf (held m (k .result .pending) (k .result .status) (k .result .service))) (take-at x (drop 16 l) 16 n))
+    (c .before .before .before .before .before .before .before .put-flags .ensures ∙ ap (λ (m : List ℕ). stateBytesOf (held m (k .result .pending) (k .result .status) (k .result .service))) (take-at x (drop 16 l) 16 n))
     (c .before .before .before .fill-report .ensures)
 
 pub run-good-spec : {M : Type 1} → statement M

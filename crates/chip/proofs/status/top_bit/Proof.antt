@@ -1,5 +1,4 @@
 -- `chip::status::top_bit` meets its contract: at either width the bound is half of the number of words. Assumes nothing.
-use mathlib.Core.Path.{refl}
 use borrow.Author.Needs.{needs}
 use Rattle.chip.proofs.status.top_bit.Statement.{statement}
 use Rattle.chip.proofs.status.top_bit.Tie as tie

@@ -1,4 +1,4 @@
--- `fixed::parts::either_least` meets its contract. Assumes nothing.
+-- `fixed::parts::either_least` meets its contract: by the test of B, and where it fails by that of A. Assumes nothing.
 use borrow.Author.Tests.{eq-eqb, ne-eqb}
 use Rattle.fixed.proofs.parts.either_least.Statement.{statement}
 use Rattle.fixed.proofs.parts.either_least.Tie as tie

@@ -1,4 +1,4 @@
--- `fixed::parts::exceeds` meets its contract. Assumes nothing.
+-- `fixed::parts::exceeds` meets its contract: below zero the range ends at h, else just before it. Assumes nothing.
 use Rattle.fixed.proofs.LowBits.{exceeds-neg, exceeds-pos}
 use Rattle.fixed.proofs.parts.exceeds.Statement.{statement}
 use Rattle.fixed.proofs.parts.exceeds.Tie as tie

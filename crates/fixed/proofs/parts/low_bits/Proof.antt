@@ -1,4 +1,4 @@
--- `fixed::parts::low_bits` meets its contract. Assumes nothing.
+-- `fixed::parts::low_bits` meets its contract: m modulo 2h, or what that lacks to 2h, none where nothing is left. Assumes nothing.
 use native.Mathlib.Omega.{arith}
 use native.Mathlib.Nat.{lt-of-lt-of-le}
 use Rattle.fixed.proofs.LowBits.{rest, low-none, low-pos, low-neg}

@@ -1,4 +1,4 @@
--- `fixed::parts::magnitude` meets its contract. Assumes nothing.
+-- `fixed::parts::magnitude` meets its contract: a word with its top bit set is 2h less its magnitude. Assumes nothing.
 use mathlib.Core.Path.{sym, _∙_}
 use Rattle.fixed.proofs.Products.{abs-neg, abs-pos}
 use borrow.Author.Needs.{needs}

@@ -1,4 +1,4 @@
--- `fixed::parts::unlike_signs` meets its contract. Assumes nothing.
+-- `fixed::parts::unlike_signs` meets its contract: the two signs are read, and compared. Assumes nothing.
 use mathlib.Core.Path.{ap₂}
 use lib.Ieee.{unlike}
 use borrow.Author.Needs.{needs}

@@ -1,4 +1,4 @@
--- `fixed::parts::upper_bits` meets its contract. Assumes nothing.
+-- `fixed::parts::upper_bits` meets its contract: -m over 2h, rounded down, is one less than (m - 1) / 2h with the sign turned. Assumes nothing.
 use native.Mathlib.Omega.{arith}
 use native.Mathlib.Nat.{lt-of-lt-of-le, lt-of-le-of-lt, sub-le}
 use Prim.Native.Nat.{_-_}

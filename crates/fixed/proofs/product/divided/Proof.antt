@@ -1,4 +1,4 @@
--- `fixed::product::divided` meets its contract. Assumes nothing.
+-- `fixed::product::divided` meets its contract: the row of a zero, the row of a least operand, else the quotient of the magnitudes with its sign. Assumes nothing.
 use Rattle.fixed.proofs.Products.{div-none, div-least, div-all, abs-some}
 use mathlib.Core.Path.{_∙_}
 use borrow.Author.Needs.{needs}

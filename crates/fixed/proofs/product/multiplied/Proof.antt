@@ -1,4 +1,4 @@
--- `fixed::product::multiplied` meets its contract. Assumes nothing.
+-- `fixed::product::multiplied` meets its contract: the row of a least operand, else the low bits of the product of the magnitudes with its sign. Assumes nothing.
 use Rattle.fixed.proofs.Products.{mul-least, mul-all, product-fits}
 use mathlib.Core.Path.{_∙_}
 use borrow.Author.Needs.{needs}

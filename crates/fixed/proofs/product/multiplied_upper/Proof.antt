@@ -1,4 +1,4 @@
--- `fixed::product::multiplied_upper` meets its contract. Assumes nothing.
+-- `fixed::product::multiplied_upper` meets its contract: the row of a least operand, else the upper bits of the product of the magnitudes with its sign. Assumes nothing.
 use Rattle.fixed.proofs.Products.{muu-least, muu-all, product-fits, product-few}
 use mathlib.Core.Path.{_∙_}
 use borrow.Author.Needs.{needs}

@@ -1,4 +1,4 @@
--- `fixed::product::negated` meets its contract. Assumes nothing.
+-- `fixed::product::negated` meets its contract: the magnitude with its sign turned, of which the least word keeps its own. Assumes nothing.
 use Rattle.fixed.proofs.Products.{chs-all}
 use borrow.Author.Needs.{needs}
 use Rattle.fixed.proofs.product.negated.Statement.{statement}

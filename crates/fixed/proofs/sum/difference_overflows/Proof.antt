@@ -1,4 +1,4 @@
--- `fixed::sum::difference_overflows` meets its contract. Assumes nothing.
+-- `fixed::sum::difference_overflows` meets its contract: A least by its own rule, else by cases of the signs: of unlike ones the wrapped result has the wrong sign exactly where the exact one does not fit. Assumes nothing.
 use Rattle.fixed.proofs.Sums.{diff-least, diff-pp, diff-pn, diff-np, diff-nn}
 use Rattle.fixed.proofs.sum.difference_overflows.Statement.{statement}
 use Rattle.fixed.proofs.sum.difference_overflows.Tie as tie

@@ -1,4 +1,4 @@
--- `fixed::sum::subtracted` meets its contract. Assumes nothing.
+-- `fixed::sum::subtracted` meets its contract: the wrapped difference is the low bits of the exact one, and B below A is the borrow. Assumes nothing.
 use borrow.Author.Needs.{needs}
 use Rattle.fixed.proofs.Sums.{diff-all}
 use Rattle.fixed.proofs.sum.subtracted.Statement.{statement}

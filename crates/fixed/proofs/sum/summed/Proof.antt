@@ -1,4 +1,4 @@
--- `fixed::sum::summed` meets its contract. Assumes nothing.
+-- `fixed::sum::summed` meets its contract: the wrapped sum is the low bits of the exact one, and it is below B exactly where there is a carry. Assumes nothing.
 use borrow.Author.Needs.{needs}
 use Rattle.fixed.proofs.Sums.{sum-all}
 use Rattle.fixed.proofs.sum.summed.Statement.{statement}

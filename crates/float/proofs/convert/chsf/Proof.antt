@@ -1,4 +1,4 @@
--- `float::convert::chsf` meets its contract. Assumes nothing.
+-- `float::convert::chsf` meets its contract: its tests of bit 23 and of the sign are the definition's. Assumes nothing.
 use Prim.Native.Nat.{_%_}
 use borrow.Author.Tests.{le-leb, lt-leb}
 use Rattle.float.specs.Convert.{chsf}

@@ -1,4 +1,4 @@
--- `float::convert::fix_below` meets its contract. Assumes nothing.
+-- `float::convert::fix_below` meets its contract: the whole part is over the limit, or it is laid out in two's complement by its sign. Assumes nothing.
 use mathlib.Core.Path.{sym, _∙_}
 use mathlib.Core.Bool.{true, false}
 use Prim.Native.Nat.{ℕ, _-_, _*_, _<_}

@@ -1,5 +1,5 @@
 -- `stack::layout::narrow` meets its contract: eight bytes moved up, R over them and zeros at the bottom. Assumes nothing.
-use mathlib.Core.Path.{_≡_, ap, _∙_}
+use mathlib.Core.Path.{ap, _∙_}
 use Prim.Native.Nat.{ℕ}
 use mathlib.Core.List.{List}
 use lib.ListN.{drop}

@@ -1,21 +1,15 @@
 -- `stack::layout::over_a` meets its contract: R over the stack turned by the width leaves A at the bottom. Assumes nothing.
-use mathlib.Core.Path.{_≡_, ap, _∙_}
-use Prim.Native.Nat.{ℕ, _+_, _≤_}
+use mathlib.Core.Path.{ap, _∙_}
+use Prim.Native.Nat.{ℕ}
 use mathlib.Core.List.{List}
-use lib.Dec.{lit≤}
 use denote.Ref.{now}
-use Rattle.terms.specs.declared.Width.{Width}
-use Rattle.terms.specs.declared.Width.the-variants.{Single, Double}
 use Rattle.terms.specs.Width.{sizeOf}
 use Rattle.stack.specs.Stack.{replaced}
 use Rattle.stack.proofs.Blocks.{add-law}
+use Rattle.stack.proofs.Layouts.{two-fit}
 use borrow.Author.Needs.{needs}
 use Rattle.stack.proofs.layout.over_a.Statement.{statement}
 use Rattle.stack.proofs.layout.over_a.Tie as tie
-
-two-fit : (w : Width) → sizeOf w + sizeOf w ≤ 16
-two-fit Single = lit≤ tt
-two-fit Double = lit≤ tt
 
 returns : tie.Need-returns
 returns c =

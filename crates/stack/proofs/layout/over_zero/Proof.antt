@@ -1,5 +1,5 @@
 -- `stack::layout::over_zero` meets its contract: zeros laid over the A that ADD leaves at the bottom. Assumes nothing.
-use mathlib.Core.Path.{_≡_, ap, _∙_}
+use mathlib.Core.Path.{ap, _∙_}
 use Prim.Native.Nat.{ℕ}
 use mathlib.Core.List.{List}
 use lib.Seq.{paste}

@@ -1,5 +1,5 @@
 -- `stack::layout::push_word` meets its contract: the word's bytes over the stack sunk by four. Assumes nothing.
-use mathlib.Core.Path.{_≡_, ap, _∙_}
+use mathlib.Core.Path.{ap, _∙_}
 use Prim.Native.Nat.{ℕ}
 use mathlib.Core.List.{List}
 use lib.Seq.{paste}

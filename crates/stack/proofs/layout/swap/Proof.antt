@@ -1,5 +1,5 @@
 -- `stack::layout::swap` meets its contract: two blocks copied are the first two words exchanged. Assumes nothing.
-use mathlib.Core.Path.{_≡_, ap, _∙_}
+use mathlib.Core.Path.{ap, _∙_}
 use Prim.Native.Nat.{ℕ}
 use mathlib.Core.List.{List}
 use lib.ListN.{drop}

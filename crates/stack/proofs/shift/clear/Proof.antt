@@ -1,5 +1,5 @@
 -- `stack::shift::clear` meets its contract: 16 zeros copied over a stack. Assumes nothing.
-use mathlib.Core.Path.{_≡_, refl, _∙_}
+use mathlib.Core.Path.{refl, _∙_}
 use denote.Ref.{now}
 use Rattle.stack.specs.Stack.{zeros}
 use Rattle.stack.proofs.Blocks.{saved-law}

@@ -1,5 +1,4 @@
 -- `stack::shift::pop_all` meets its contract: fours and ones in turn pop every byte. Assumes nothing.
-use mathlib.Core.Path.{_≡_, sym, ap, _∙_}
 use denote.Ref.{now}
 use Rattle.stack.proofs.Several.{pop-twice}
 use borrow.Author.Needs.{needs}

@@ -1,5 +1,5 @@
 -- `stack::shift::pop_some` meets its contract: the top bytes copied out, and moved to the bottom. Assumes nothing.
-use mathlib.Core.Path.{_≡_, _∙_}
+use mathlib.Core.Path.{_∙_}
 use denote.Ref.{now}
 use Rattle.stack.proofs.Several.{pops-block, pops-laid}
 use borrow.Author.Needs.{needs}

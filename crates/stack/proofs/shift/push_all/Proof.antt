@@ -1,5 +1,5 @@
 -- `stack::shift::push_all` meets its contract: eights, fours and ones in turn push every byte. Assumes nothing.
-use mathlib.Core.Path.{_≡_, sym, _∙_}
+use mathlib.Core.Path.{sym, _∙_}
 use Prim.Native.Nat.{_≤_}
 use native.Mathlib.Omega.{arith}
 use lib.ListN.{length}

@@ -1,5 +1,5 @@
 -- `stack::shift::push_some` meets its contract: after i turns the first i bytes lie above the sunk stack, the last of them uppermost. Assumes nothing.
-use mathlib.Core.Path.{_≡_, refl, sym, ap, _∙_}
+use mathlib.Core.Path.{_≡_, sym, ap, _∙_}
 use mathlib.Core.List.{List}
 use Prim.Native.Nat.{ℕ, _+_, _-_, _≤_, _<_}
 use native.Mathlib.Omega.{arith}

@@ -1,5 +1,5 @@
 -- `stack::shift::sink` meets its contract: one block copied down is the stack below a copy of its top. Assumes nothing.
-use mathlib.Core.Path.{_≡_, ap, _∙_}
+use mathlib.Core.Path.{ap, _∙_}
 use Prim.Native.Nat.{ℕ, _-_}
 use mathlib.Core.List.{List}
 use lib.ListN.{drop}

@@ -1,5 +1,5 @@
 -- `stack::shift::turn` meets its contract: two blocks copied are the stack turned by n bytes. Assumes nothing.
-use mathlib.Core.Path.{_≡_, ap, _∙_}
+use mathlib.Core.Path.{ap, _∙_}
 use Prim.Native.Nat.{ℕ, _-_}
 use mathlib.Core.List.{List}
 use lib.ListN.{drop}

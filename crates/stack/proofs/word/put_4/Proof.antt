@@ -1,9 +1,9 @@
 -- `stack::word::put_4` meets its contract: four bytes stored are the word's bytes. Assumes nothing.
-use mathlib.Core.Path.{_≡_, _∙_, ap}
-use Prim.Native.Nat.{ℕ, suc, _+_, _/_, _%_}
-use mathlib.Core.List.{List, [], _∷_}
+use mathlib.Core.Path.{_≡_}
+use Prim.Native.Nat.{suc, _+_, _/_, _%_}
+use mathlib.Core.List.{[], _∷_}
 use native.Mathlib.Omega.{arith}
-use lib.ListN.{length-set, set}
+use lib.ListN.{length-set}
 use lib.Seq.{sets-eq}
 use denote.Ref.{now}
 use borrow.Author.Needs.{needs}

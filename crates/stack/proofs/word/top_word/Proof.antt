@@ -1,5 +1,4 @@
 -- `stack::word::top_word` meets its contract: the bytes read are the first word of the stack, in either width. Assumes nothing.
-use mathlib.Core.Path.{_≡_}
 use native.Mathlib.Omega.{arith}
 use denote.Ref.{now}
 use Rattle.stack.proofs.Elems.{part}

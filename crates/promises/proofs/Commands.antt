@@ -35,6 +35,7 @@ use Rattle.float.proofs.Steps.{div-by-zero}
 use Rattle.float.proofs.Conversions.{fltd-no-error, flts-no-error}
 use Rattle.float.proofs.Fix.{fix-over, fix-within}
 use Rattle.stack.specs.Stack.{bytesOf, zeros, tos, nos, overA, overZero}
+use Rattle.stack.proofs.Words.{tos-over}
 use Rattle.codes.specs.declared.Command.{Command}
 use Rattle.codes.specs.declared.Command.the-variants.{Nop, Add, Sub, Mul, Muu, Div, Chs, Float, Chsf, Flt, Fix, Pto, Pop, Xch, Pupi}
 use Rattle.codes.specs.declared.FloatOp.{FloatOp}
@@ -43,13 +44,13 @@ use Rattle.chip.specs.Status.{statusOf}
 use Rattle.chip.specs.Commands.{baseRule, piOf, wordA, wordB, ends, moves, keepsA, losesA, changesA, floats, converts, widens, narrows, floatOf, outcomeOf, properOperands}
 use Rattle.chip.specs.Step.{done, carried, commandUnder}
 use Rattle.codes.specs.declared.Kind.the-variants.{Known}
-use Rattle.codes.specs.Codes.{kindOf}
+use Rattle.codes.specs.Codes.{decoded}
 use Rattle.promises.specs.Commands.{piWord, least, words, word, statusBy, holding, Leaves, Refuses, Two, FixedRows, WholeNumbers, MoveRows, FloatRows, ConversionRows, Rows, Commands}
 
 -- ---- the words of a stack are read back
 pub top-is : (w : Width) (a : ℕ) (t : List ℕ) → a < words w → tos (sizeOf w) (word w a t) ≡ a
-top-is Single a t h = let l : a < 65536 = h in omega arith
-top-is Double a t h = let l : a < 4294967296 = h in omega arith
+top-is Single a t h = tos-over 2 a t h
+top-is Double a t h = tos-over 4 a t h
 
 pub next-is : (w : Width) (b a : ℕ) (t : List ℕ) → b < words w → nos (sizeOf w) (word w a (word w b t)) ≡ b
 next-is Single b a t h = let l : b < 65536 = h in omega arith
@@ -403,7 +404,7 @@ module _ (rule : Rule) where
     fix-improper = λ w a A p bs. refusing rule (Fix w) (word Double a bs) (one-operand w a bs A ∙ p);
   }
 
-  nop : (stack : List ℕ) (code status : ℕ) (service : Bool) → kindOf (code % 128) ≡ Known Nop → status < 128
+  nop : (stack : List ℕ) (code status : ℕ) (service : Bool) → decoded (code % 128) ≡ Known Nop → status < 128
       → commandUnder rule (holding stack status service) code ≡ done 0 (holding stack 0 (leb 128 code))
   unfolding commandUnder carried
   nop stack code status service is ready = rw (lt-leb 128 status ready, is)

@@ -13,12 +13,12 @@ use Rattle.stack.specs.Stack.{zeros}
 use Rattle.chip.specs.declared.State.{State}
 use Rattle.chip.specs.Step.{done, pushOf, popOf, readOf, resetOf, acknowledgeOf}
 use Rattle.host.specs.declared.Reply.{Reply}
-use Rattle.stored.specs.Bytes.{isState, stateOf, flagOf, bytesOf}
-use Rattle.pundaliket.specs.Calls.{signalOf, eventOf, sentOf}
+use Rattle.stored.specs.Bytes.{isState, stateOf, flagOf, stateBytesOf}
+use Rattle.pundaliket.specs.Calls.{signalOf, answerToKind, sentOf}
 use Rattle.promises.specs.Host.{number, outward, inward}
 use Rattle.promises.specs.SmallCalls.{signalled, Parts, EventCall, Converts, ConversionCalls}
-use Rattle.promises.proofs.Fronted.{none}
-use Rattle.promises.proofs.Keeping.{good-states, flag-back}
+use Rattle.promises.proofs.Fronts.{none}
+use Rattle.promises.proofs.Kept.{good-states, flag-back}
 
 -- ---- turned away
 bad-state : (state : List ℕ) (kind byte : ℕ) → isState state ≡ false → signalOf state kind byte ≡ signalled 3328 state
@@ -77,9 +77,9 @@ module _ (l : List ℕ) (p u v : ℕ) (P : Parts l p u v) where
   }
 
   -- an event that is done
-  signals : (kind byte b : ℕ) (s : State) → eventOf (stood l p u v) kind byte ≡ done b s → signalOf (laid l p u v) kind byte ≡ signalled b (bytesOf s)
+  signals : (kind byte b : ℕ) (s : State) → answerToKind (stood l p u v) kind byte ≡ done b s → signalOf (laid l p u v) kind byte ≡ signalled b (stateBytesOf s)
   unfolding signalOf
-  signals kind byte b s e = rw (stands, reads, e) (ap (λ (n : ℕ). signalled n (bytesOf s)) (omega arith))
+  signals kind byte b s e = rw (stands, reads, e) (ap (λ (n : ℕ). signalled n (stateBytesOf s)) (omega arith))
 
   ready : leb 128 u ≡ false
   ready = lt-leb 128 u (P .ready)

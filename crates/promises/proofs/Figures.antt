@@ -11,11 +11,11 @@ use Rattle.whole.specs.Signed.{withSign}
 use Rattle.whole.proofs.Differences.{either}
 use Rattle.float.specs.Word.{negative, biased, mantissa, proper, size88, value}
 use Rattle.stack.specs.Stack.{bytesOf, lowFirst}
-use Rattle.codes.specs.Codes.{kindOf}
+use Rattle.codes.specs.Codes.{decoded}
 use Rattle.promises.specs.Figures.{chart, from, wordWith, Figures}
 
-codes : map kindOf (from 128 0) ≡ chart
-unfolding kindOf
+codes : map decoded (from 128 0) ≡ chart
+unfolding decoded
 codes = refl
 
 -- ---- bytes

@@ -17,15 +17,16 @@ use Rattle.stack.specs.Stack.{numberFrom, bytesOf, Bytes, pushed, popped}
 use Rattle.stack.proofs.Words.{bytes-take, bytes-drop, number-below}
 use Rattle.codes.specs.declared.Command.{Command}
 use Rattle.codes.specs.declared.Kind.the-variants.{Known}
-use Rattle.codes.specs.Codes.{kindOf}
+use Rattle.codes.specs.Codes.{decoded}
 use Rattle.chip.specs.declared.State.{State}
 use Rattle.chip.specs.declared.Answer.{Answer}
+use Rattle.chip.specs.declared.Event.{Event}
 use Rattle.chip.specs.State.{busy, moved}
 use Rattle.chip.specs.Commands.{baseRule}
 use Rattle.chip.specs.Step.{refused, carried, commandUnder}
+use Rattle.chip.specs.Events.{afterEvents}
 use Rattle.chip.proofs.Accepted.{accepted}
-use Rattle.chip.proofs.Turns.{push-done, pop-done, word-pushed, word-popped, result-popped}
-use Rattle.promises.specs.Events.{Event, after}
+use Rattle.chip.proofs.InTurn.{push-done, pop-done, word-pushed, word-popped, result-popped}
 use Rattle.promises.specs.WholeWords.{Moves, none, pushing, popping, odd, Whole, WholeWords, wordsOf, EachBelow, StackOfWords}
 
 -- one turn more
@@ -36,18 +37,18 @@ once false q = refl
 
 module _ (rule : Rule) where
   -- each byte pushed or popped turns pending
-  turns : {es : List Event} {n : ℕ} (m : Moves es n) (s : State) → s .status < 128 → (after rule s es) .pending ≡ cond (odd n) (not (s .pending)) (s .pending)
+  turns : {es : List Event} {n : ℕ} (m : Moves es n) (s : State) → s .status < 128 → (afterEvents rule s es) .pending ≡ cond (odd n) (not (s .pending)) (s .pending)
   turns none s h = refl
   turns (pushing {es = es} {n = n} b m) s h =
-      ap (λ (a : Answer). (after rule (a .state) es) .pending) (push-done s b h) ∙ turns m (moved s (pushed (s .stack) b)) h ∙ once (odd n) (s .pending)
+      ap (λ (a : Answer). (afterEvents rule (a .state) es) .pending) (push-done s b h) ∙ turns m (moved s (pushed (s .stack) b)) h ∙ once (odd n) (s .pending)
   turns (popping {es = es} {n = n} m) s h =
-      ap (λ (a : Answer). (after rule (a .state) es) .pending) (pop-done s h) ∙ turns m (moved s (popped (s .stack))) h ∙ once (odd n) (s .pending)
+      ap (λ (a : Answer). (afterEvents rule (a .state) es) .pending) (pop-done s h) ∙ turns m (moved s (popped (s .stack))) h ∙ once (odd n) (s .pending)
 
   plain : (o p : Bool) → p ≡ false → cond o (not p) p ≡ o
   plain true p e = ap not e
   plain false p e = e
 
-  refuses : (s : State) (code : ℕ) (k : Command) → kindOf (code % 128) ≡ Known k → busy s ≡ false → s .pending ≡ true → commandUnder rule s code ≡ refused HalfWord s
+  refuses : (s : State) (code : ℕ) (k : Command) → decoded (code % 128) ≡ Known k → busy s ≡ false → s .pending ≡ true → commandUnder rule s code ≡ refused HalfWord s
   unfolding commandUnder carried
   refuses s code k e b p = rw (b, e, p)
 

@@ -3,7 +3,7 @@ use mathlib.Core.Path.{_≡_, refl, sym, ap, _∙_}
 use mathlib.Core.Logic.{_⊎_, inl, inr}
 use mathlib.Core.Bool.{Bool, true, false, _&&_}
 use mathlib.Core.List.{List, [], _∷_, _++_}
-use Prim.Native.Nat.{ℕ, _≤_, _<_}
+use Prim.Native.Nat.{ℕ, _<_}
 use native.Mathlib.Omega.{arith}
 use borrow.Author.Tests.{ltb-true}
 use lib.Dec.{ltb, lit<, lit≤}
@@ -12,6 +12,7 @@ use Rattle.little.specs.Little.{le4}
 use Rattle.float.specs.Convert.{chsf}
 use Rattle.stack.specs.Stack.{Bytes, zeros}
 use Rattle.chip.specs.Step.{pushOf, resetOf}
+use Rattle.chip.proofs.Rows.{both-of}
 use Rattle.host.specs.Host.{hostOf, takenOf}
 use Rattle.files.specs.Run.{run, runBy}
 use Rattle.records.specs.declared.head.Event.the-variants.{Push, Reset}
@@ -19,14 +20,13 @@ use Rattle.records.specs.Record.{headOf, turnOf}
 use Rattle.stored.specs.Bytes.{isState}
 use Rattle.pundaliket.specs.Calls.{callOf, signalOf, sentOf}
 use Rattle.pundaliket.proofs.Calling.{bad-state, too-long}
-use Rattle.promises.specs.Chains.{Change}
+use Rattle.promises.specs.Chains.{Change, runEvents}
 use Rattle.promises.specs.Records.{IsRecord, countAt}
-use Rattle.promises.specs.Cores.{Core, Meets, driven, Begins, runOf}
+use Rattle.promises.specs.Cores.{Core, Meets, driven, Begins}
 use Rattle.promises.specs.WrongCores.{No, RefusesEverything, never-run, never-event, never-float, never-word, SingleReply, same-run, same-event, same-float, same-word, SameReplies, DoesNothing, back-state, back-replies, back-report, back-event, back-float, back-word, FirstRecordOnly, first-state, first-replies, InventedCounts, wrong-taken, wrong-written, wrong-away, ZeroChains, fresh, nine, first, second, fresher, Tells, WrongCores}
-use Rattle.promises.proofs.Recorded.{counts-exact}
-use Rattle.promises.proofs.Hosted.{float-comes-back}
-use Rattle.promises.proofs.Events.{both}
-use Rattle.promises.proofs.Driven.{cores}
+use Rattle.promises.proofs.Records.{counts-exact}
+use Rattle.promises.proofs.Host.{float-comes-back}
+use Rattle.promises.proofs.Cores.{cores}
 
 -- ---- the inputs are bytes
 isBytes : List ℕ → Bool
@@ -36,7 +36,7 @@ isBytes (b ∷ l) = ltb b 256 && isBytes l
 bytes-in : (l : List ℕ) → isBytes l ≡ true → Bytes l
 unfolding isBytes
 bytes-in [] h = tt
-bytes-in (b ∷ l) h = let p = both (ltb b 256) (isBytes l) h in (ltb-true b 256 (p .0), bytes-in l (p .1))
+bytes-in (b ∷ l) h = let p = both-of (ltb b 256) (isBytes l) h in (ltb-true b 256 (p .0), bytes-in l (p .1))
 
 fresh-bytes : Bytes fresh
 fresh-bytes = bytes-in fresh (unfold isBytes in refl)
@@ -69,7 +69,7 @@ begins = record { bytes = fresh-bytes; good = refl; whole = refl; proper = recor
 
 module _ (c : Core) (M : Meets c) where
   -- the sign of 1 changed
-  chain-told : take 4 (driven c fresh (runOf 0x01800000 (λ (n : ℕ). false) (Change ∷ []))) ≡ 0x81 ∷ 0x80 ∷ 0 ∷ 0 ∷ []
+  chain-told : take 4 (driven c fresh (runEvents 0x01800000 (λ (n : ℕ). false) (Change ∷ []))) ≡ 0x81 ∷ 0x80 ∷ 0 ∷ 0 ∷ []
   unfolding chsf
   chain-told = cores c M .chain-bytes fresh 0x01800000 (λ (n : ℕ). false) (Change ∷ []) begins (tt, tt)
 
@@ -113,7 +113,7 @@ refuses-everything c M (never-event f) = let e = tells c M .event-0 in f fresh 5
 refuses-everything c M (never-float f) = f 0 (zeros 4) (lit< tt) four-bytes (tells c M .float-0)
 refuses-everything c M (never-word f) = f 0 (zeros 4) (lit< tt) four-bytes (tells c M .word-0)
 
--- two numbers that are both n are the same
+-- two numbers that are both-of n are the same
 alike : (n x y : ℕ) {a b : ℕ} → a ≡ n → b ≡ n → a ≡ x → b ≡ y → x ≡ y
 alike n x y p q r s = sym r ∙ p ∙ sym q ∙ s
 
@@ -165,7 +165,7 @@ first-record-only c M (first-state f) =
 first-record-only c M (first-replies f) =
     apart 3 0 5 (sym (tells c M .two-replies) ∙ f fresh first second (zeros 10) nine one-record fresh-bytes first-bytes second-bytes ten-bytes nine-bytes ∙ tells c M .one-replies) refl refl (λ e. omega (arith, e))
 
--- both counts are 0 where a call is turned away
+-- both-of counts are 0 where a call is turned away
 none-counted : (state input replies report : List ℕ) → length report ≡ 9 → (isState state ≡ false) ⊎ (12288 < length input)
     → (countAt ((callOf state input replies report) .report) 1 ≡ 0) × (countAt ((callOf state input replies report) .report) 5 ≡ 0)
 none-counted state input replies report n (inl b) = rw (bad-state state input replies report n b) (refl, refl)

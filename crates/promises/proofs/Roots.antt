@@ -6,7 +6,7 @@ use Prim.Native.Nat.{ℕ, _*_, _^_, _≤_, _<_}
 use native.Mathlib.Omega.{arith}
 use borrow.Author.Tests.{leb-true, ne-eqb}
 use lib.Dec.{lit<}
-use lib.IntN.{ℤ, pos, natAbs, _*ℤ_}
+use lib.IntN.{pos, natAbs, _*ℤ_}
 use lib.Ieee.{size}
 use Rattle.terms.specs.declared.Width.the-variants.{Double}
 use Rattle.float.specs.declared.Flagged.{Flagged}
@@ -18,14 +18,14 @@ use Rattle.float.proofs.RootCut.{root-negative, root-none}
 use Rattle.float.proofs.RootExact.{one-root, root-exactly, root-no-error, root-result, root-keeps, root-exact}
 use Rattle.stack.specs.Stack.{zeros}
 use Rattle.codes.specs.declared.Command.the-variants.{Sqrt}
-use Rattle.codes.specs.Codes.{kindOf}
+use Rattle.codes.specs.Codes.{decoded}
 use Rattle.chip.specs.Status.{statusOf}
 use Rattle.chip.specs.Commands.{wordA, ends, roots, properOperands}
 use Rattle.chip.specs.Step.{pushOf, carried, commandUnder}
 use Rattle.promises.specs.Commands.{words, word, statusBy}
 use Rattle.promises.specs.Exact.{clean}
 use Rattle.promises.specs.Roots.{RootRows, RootValues, Roots, RootOrder, RootBench}
-use Rattle.promises.proofs.Commanded.{top-is, accepted, refusing, three, no-error}
+use Rattle.promises.proofs.Commands.{top-is, accepted, refusing, three, no-error}
 
 -- ---- the command, on a stack that is spelled as words
 module _ (rule : Rule) where
@@ -56,7 +56,7 @@ module _ (rule : Rule) where
 
   root-rows : RootRows rule
   root-rows = record {
-    code = unfold kindOf in refl;
+    code = unfold decoded in refl;
     root-row = λ a b c A s ds.
         accepted rule Sqrt (three a b c ds) Double ((sqrt rule a) .word) 0 false (word Double b (word Double c (zeros 4)))
         (operand a (word Double b (word Double c ds)) (A .fits) ∙ A .is-proper) (root-result rule a A .word .fits) (rooted a b c A s ds);
@@ -94,5 +94,5 @@ pub root-order : RootOrder
 root-order rule a b A B s t h = root-keeps rule a b (A .is-proper) (B .is-proper) s t h
 
 pub root-bench : RootBench
-unfolding pushOf commandUnder carried roots statusOf kindOf sqrt size
+unfolding pushOf commandUnder carried roots statusOf decoded sqrt size
 root-bench = refl

@@ -21,7 +21,7 @@ use Rattle.files.proofs.Tests.{either-lt, either-eq}
 use Rattle.records.proofs.Heads.{short, low, high, cut, whole, head-is}
 use Rattle.files.proofs.Append.{first-stops}
 use Rattle.promises.specs.Fronts.{Stops, Fronts}
-use Rattle.promises.proofs.Recorded.{bad-head}
+use Rattle.promises.proofs.Records.{bad-head}
 use Rattle.records.proofs.Prefix.{lawful}
 
 -- a head that is a refusal ends the run with its number

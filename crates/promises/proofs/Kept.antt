@@ -1,41 +1,42 @@
--- What a call that is turned away leaves, by the way through its definition; what a bad or cut file leaves, by the runs of its whole records. Assumes nothing.
+-- What a call that is turned away leaves, by the way through its definition; what a bad or cut file leaves, by the runs of its whole records; and what a front of
+-- a file takes that ends with 0 the longer front takes too, by the append law. Assumes nothing.
 use mathlib.Core.Path.{_≡_, refl, sym, ap, _∙_}
 use mathlib.Core.Bool.{Bool, true, false, cond}
-use mathlib.Core.List.{List, [], _∷_, _++_, append-nil}
-use Prim.Native.Nat.{ℕ, suc, _+_, _*_, _-_, _/_, _%_, _≤_, _<_}
+use mathlib.Core.List.{List, [], _∷_, _++_}
+use Prim.Native.Nat.{ℕ, _+_, _-_, _%_, _≤_, _<_}
 use native.Mathlib.Omega.{arith}
 use lib.Dec.{eqb, lit≤}
 use lib.ListN.{length, take, drop, getD, length-append, length-drop, take-append-drop, drop-of-length-le}
-use lib.Seq.{length-take-le, drop-cons, getD-drop, getD-append-add}
-use borrow.Author.Tests.{eq-eqb, ne-eqb}
+use lib.Seq.{length-take-le, drop-cons, getD-drop, getD-append-add, take-take}
+use borrow.Author.Tests.{ne-eqb}
 use Rattle.little.proofs.Exact.{le4-exact}
 use Rattle.terms.specs.Refusal.{numberOf}
 use Rattle.chip.specs.declared.State.{State}
 use Rattle.chip.specs.declared.Answer.{Answer}
+use Rattle.chip.specs.State.{busy}
+use Rattle.chip.specs.Commands.{baseRule, properOperands}
+use Rattle.chip.specs.Step.{refused, unlessBusy, pushOf, popOf, readOf, resetOf, acknowledgeOf, carried, answerByKind, commandUnder, commandOf}
+use Rattle.chip.proofs.Ready.{Ready, push-fair, pop-fair, read-fair, reset-fair, acknowledge-fair, command-fair, picked}
 use Rattle.terms.specs.declared.Refusal.the-variants.{BadState}
 use Rattle.stack.specs.Stack.{Bytes, topByte}
 use Rattle.stack.proofs.Words.{bytes-take, byte-at}
 use Rattle.codes.specs.declared.Kind.{Kind}
 use Rattle.codes.specs.declared.Kind.the-variants.{Known, Derived, Unknown}
-use Rattle.codes.specs.Codes.{sr, kindOf}
-use Rattle.chip.specs.State.{busy}
-use Rattle.chip.specs.Commands.{baseRule, properOperands}
-use Rattle.chip.specs.Step.{refused, unlessBusy, pushOf, popOf, readOf, resetOf, acknowledgeOf, carried, answerOf, commandUnder, commandOf}
-use Rattle.chip.proofs.Ready.{Ready, push-fair, pop-fair, read-fair, reset-fair, acknowledge-fair, command-fair}
-use Rattle.host.specs.declared.Reply.{Reply}
+use Rattle.codes.specs.Codes.{sr, decoded}
 use Rattle.files.proofs.Tests.{either-lt, either-eq}
-use Rattle.files.proofs.Append.{nothing}
+use Rattle.files.proofs.Append.{nothing, appended}
 use Rattle.files.proofs.Through.{tally, up-to-stop, stops-there}
 use Rattle.files.proofs.Cut.{cut-anywhere}
-use Rattle.records.specs.Run.{Outcome, ended, runOf}
+use Rattle.records.specs.Run.{Outcome, runOf}
 use Rattle.records.proofs.Prefix.{lawful}
 use Rattle.records.proofs.Ready.{run-ready}
-use Rattle.stored.specs.Bytes.{isState, stateOf, flagOf, bytesOf}
+use Rattle.stored.specs.Bytes.{isState, stateOf, flagOf, stateBytesOf}
 use Rattle.stored.proofs.States.{is-good}
-use Rattle.pundaliket.specs.Calls.{Called, ranOf, callOf, signalOf, signalBy, eventOf, joinedOf, Sent, sentOf}
+use Rattle.pundaliket.specs.Calls.{Called, ranOf, callOf, signalOf, signalBy, answerToKind, joinedOf, Sent, sentOf}
 use Rattle.pundaliket.proofs.Calling.{false-true, bad-state, too-long, good}
 use Rattle.promises.specs.Records.{countAt}
-use Rattle.promises.specs.Kept.{NoReport, NoState, LongInput, Stands, GoodStates, StateReturns, EmptyInput, EventKept, OutKept, StateStays, StateStaysEvent, RepliesStay, StopsThere, BadFile, CutCall, CutFile}
+use Rattle.promises.specs.Kept.{NoReport, NoState, LongInput, Stands, GoodStates, StateReturns, EmptyInput, EventKept, OutKept, StateStays, StateStaysEvent, RepliesStay, StopsThere, BadFile, CutCall, CutFile, LastEnd}
+use Rattle.promises.proofs.Records.{counts-exact}
 
 -- ---- a call that is turned away
 
@@ -179,7 +180,7 @@ cut-file state input replies report =
         upto = up;
         whole-done = c .whole-done;
         whole-taken = exact ∙ c .whole-taken;
-        state-is = ap bytesOf (c .state-is);
+        state-is = ap stateBytesOf (c .state-is);
         replies-is = rw (c .written-is);
         counts-are = rw (c .taken-is ∙ sym (c .whole-taken), c .written-is);
         at-end = c .at-end;
@@ -187,25 +188,56 @@ cut-file state input replies report =
       },
     ))
 
+-- a file takes at least what a front of it takes that ends with 0
+takes-more : (s : State) (l : List ℕ) (room m : ℕ) → m ≤ length l → runOf s (take m l) room .refusal ≡ 0 → m ≤ runOf s l room .taken
+takes-more s l room m h z =
+    let o = runOf s (take m l) room in
+    let n : length (take m l) ≡ m = length-take-le m l h in
+    let all : o .taken ≡ length (take m l) = tally lawful s (take m l) room .all z in
+    let more = runOf (o .state) (drop m l) (room - length (o .written)) in
+    let e : runOf s l room .taken ≡ o .taken + more .taken =
+    ap (λ (k : List ℕ). runOf s k room .taken) (sym (take-append-drop m l)) ∙ ap (λ (p : Outcome). p .taken) (appended lawful s (take m l) (drop m l) room z) in
+    omega arith
+
+-- a report's first count, without its first byte
+count-after : (l : List ℕ) → countAt l 1 ≡ countAt (drop 1 l) 0
+count-after [] = refl
+count-after (x ∷ l) = refl
+
+pub last-end : LastEnd
+last-end state input replies report z k n most c m up w =
+    let s = stateOf state in
+    let room = length replies in
+    let is = calls state input replies report (λ (x : Called). x .result ≡ 0 → (length report ≡ 9) × (isState state ≡ true) × (length input ≤ 12288))
+    (λ x a y. let q : ⊥ = omega (arith, a .0) in absurd q) (λ a b d y. (a, b, d)) z in
+    let long = is .2 in
+    let lk = length-take-le k input most in
+    let lm = length-take-le m input (omega arith) in
+    let taken : countAt (callOf state (take k input) replies report .report) 1 ≡ runOf s (take k input) room .taken =
+    counts-exact state (take k input) replies report (is .0) (is .1) (omega arith) .0 in
+    let ends : countAt (callOf state (take k input) replies report .report) 1 ≡ n =
+    count-after (callOf state (take k input) replies report .report) ∙ ap (λ (l : List ℕ). countAt l 0) (c .counts-are)
+    ∙ sym (count-after (callOf state (take n input) replies report .report)) ∙ c .whole-taken in
+    let done : runOf s (take m input) room .refusal ≡ 0 =
+    sym (ap (λ (x : Called). x .result) (good state (take m input) replies report (is .0) (is .1) (omega arith))) ∙ w in
+    let front = takes-more s (take k input) room m (omega arith) (ap (λ (l : List ℕ). runOf s l room .refusal) (take-take m k input up) ∙ done) in
+    omega arith
+
 -- ---- a single event
 
 -- a command hands out no byte
-command-byte : (s : State) (code : ℕ) → commandOf s code .byte ≡ 0
+pub command-byte : (s : State) (code : ℕ) → commandOf s code .byte ≡ 0
 unfolding commandUnder carried
 command-byte s code =
-    picked (λ (a : Answer). a .byte ≡ 0) (busy s) _ _ refl (by-kind (kindOf (code % 128)))
+    picked (λ (a : Answer). a .byte ≡ 0) (busy s) _ _ refl (by-kind (decoded (code % 128)))
   where
-    picked : (P : Answer → Type 0) (b : Bool) (x y : Answer) → P x → P y → P (cond b x y)
-    picked P true x y p q = p
-    picked P false x y p q = q
-
-    by-kind : (k : Kind) → answerOf baseRule s (sr code) k .byte ≡ 0
+    by-kind : (k : Kind) → answerByKind baseRule s (sr code) k .byte ≡ 0
     by-kind (Known c) = picked (λ (a : Answer). a .byte ≡ 0) (s .pending) _ _ refl (picked (λ (a : Answer). a .byte ≡ 0) (properOperands c (s .stack)) _ _ refl refl)
     by-kind Derived = refl
     by-kind Unknown = refl
 
 -- what an event hands out is a byte where the top and the status are bytes
-event-byte : (s : State) (kind byte : ℕ) → topByte (s .stack) < 256 → s .status < 256 → eventOf s kind byte .byte < 256
+event-byte : (s : State) (kind byte : ℕ) → topByte (s .stack) < 256 → s .status < 256 → answerToKind s kind byte .byte < 256
 unfolding pushOf popOf readOf resetOf acknowledgeOf
 event-byte s kind byte top status =
     either-eq Small kind 1 _ _ (λ e. ready _ (omega arith)) (λ a.
@@ -230,7 +262,7 @@ unfolding signalOf
 event-kept state kind byte bytes = by (isState state)
   where
     a : Answer
-    a = eventOf (stateOf state) kind byte
+    a = answerToKind (stateOf state) kind byte
 
     small : a .byte < 256
     small = event-byte (stateOf state) kind byte (byte-at (take 16 state) (bytes-take 16 state bytes) 0) (byte-at state bytes 17)
@@ -238,33 +270,33 @@ event-kept state kind byte bytes = by (isState state)
     by : (b : Bool) → 256 ≤ (cond b (signalBy state a) (record { result = joinedOf 13 0; state = state })) .result
         → (cond b (signalBy state a) (record { result = joinedOf 13 0; state = state })) .state ≡ state
     by true h =
-        either-eq (λ (l : List ℕ). l ≡ state) (numberOf (a .refusal)) 0 (bytesOf (a .state)) state
+        either-eq (λ (l : List ℕ). l ≡ state) (numberOf (a .refusal)) 0 (stateBytesOf (a .state)) state
         (λ z. let y : ⊥ = omega (arith, small) in absurd y) (λ z. refl)
     by false h = refl
 
 -- ---- a state stays a state
 
+-- the byte of a state at a place past the 16 of the stack
+pub past : (s : State) → Ready s → (i : ℕ) → getD (stateBytesOf s) (16 + i) 0 ≡ getD (flagOf (s .pending) ∷ s .status ∷ flagOf (s .service) ∷ []) i 0
+past s r i =
+    ap (λ (k : ℕ). getD (stateBytesOf s) (k + i) 0) (sym (r .stack .sixteen))
+    ∙ getD-append-add (s .stack) (flagOf (s .pending) ∷ s .status ∷ flagOf (s .service) ∷ []) i 0
+
 -- the bytes of a state that is not busy stand for a state
-pub bytes-stand : (s : State) → Ready s → isState (bytesOf s) ≡ true
+pub bytes-stand : (s : State) → Ready s → isState (stateBytesOf s) ≡ true
 bytes-stand s r =
     let n = r .stack .sixteen in
-    let vs = flagOf (s .pending) ∷ s .status ∷ flagOf (s .service) ∷ [] in
-    let len = length-append (s .stack) vs in
-    good-states (bytesOf s) .1 (record {
+    let len = length-append (s .stack) (flagOf (s .pending) ∷ s .status ∷ flagOf (s .service) ∷ []) in
+    good-states (stateBytesOf s) .1 (record {
       size = omega arith;
-      pending = rw (at 0 (flagOf (s .pending)) n) (flag-small (s .pending));
-      ready = rw (at 1 (s .status) n) (r .ready);
-      service = rw (at 2 (flagOf (s .service)) n) (flag-small (s .service));
+      pending = rw (past s r 0) (flag-small (s .pending));
+      ready = rw (past s r 1) (r .ready);
+      service = rw (past s r 2) (flag-small (s .service));
     })
   where
     flag-small : (b : Bool) → flagOf b ≤ 1
     flag-small true = lit≤ tt
     flag-small false = lit≤ tt
-
-    at : (i x : ℕ) → length (s .stack) ≡ 16 → getD (bytesOf s) (16 + i) 0 ≡ getD (flagOf (s .pending) ∷ s .status ∷ flagOf (s .service) ∷ []) i 0
-    at i x n =
-        ap (λ (k : ℕ). getD (bytesOf s) (k + i) 0) (sym n)
-        ∙ getD-append-add (s .stack) (flagOf (s .pending) ∷ s .status ∷ flagOf (s .service) ∷ []) i 0
 
 -- and the other way round
 pub state-ready : (l : List ℕ) → Bytes l → isState l ≡ true → Ready (stateOf l)
@@ -279,7 +311,7 @@ state-stays state input replies report h g b =
     (λ n d m. bytes-stand _ (run-ready (stateOf state) input (length replies) (state-ready state h b) g))
 
 -- a single event
-event-ready : (s : State) (kind byte : ℕ) → byte < 256 → Ready s → Ready (eventOf s kind byte .state)
+event-ready : (s : State) (kind byte : ℕ) → byte < 256 → Ready s → Ready (answerToKind s kind byte .state)
 event-ready s kind byte h r =
     either-eq Left kind 1 _ _ (λ e. push-fair s r byte h .left) (λ a.
     either-eq Left kind 2 _ _ (λ e. pop-fair s r .left) (λ b.
@@ -294,6 +326,6 @@ event-ready s kind byte h r =
 pub state-stays-event : StateStaysEvent
 unfolding signalOf
 state-stays-event state kind byte h g b =
-    let a = eventOf (stateOf state) kind byte in
-    rw b (either-eq (λ (l : List ℕ). isState l ≡ true) (numberOf (a .refusal)) 0 (bytesOf (a .state)) state
+    let a = answerToKind (stateOf state) kind byte in
+    rw b (either-eq (λ (l : List ℕ). isState l ≡ true) (numberOf (a .refusal)) 0 (stateBytesOf (a .state)) state
     (λ z. bytes-stand (a .state) (event-ready (stateOf state) kind byte g (state-ready state h b))) (λ z. b))

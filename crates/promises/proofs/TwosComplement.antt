@@ -1,7 +1,7 @@
 -- Two's complement over half of the number of words: what fits by the laws of `fixed`, sums and differences modulo twice it. Assumes nothing.
 use mathlib.Core.Path.{_≡_, refl, sym, ap, subst, _∙_}
 use mathlib.Core.Logic.{⊎-elim}
-use mathlib.Core.Bool.{true, false}
+use mathlib.Core.Bool.{false}
 use Prim.Native.Nat.{ℕ, _+_, _-_, _*_, _%_, _≤_, _<_}
 use native.Mathlib.Nat.{mod-eq-of-lt, mod-eq-sub-mod}
 use native.Mathlib.Omega.{arith}
@@ -18,7 +18,7 @@ use Rattle.fixed.proofs.Exact.{mul-carry, muu-carry, div-carry}
 use Rattle.float.specs.Convert.{integer}
 use Rattle.promises.specs.Commands.{least}
 use Rattle.promises.specs.TwosComplement.{halfOf, bit, TwosComplement}
-use Rattle.promises.proofs.Commanded.{sum-is, difference-is}
+use Rattle.promises.proofs.Commands.{sum-is, difference-is}
 
 module _ (h : ℕ) where
   below : (a : ℕ) → a < h → signed h a ≡ pos a

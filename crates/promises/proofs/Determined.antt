@@ -2,7 +2,7 @@
 use mathlib.Core.Path.{_≡_, sym, _∙_}
 use mathlib.Core.List.{List}
 use Prim.Native.Nat.{ℕ}
-use Rattle.pundaliket.specs.Calls.{Signal, Signals, Sent, Sends}
+use Rattle.pundaliket.specs.Calls.{Sent, Sends}
 use Rattle.promises.specs.Determined.{RunDetermined, EventDetermined, WordToF32Determined, F32ToWordDetermined}
 
 pub run-determined : RunDetermined

@@ -12,40 +12,42 @@ use Rattle.terms.specs.declared.Rule.{Rule}
 use Rattle.stack.specs.Stack.{IsStack}
 use Rattle.chip.specs.declared.State.{State}
 use Rattle.chip.specs.declared.Answer.{Answer}
+use Rattle.chip.specs.declared.Event.{Event}
+use Rattle.chip.specs.declared.Event.the-variants.{Push, Pop, Command, Status, Reset, Acknowledge}
 use Rattle.chip.specs.Commands.{baseRule}
-use Rattle.chip.specs.Step.{pushOf, popOf, readOf, resetOf, acknowledgeOf, commandUnder}
+use Rattle.chip.specs.Step.{pushOf, popOf, readOf, resetOf, acknowledgeOf, commandUnder, answerTo}
+use Rattle.chip.specs.Events.{afterEvents}
 use Rattle.chip.proofs.Kept.{command-keeps}
 use Rattle.chip.proofs.Accepted.{leaves}
-use Rattle.chip.proofs.Turns.{pop-done}
+use Rattle.chip.proofs.InTurn.{pop-done}
+use Rattle.chip.proofs.Ready.{Ready, push-fair, pop-fair, read-fair, reset-fair, acknowledge-fair}
 use Rattle.files.proofs.Tests.{either-eq}
 use Rattle.stored.specs.Bytes.{stateOf, flagOf}
 use Rattle.pundaliket.proofs.Calling.{false-true}
-use Rattle.promises.specs.Events.{Event, push, pop, command, read, reset, acknowledge, answerTo, after}
 use Rattle.promises.specs.Cores.{Sendable}
-use Rattle.promises.specs.Pending.{Gives, stateWith, movedSince, Odd, Bus, PendingByte, BusEvents}
-use Rattle.promises.proofs.Refusing.{numbers}
-use Rattle.chip.proofs.Ready.{Ready, push-fair, pop-fair, read-fair, reset-fair, acknowledge-fair}
-use Rattle.promises.proofs.Keeping.{good-states, state-ready}
-use Rattle.promises.proofs.Driven.{past, leaves-good, cores}
+use Rattle.promises.specs.Pending.{Answers, stateWith, movedSince, Odd, Bus, PendingByte, BusEvents}
+use Rattle.promises.proofs.Refusals.{numbers}
+use Rattle.promises.proofs.Kept.{good-states, past, state-ready}
+use Rattle.promises.proofs.Cores.{leaves-good, cores}
 
 module _ (l : List ℕ) (p : Bool) (u : ℕ) (v : Bool) (h : u < 128) where
-  pushes : (b : ℕ) → Gives (pushOf (stateWith l p u v) b) 0 0 (b ∷ take 15 l) (not p) u v
+  pushes : (b : ℕ) → Answers (pushOf (stateWith l p u v) b) 0 0 (b ∷ take 15 l) (not p) u v
   unfolding pushOf
   pushes b = rw (lt-leb 128 u h) (record { number = refl; byte-read = refl; state = refl })
 
-  pops : (b : ℕ) → Gives (popOf (stateWith (b ∷ l) p u v)) 0 b (l ++ (b ∷ [])) (not p) u v
+  pops : (b : ℕ) → Answers (popOf (stateWith (b ∷ l) p u v)) 0 b (l ++ (b ∷ [])) (not p) u v
   unfolding popOf
   pops b = rw (lt-leb 128 u h) (record { number = refl; byte-read = refl; state = refl })
 
-  resets : Gives (resetOf (stateWith l p u v)) 0 0 (0 ∷ 0 ∷ 0 ∷ 0 ∷ 0 ∷ 0 ∷ 0 ∷ 0 ∷ 0 ∷ 0 ∷ 0 ∷ 0 ∷ 0 ∷ 0 ∷ 0 ∷ 0 ∷ []) false 0 false
+  resets : Answers (resetOf (stateWith l p u v)) 0 0 (0 ∷ 0 ∷ 0 ∷ 0 ∷ 0 ∷ 0 ∷ 0 ∷ 0 ∷ 0 ∷ 0 ∷ 0 ∷ 0 ∷ 0 ∷ 0 ∷ 0 ∷ 0 ∷ []) false 0 false
   unfolding resetOf
   resets = rw (lt-leb 128 u h) (record { number = refl; byte-read = refl; state = refl })
 
-  acknowledges : Gives (acknowledgeOf (stateWith l p u v)) 0 0 l p u false
+  acknowledges : Answers (acknowledgeOf (stateWith l p u v)) 0 0 l p u false
   unfolding acknowledgeOf
   acknowledges = rw (lt-leb 128 u h) (record { number = refl; byte-read = refl; state = refl })
 
-  reads : Gives (readOf (stateWith l p u v)) 0 u l p u v
+  reads : Answers (readOf (stateWith l p u v)) 0 u l p u v
   unfolding readOf
   reads = rw (lt-leb 128 u h) (record { number = refl; byte-read = refl; state = refl })
 
@@ -61,7 +63,7 @@ none : Odd false 0
 none = record { set = λ h. absurd (omega arith); clear = λ h. refl }
 
 -- the flag of a state that is written out
-flag-of : {a : Answer} {n b : ℕ} {l : List ℕ} {p : Bool} {u : ℕ} {v : Bool} → Gives a n b l p u v → a .state .pending ≡ p
+flag-of : {a : Answer} {n b : ℕ} {l : List ℕ} {p : Bool} {u : ℕ} {v : Bool} → Answers a n b l p u v → a .state .pending ≡ p
 flag-of g = ap (λ (s : State). s .pending) (g .state)
 
 -- a command leaves pending as it was, done or refused
@@ -75,28 +77,28 @@ command-good rule s code r =
     ⊎-elim (λ d. let l = leaves rule s code (r .stack) d in record { stack = l .stack; ready = l .not-busy }) (λ e. subst (λ (a : Answer). Ready (a .state)) (sym e) r) (command-keeps rule s code)
 
 module _ (rule : Rule) where
-  parity : (es : List Event) (s : State) (n : ℕ) → Ready s → Sendable es → Odd (s .pending) n → Odd ((after rule s es) .pending) (movedSince n es)
+  parity : (es : List Event) (s : State) (n : ℕ) → Ready s → Sendable es → Odd (s .pending) n → Odd ((afterEvents rule s es) .pending) (movedSince n es)
   parity [] s n r S o = o
-  parity (push b ∷ es) s n r S o =
+  parity (Push b ∷ es) s n r S o =
       let a = pushes (s .stack) (s .pending) (s .status) (s .service) (r .ready) b in
       parity es ((pushOf s b) .state) (suc n) (push-fair s r b (S .0) .left) (S .1) (subst (λ (p : Bool). Odd p (suc n)) (sym (flag-of a)) (turned (s .pending) n o))
-  parity (pop ∷ es) s n r S o =
+  parity (Pop ∷ es) s n r S o =
       parity es ((popOf s) .state) (suc n) (pop-fair s r .left) (S .1)
       (subst (λ (p : Bool). Odd p (suc n)) (sym (ap (λ (a : Answer). a .state .pending) (pop-done s (r .ready)))) (turned (s .pending) n o))
-  parity (command code ∷ es) s n r S o =
+  parity (Command code ∷ es) s n r S o =
       parity es ((commandUnder rule s code) .state) n (command-good rule s code r) (S .1) (subst (λ (p : Bool). Odd p n) (sym (command-flag rule s code (r .stack))) o)
-  parity (read ∷ es) s n r S o =
+  parity (Status ∷ es) s n r S o =
       let a = reads (s .stack) (s .pending) (s .status) (s .service) (r .ready) in
       parity es ((readOf s) .state) n (read-fair s r .left) (S .1) (subst (λ (p : Bool). Odd p n) (sym (flag-of a)) o)
-  parity (reset ∷ es) s n r S o =
+  parity (Reset ∷ es) s n r S o =
       let a = resets (s .stack) (s .pending) (s .status) (s .service) (r .ready) in
       parity es ((resetOf s) .state) 0 (reset-fair s r .left) (S .1) (subst (λ (p : Bool). Odd p 0) (sym (flag-of a)) none)
-  parity (acknowledge ∷ es) s n r S o =
+  parity (Acknowledge ∷ es) s n r S o =
       let a = acknowledges (s .stack) (s .pending) (s .status) (s .service) (r .ready) in
       parity es ((acknowledgeOf s) .state) n (acknowledge-fair s r .left) (S .1) (subst (λ (p : Bool). Odd p n) (sym (flag-of a)) o)
 
 -- a busy state
-busies : (rule : Rule) (e : Event) (l : List ℕ) (p : Bool) (u : ℕ) (v : Bool) → 128 ≤ u → Gives (answerTo rule (stateWith l p u v) e) 13 0 l p u v
+busies : (rule : Rule) (e : Event) (l : List ℕ) (p : Bool) (u : ℕ) (v : Bool) → 128 ≤ u → Answers (answerTo rule (stateWith l p u v) e) 13 0 l p u v
 busies rule e l p u v h =
     let t = numbers rule .busy-state (stateWith l p u v) e (le-leb 128 u h) in
     record { number = t .number; byte-read = t .byte; state = t .state }
@@ -117,7 +119,7 @@ pub bus-events : BusEvents
 bus-events = bus baseRule
 
 -- every event leaves a good state
-all-good : (es : List Event) (s : State) → Ready s → Sendable es → Ready (after baseRule s es)
+all-good : (es : List Event) (s : State) → Ready s → Sendable es → Ready (afterEvents baseRule s es)
 all-good [] s r S = r
 all-good (e ∷ es) s r S = all-good es ((answerTo baseRule s e) .state) (leaves-good s e r (S .0)) (S .1)
 
@@ -139,5 +141,5 @@ pending-byte c M state es B g S =
     let st = good-states state .0 g in
     let o = parity baseRule es (stateOf state) (getD state 16 0) r S (flag-odd (getD state 16 0) (st .pending)) in
     ap (λ (l : List ℕ). getD l 16 0) (cores c M .states state es B g S)
-    ∙ past (after baseRule (stateOf state) es) (all-good es (stateOf state) r S) 0
-    ∙ odd-flag ((after baseRule (stateOf state) es) .pending) (movedSince (getD state 16 0) es) o
+    ∙ past (afterEvents baseRule (stateOf state) es) (all-good es (stateOf state) r S) 0
+    ∙ odd-flag ((afterEvents baseRule (stateOf state) es) .pending) (movedSince (getD state 16 0) es) o

@@ -12,17 +12,17 @@ use Rattle.terms.specs.declared.Width.{Width}
 use Rattle.terms.specs.declared.Width.the-variants.{Single, Double}
 use Rattle.terms.specs.Width.{sizeOf}
 use Rattle.terms.specs.declared.Rule.{Rule}
-use Rattle.stack.specs.Stack.{IsStack, bytesOf, topByte, pushed, popped, pushedAll, lowFirst, poppedAll, handedOut}
+use Rattle.stack.specs.Stack.{IsStack, bytesOf, topByte, pushed, popped, pushedAll, lowFirst, handedOut}
 use Rattle.stack.proofs.Moves.{pushes-lay, pops-read}
 use Rattle.codes.specs.declared.Command.{Command}
 use Rattle.codes.specs.declared.Kind.the-variants.{Known}
-use Rattle.codes.specs.Codes.{kindOf}
+use Rattle.codes.specs.Codes.{decoded}
 use Rattle.chip.specs.declared.State.{State}
 use Rattle.chip.specs.declared.Answer.{Answer}
 use Rattle.chip.specs.State.{moved}
 use Rattle.chip.specs.Commands.{outcomeOf}
 use Rattle.chip.specs.Step.{done, pushOf, popOf, commandUnder}
-use Rattle.chip.specs.Turns.{afterPushes, afterPops, bytesPopped, resultBytes}
+use Rattle.chip.specs.InTurn.{afterPushes, bytesPopped, resultBytes}
 use Rattle.chip.proofs.Outcomes.{outcome-hands}
 use Rattle.chip.proofs.Accepted.{accepted, leaves}
 
@@ -49,10 +49,6 @@ pub pushes-state : (l : List ℕ) (s : State) → s .status < 128 → afterPushe
 pushes-state [] s h = refl
 pushes-state (b ∷ l) s h =
     ap (λ (a : Answer). afterPushes (a .state) l) (push-done s b h) ∙ pushes-state l (moved s (pushed (s .stack) b)) h
-
-pub pops-state : (k : ℕ) (s : State) → s .status < 128 → afterPops k s ≡ restacked s (poppedAll k (s .stack)) k
-pops-state zero s h = refl
-pops-state (suc k) s h = ap (λ (a : Answer). afterPops k (a .state)) (pop-done s h) ∙ pops-state k (moved s (popped (s .stack))) h
 
 pub pops-bytes : (k : ℕ) (s : State) → s .status < 128 → bytesPopped k s ≡ handedOut k (s .stack)
 pops-bytes zero s h = refl
@@ -91,7 +87,7 @@ word-popped w r s h =
     ∙ pops-read (sizeOf w) r (take (16 - sizeOf w) (s .stack))
 
 -- ---- after an accepted command the pops hand out R's bytes
-pub result-popped : (rule : Rule) (s : State) (code : ℕ) (k : Command) → IsStack (s .stack) → kindOf (code % 128) ≡ Known k → (commandUnder rule s code) .refusal ≡ Done
+pub result-popped : (rule : Rule) (s : State) (code : ℕ) (k : Command) → IsStack (s .stack) → decoded (code % 128) ≡ Known k → (commandUnder rule s code) .refusal ≡ Done
     → bytesPopped (length (resultBytes rule k (s .stack))) ((commandUnder rule s code) .state) ≡ resultBytes rule k (s .stack)
 result-popped rule s code k S e d =
     let a = accepted rule s code d in

@@ -12,18 +12,18 @@ use Rattle.terms.specs.declared.Refusal.the-variants.{InputTooLong, BadState}
 use Rattle.stack.specs.Stack.{Bytes}
 use Rattle.stack.proofs.Words.{bytes-take}
 use Rattle.chip.specs.declared.State.{State}
+use Rattle.chip.proofs.Ready.{Ready}
 use Rattle.records.specs.Run.{Outcome, ended, runOf}
 use Rattle.files.proofs.Through.{tally}
-use Rattle.stored.specs.Bytes.{isState, stateOf, flagOf, bytesOf}
+use Rattle.stored.specs.Bytes.{isState, stateOf, flagOf, stateBytesOf}
 use Rattle.pundaliket.specs.Calls.{Called, ranOf, away, callOf}
 use Rattle.pundaliket.proofs.Calling.{good}
 use Rattle.promises.specs.Records.{joined, total, lengths}
 use Rattle.promises.specs.RunCall.{StandsFor, Reports, RunCall, ReportsResult, StopsAgain}
-use Rattle.promises.proofs.Recorded.{counted, counts-exact}
-use Rattle.chip.proofs.Ready.{Ready}
+use Rattle.promises.proofs.Records.{counted, counts-exact}
 use Rattle.records.proofs.Ready.{run-ready}
-use Rattle.promises.proofs.Keeping.{state-ready, bytes-stand}
-use Rattle.promises.proofs.Driven.{reads-back}
+use Rattle.promises.proofs.Kept.{state-ready, bytes-stand}
+use Rattle.promises.proofs.Cores.{reads-back}
 use Rattle.records.proofs.Prefix.{lawful}
 
 -- the state that good bytes stand for is good, and it is the one that is read
@@ -94,8 +94,8 @@ stops-again state input replies report B I g n d z =
     let r = tally lawful s input (length replies) .range y in
     let G = run-ready s input (length replies) (state-ready state B g) I in
     let m = length-drop (o .taken) input in
-    let again : callOf (bytesOf (o .state)) (drop (o .taken) input) (drop (length (o .written)) replies) report ≡ ranOf (ended (o .refusal) (o .state)) (drop (length (o .written)) replies) =
-    good (bytesOf (o .state)) (drop (o .taken) input) (drop (length (o .written)) replies) report n (bytes-stand (o .state) G) (omega arith)
+    let again : callOf (stateBytesOf (o .state)) (drop (o .taken) input) (drop (length (o .written)) replies) report ≡ ranOf (ended (o .refusal) (o .state)) (drop (length (o .written)) replies) =
+    good (stateBytesOf (o .state)) (drop (o .taken) input) (drop (length (o .written)) replies) report n (bytes-stand (o .state) G) (omega arith)
     ∙ ap₂ (λ (x : State) (k : ℕ). ranOf (runOf x (drop (o .taken) input) k) (drop (length (o .written)) replies)) (reads-back (o .state) G) (length-drop (length (o .written)) replies)
     ∙ ap (λ (p : Outcome). ranOf p (drop (length (o .written)) replies)) (rest-stops s input (length replies) y) in
     rw (c .0, c .1, e) (r .0, r .1, again)

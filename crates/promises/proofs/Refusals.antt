@@ -6,42 +6,43 @@ use Rattle.terms.specs.Refusal.{numberOf}
 use Rattle.terms.specs.declared.Rule.{Rule}
 use Rattle.codes.specs.declared.Command.{Command}
 use Rattle.codes.specs.declared.Kind.the-variants.{Known, Derived, Unknown}
-use Rattle.codes.specs.Codes.{kindOf}
+use Rattle.codes.specs.Codes.{decoded}
 use Rattle.chip.specs.declared.State.{State}
+use Rattle.chip.specs.declared.Event.{Event}
+use Rattle.chip.specs.declared.Event.the-variants.{Push, Pop, Command as CommandEvent, Status, Reset, Acknowledge}
 use Rattle.chip.specs.State.{busy}
 use Rattle.chip.specs.Commands.{baseRule, properOperands}
-use Rattle.chip.specs.Step.{pushOf, popOf, readOf, resetOf, acknowledgeOf, carried, commandUnder}
-use Rattle.promises.specs.Events.{Event, push, pop, command, read, reset, acknowledge, answerTo}
+use Rattle.chip.specs.Step.{pushOf, popOf, readOf, resetOf, acknowledgeOf, carried, commandUnder, answerTo}
 use Rattle.promises.specs.Refusals.{TurnedAway, Numbers, Refusals}
 
 module _ (rule : Rule) (s : State) where
   when-busy : (e : Event) → busy s ≡ true → TurnedAway s (answerTo rule s e) 13
   unfolding pushOf popOf readOf resetOf acknowledgeOf commandUnder
-  when-busy (push b) h = rw h (record { number = refl; byte = refl; state = refl })
-  when-busy pop h = rw h (record { number = refl; byte = refl; state = refl })
-  when-busy (command k) h = rw h (record { number = refl; byte = refl; state = refl })
-  when-busy read h = rw h (record { number = refl; byte = refl; state = refl })
-  when-busy reset h = rw h (record { number = refl; byte = refl; state = refl })
-  when-busy acknowledge h = rw h (record { number = refl; byte = refl; state = refl })
+  when-busy (Push b) h = rw h (record { number = refl; byte = refl; state = refl })
+  when-busy Pop h = rw h (record { number = refl; byte = refl; state = refl })
+  when-busy (CommandEvent k) h = rw h (record { number = refl; byte = refl; state = refl })
+  when-busy Status h = rw h (record { number = refl; byte = refl; state = refl })
+  when-busy Reset h = rw h (record { number = refl; byte = refl; state = refl })
+  when-busy Acknowledge h = rw h (record { number = refl; byte = refl; state = refl })
 
   module _ (ready : busy s ≡ false) where
-    when-unknown : (code : ℕ) → kindOf (code % 128) ≡ Unknown → TurnedAway s (commandUnder rule s code) 1
+    when-unknown : (code : ℕ) → decoded (code % 128) ≡ Unknown → TurnedAway s (commandUnder rule s code) 1
     unfolding commandUnder
     when-unknown code e = rw (ready, e) (record { number = refl; byte = refl; state = refl })
 
-    when-derived : (code : ℕ) → kindOf (code % 128) ≡ Derived → TurnedAway s (commandUnder rule s code) 2
+    when-derived : (code : ℕ) → decoded (code % 128) ≡ Derived → TurnedAway s (commandUnder rule s code) 2
     unfolding commandUnder
     when-derived code e = rw (ready, e) (record { number = refl; byte = refl; state = refl })
 
-    when-half : (code : ℕ) (k : Command) → kindOf (code % 128) ≡ Known k → s .pending ≡ true → TurnedAway s (commandUnder rule s code) 3
+    when-half : (code : ℕ) (k : Command) → decoded (code % 128) ≡ Known k → s .pending ≡ true → TurnedAway s (commandUnder rule s code) 3
     unfolding commandUnder carried
     when-half code k e p = rw (ready, e, p) (record { number = refl; byte = refl; state = refl })
 
-    when-improper : (code : ℕ) (k : Command) → kindOf (code % 128) ≡ Known k → s .pending ≡ false → properOperands k (s .stack) ≡ false → TurnedAway s (commandUnder rule s code) 4
+    when-improper : (code : ℕ) (k : Command) → decoded (code % 128) ≡ Known k → s .pending ≡ false → properOperands k (s .stack) ≡ false → TurnedAway s (commandUnder rule s code) 4
     unfolding commandUnder carried
     when-improper code k e p o = rw (ready, e, p, o) (record { number = refl; byte = refl; state = refl })
 
-    when-fair : (code : ℕ) (k : Command) → kindOf (code % 128) ≡ Known k → s .pending ≡ false → properOperands k (s .stack) ≡ true → numberOf ((commandUnder rule s code) .refusal) ≡ 0
+    when-fair : (code : ℕ) (k : Command) → decoded (code % 128) ≡ Known k → s .pending ≡ false → properOperands k (s .stack) ≡ true → numberOf ((commandUnder rule s code) .refusal) ≡ 0
     unfolding commandUnder carried
     when-fair code k e p o = rw (ready, e, p, o)
 

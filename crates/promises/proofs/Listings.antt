@@ -20,13 +20,13 @@ use Rattle.stored.specs.Bytes.{isState}
 use Rattle.pundaliket.specs.Calls.{Called, ranOf}
 use Rattle.pundaliket.proofs.Calling.{too-long, good}
 use Rattle.listing.specs.Text.{digit, spelled, decimal}
-use Rattle.listing.specs.Listing.{dataText, lineOf, endOf, replyKind, replyRefusal, replySize, replyData, linesUpTo, whole, linesOf, listingOf, printedOf}
+use Rattle.listing.specs.Listing.{dataText, lineOf, endOf, replyKind, replyRefusal, replySize, replyData, linesUpTo, hasReply, linesOf, listingOf, printedOf}
 use Rattle.little.proofs.Exact.{two-bytes}
 use Rattle.listing.proofs.Listed.{reply-listed}
 use Rattle.printout.specs.Printout.{callFor, printoutOf}
 use Rattle.promises.specs.Records.{joined, EachTaken, repliesOf, total, lengths}
 use Rattle.promises.specs.Listings.{valueOf, Digits, Decimal, hexText, recordLine, linesFor, lastLine, Listings}
-use Rattle.promises.proofs.Recorded.{record-run}
+use Rattle.promises.proofs.Records.{record-run}
 use Rattle.little.proofs.Exact.{le4-exact}
 use Rattle.records.proofs.Prefix.{lawful}
 
@@ -80,7 +80,7 @@ module _ (input : List ℕ) where
       ∙ ap (λ (l : List ℕ). listingOf l (o .refusal) (o .taken)) (take-append-seam w (drop (length w) (replicate 65536 0)))
 
   long-is : 12288 < length input → printoutOf input ≡ 101 ∷ 110 ∷ 100 ∷ 32 ∷ 57 ∷ 32 ∷ 48 ∷ 10 ∷ []
-  unfolding linesUpTo whole spelled
+  unfolding linesUpTo hasReply spelled
   long-is h = ap (λ (c : Called). printedOf (c .replies) (c .report)) (too-long (replicate 19 0) input (replicate 65536 0) (replicate 9 0) refl fresh-good h)
 
 -- ---- characters
