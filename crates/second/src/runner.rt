@@ -1,146 +1,129 @@
 // Files of records: each is judged from its bytes alone, then done, event by event.
 use crate::bytes;
-use crate::ring;
-use crate::ring::Chip;
+use crate::bytes::Bytes;
+use crate::chip;
 ghost use Prim.Native.Nat.{_≤_};
 
-// The bytes of data in a reply, by kind and the payload's first byte.
-fn data(kind: usize, first: u8) -> usize
-    ensures { λ r. ⌜ r ≤ 255 ⌝ }
-{
-    if kind == 2 {
-        first as usize
-    } else if kind == 4 {
-        1
-    } else {
-        0
+// How many bytes of data a reply has, by kind and the payload's first byte.
+fn data(kind: u8, first: u8) -> u8 {
+    match kind {
+        2 => first,
+        4 => 1,
+        _ => 0,
     }
 }
 
 // Whether a payload of n bytes is one of its kind.
-fn suits(kind: usize, n: usize, first: u8) -> bool {
-    if kind == 1 {
-        1 <= n && n <= 16
-    } else if kind == 2 {
-        n == 1 && 1 <= first && first <= 16
-    } else if kind == 3 {
-        n == 1
-    } else {
-        n == 0
+fn suits(kind: u8, n: u8, first: u8) -> bool {
+    match kind {
+        1 => (1 <= n) & (n <= 16),
+        2 => (n == 1) & (1 <= first) & (first <= 16),
+        3 => n == 1,
+        _ => n == 0,
     }
 }
 
-// Why the record at a place stops the run, in 01's order, or 0.
-fn judged(input: &[u8], at: usize, room: usize) -> u8 {
-    let left = std::num::wrapping_sub_usize(input.len(), at);
-    let length = bytes::pair(input, at);
-    let kind = bytes::pair(input, bytes::on(at, 2));
-    let first = bytes::get(input, bytes::on(at, 4));
+// Why a record stops the run, in 01's order, or 0; `left` and `room` are the bytes of input and of replies
+// from its place on.
+fn judged(record: Bytes, left: usize, room: usize) -> u8 {
+    let length = record[0];
+    let kind = record[2];
+    let first = record[4];
+    let long = (record[1] != 0) | (length < 2) | (length > 18);
     if left < 2 {
         6
-    } else if length < 2 || length > 18 {
+    } else if long {
         7
-    } else if left < length + 2 {
+    } else if std::num::wrapping_sub_usize(left, 2) < length as usize {
         6
-    } else if kind == 0 || kind > 6 {
+    } else if (record[3] != 0) | (kind == 0) | (kind > 6) {
         5
-    } else if !suits(kind, std::num::wrapping_sub_usize(length, 2), first) {
+    } else if !suits(kind, std::num::wrapping_sub_u8(length, 2), first) {
         7
-    } else if room < 5 + data(kind, first) {
+    } else if room < data(kind, first) as usize + 5 {
         8
     } else {
         0
     }
 }
 
-// The bytes of the payload, pushed in order.
-fn push_all(c: Chip, input: &[u8], from: usize, n: usize) -> Chip {
-    let mut after = c;
-    for i in 0..n {
-        after = ring::push(after, bytes::get(input, bytes::on(from, i))).chip;
-    }
-    after
-}
-
-// n bytes popped into the replies.
-fn pop_all(c: Chip, replies: &mut [u8], to: usize, n: usize) -> Chip {
-    let mut after = c;
-    for i in 0..n {
-        bytes::put(replies, bytes::on(to, i), ring::byte(after, 0));
-        after = ring::pop(after).chip;
-    }
-    after
-}
-
-// Does the record at a place and writes its reply.
-fn worked(c: Chip, input: &[u8], at: usize, replies: &mut [u8], to: usize) -> Chip {
-    let length = bytes::pair(input, at);
-    let kind = bytes::get(input, bytes::on(at, 2));
-    let first = bytes::get(input, bytes::on(at, 4));
-    let size = data(kind as usize, first);
-    bytes::put_four(replies, to, (3 + size) as u32);
-    bytes::put(
-        replies,
-        bytes::on(to, 2),
-        std::num::wrapping_add_u8(kind, 128),
-    );
-    bytes::put(replies, bytes::on(to, 4), 0);
-    if kind == 1 {
-        return push_all(
-            c,
-            input,
-            bytes::on(at, 4),
-            std::num::wrapping_sub_usize(length, 2),
-        );
-    }
-    if kind == 2 {
-        return pop_all(c, replies, bytes::on(to, 5), size);
-    }
-    if kind == 4 {
-        bytes::put(replies, bytes::on(to, 5), c.status);
-        return c;
-    }
-    let r = ring::event(c, kind as u32, first);
-    bytes::put(replies, bytes::on(to, 4), r.refusal);
-    r.chip
-}
-
-fn reported(report: &mut [u8], refusal: u8, taken: u32, written: u32) {
-    bytes::put(report, 0, refusal);
-    bytes::put_four(report, 1, taken);
-    bytes::put_four(report, 5, written);
-}
-
-// How far a run has come: the bytes taken and written, and what stopped it.
+// How far a run has come: the chip, the bytes taken and written, and what stopped it; and the reply to
+// the last record.
 struct Progress {
-    chip: Chip,
+    chip: Bytes,
+    reply: Bytes,
     taken: usize,
     written: usize,
     stop: u8,
 }
 
-// One record more, unless the run has stopped or none is left.
-fn next(r: Progress, input: &[u8], replies: &mut [u8]) -> Progress {
-    if r.stop != 0 || input.len() <= r.taken {
-        return r;
+// How many events a record is: one for each byte pushed or popped, else one.
+fn events(kind: u8, n: u8, first: u8) -> usize {
+    match kind {
+        1 => n as usize,
+        2 => first as usize,
+        _ => 1,
     }
-    let room = std::num::wrapping_sub_usize(replies.len(), r.written);
-    let stop = judged(input, r.taken, room);
-    let c = r.chip;
-    if stop != 0 {
-        return Progress {
-            chip: c,
-            taken: r.taken,
-            written: r.written,
-            stop,
-        };
+}
+
+// A record done.
+fn done(r: Progress, record: Bytes) -> Progress {
+    let kind = record[2];
+    let first = record[4];
+    let n = std::num::wrapping_sub_u8(record[0], 2);
+    let size = data(kind, first) as usize + 5;
+    let mut chip = r.chip;
+    let mut reply = bytes::with_four([0; 24], 0, (size - 2) as u32);
+    reply[2] = kind | 128;
+    for i in 0..events(kind, n, first) {
+        let at = i % 16;
+        let answer = chip::event(chip, kind as u32, record[4 + at]);
+        chip = answer.chip;
+        reply[4] = answer.refusal;
+        reply[5 + at] = answer.byte;
     }
-    let chip = worked(c, input, r.taken, replies, r.written);
     Progress {
         chip,
-        taken: bytes::on(r.taken, bytes::pair(input, r.taken) + 2),
-        written: bytes::on(r.written, bytes::pair(replies, r.written) + 2),
+        reply,
+        taken: std::num::wrapping_add_usize(r.taken, n as usize + 4),
+        written: std::num::wrapping_add_usize(r.written, size),
         stop: 0,
+    }
+}
+
+// One record more, unless the run has stopped or none is left.
+fn next(r: Progress, input: &[u8], replies: &mut [u8]) -> Progress {
+    if (r.stop != 0) | (input.len() <= r.taken) {
+        return r;
+    }
+    let at = r.written;
+    let record = bytes::read(input, r.taken);
+    let left = std::num::wrapping_sub_usize(input.len(), r.taken);
+    let stop = judged(
+        record,
+        left,
+        std::num::wrapping_sub_usize(replies.len(), at),
+    );
+    if stop != 0 {
+        let mut stopped = r;
+        stopped.stop = stop;
+        return stopped;
+    }
+    let after = done(r, record);
+    let reply = after.reply;
+    let size = std::num::wrapping_sub_usize(after.written, at);
+    bytes::write(replies, at, reply, size);
+    after
+}
+
+// What stops a run before its first record, or 0.
+fn first_stop(sound: bool, n: usize) -> u8 {
+    if !sound {
+        13
+    } else if 12288 < n {
+        9
+    } else {
+        0
     }
 }
 
@@ -149,29 +132,26 @@ pub fn run(state: &mut [u8], input: &[u8], replies: &mut [u8], report: &mut [u8]
     if report.len() != 9 {
         return 14;
     }
-    if !bytes::is_state(state) {
-        reported(report, 13, 0, 0);
-        return 13;
-    }
-    if 12288 < input.len() {
-        reported(report, 9, 0, 0);
-        return 9;
-    }
+    let chip = bytes::read(state, 0);
     let mut r = Progress {
-        chip: bytes::read_state(state),
+        chip,
+        reply: [0; 24],
         taken: 0,
         written: 0,
-        stop: 0,
+        stop: first_stop(chip::is_state(chip, state.len()), input.len()),
     };
     for _ in 0..3073u32 {
         r = next(r, input, replies);
     }
-    bytes::write_state(state, r.chip);
-    reported(
+    let after = r.chip;
+    bytes::write(state, 0, after, 19);
+    let told = bytes::with([0; 24], 0, r.stop);
+    let taken = bytes::with_four(told, 1, (r.taken % 4294967296) as u32);
+    bytes::write(
         report,
-        r.stop,
-        (r.taken % 4294967296) as u32,
-        (r.written % 4294967296) as u32,
+        0,
+        bytes::with_four(taken, 5, (r.written % 4294967296) as u32),
+        9,
     );
     r.stop as u32
 }
