@@ -6,14 +6,7 @@ use crate::host_floats::Host;
 
 // 256 times the refusal plus the byte read; a refused event leaves the state.
 pub fn event(state: &mut [u8], kind: u32, byte: u8) -> u32 {
-    let c = bytes::read(state, 0);
-    if !chip::is_state(c, state.len()) {
-        return 13 * 256;
-    }
-    if (kind == 0) | (6 < kind) {
-        return 5 * 256;
-    }
-    let r = chip::event(c, kind, byte);
+    let r = chip::event_of(bytes::read(state, 0), state.len(), kind, byte);
     let after = r.chip;
     bytes::write(state, 0, after, 19);
     r.refusal as u32 * 256 + r.byte as u32
@@ -26,7 +19,7 @@ fn handed(out: &mut [u8], h: Host) -> u32 {
     if h.refusal != 0 {
         return h.refusal as u32;
     }
-    bytes::write(out, 0, bytes::with_four([0; 24], 0, h.bits), 4);
+    bytes::write(out, 0, bytes::with_four([0; 32], 0, h.bits), 4);
     0
 }
 

@@ -57,11 +57,12 @@ fn combined(b: u32, a: u32, minus: bool) -> Kept {
     digits::combined(mantissa(b), raised(b), mantissa(a), raised(a), minus)
 }
 
-// The sum of two words, the second taken with the sign that is given: the greater magnitude has the sign.
-pub fn sum(b: u32, a: u32, negative: bool) -> Outcome {
-    let minus = is_negative(b) != negative;
-    let k = combined(b, a, minus);
-    if minus & k.below {
+// The sum of two words, or their difference: the greater magnitude has the sign.
+pub fn sum(minus: bool, b: u32, a: u32) -> Outcome {
+    let negative = is_negative(a) != minus;
+    let unlike = is_negative(b) != negative;
+    let k = combined(b, a, unlike);
+    if unlike & k.below {
         cut(negative, combined(a, b, true), 104)
     } else {
         cut(is_negative(b), k, 104)
@@ -126,6 +127,6 @@ pub fn fix(wide: bool, a: u32) -> Outcome {
 }
 
 // The sign turned where bit 23 is 1.
-pub fn chsf(w: u32) -> u32 {
-    w ^ (w & 8388608) << 8
+pub fn chsf(w: u32) -> Outcome {
+    made(w ^ (w & 8388608) << 8, 0, false)
 }

@@ -2,48 +2,75 @@
 use crate::bytes;
 use crate::bytes::Bytes;
 use crate::chip;
-ghost use Prim.Native.Nat.{_≤_};
 
-// How many bytes of data a reply has, by kind and the payload's first byte.
-fn data(kind: u8, first: u8) -> u8 {
+// A record's length, kind and first byte of payload.
+struct Head {
+    length: u32,
+    kind: u32,
+    first: u8,
+}
+
+// The number of two bytes, the low one first.
+fn pair(record: Bytes, at: usize) -> u32 {
+    let n = bytes::number(record, at) >> 16;
+    n % 256 * 256 + n / 256
+}
+
+fn head_of(record: Bytes) -> Head {
+    Head {
+        length: pair(record, 0),
+        kind: pair(record, 2),
+        first: bytes::byte(record, 4),
+    }
+}
+
+// How many bytes of data a reply has.
+fn data(h: Head) -> u8 {
+    let kind = h.kind;
     match kind {
-        2 => first,
+        2 => h.first,
         4 => 1,
         _ => 0,
     }
 }
 
-// Whether a payload of n bytes is one of its kind.
-fn suits(kind: u8, n: u8, first: u8) -> bool {
+// How many events a record is: one for each byte pushed or popped, else one.
+fn events(h: Head) -> usize {
+    let kind = h.kind;
     match kind {
-        1 => (1 <= n) & (n <= 16),
-        2 => (n == 1) & (1 <= first) & (first <= 16),
-        3 => n == 1,
-        _ => n == 0,
+        1 => std::num::wrapping_sub_u32(h.length, 2) as usize,
+        2 => h.first as usize,
+        _ => 1,
+    }
+}
+
+// Whether a record of a length from 2 to 18 is one of its kind.
+fn suits(h: Head) -> bool {
+    let kind = h.kind;
+    match kind {
+        1 => 2 < h.length,
+        2 => (h.length == 3) & (0 < h.first) & (h.first < 17),
+        3 => h.length == 3,
+        _ => h.length == 2,
     }
 }
 
 // Why a record stops the run, in 01's order, or 0; `left` and `room` are the bytes of input and of replies
 // from its place on.
-fn judged(record: Bytes, left: usize, room: usize) -> u8 {
-    let length = record[0];
-    let kind = record[2];
-    let first = record[4];
-    let long = (record[1] != 0) | (length < 2) | (length > 18);
-    if left < 2 {
-        6
-    } else if long {
+fn judged(h: Head, left: usize, room: usize) -> u8 {
+    let whole = (2 <= left) & (h.length as usize + 2 <= left);
+    let known = (1 <= h.kind) & (h.kind <= 6);
+    let short = room < data(h) as usize + 5;
+    if (2 <= left) & ((h.length < 2) | (18 < h.length)) {
         7
-    } else if std::num::wrapping_sub_usize(left, 2) < length as usize {
+    } else if !whole {
         6
-    } else if (record[3] != 0) | (kind == 0) | (kind > 6) {
+    } else if !known {
         5
-    } else if !suits(kind, std::num::wrapping_sub_u8(length, 2), first) {
+    } else if !suits(h) {
         7
-    } else if room < data(kind, first) as usize + 5 {
-        8
     } else {
-        0
+        (short as u8) << 3
     }
 }
 
@@ -57,74 +84,89 @@ struct Progress {
     stop: u8,
 }
 
-// How many events a record is: one for each byte pushed or popped, else one.
-fn events(kind: u8, n: u8, first: u8) -> usize {
-    match kind {
-        1 => n as usize,
-        2 => first as usize,
-        _ => 1,
+fn begun(chip: Bytes, stop: u8) -> Progress {
+    Progress {
+        chip,
+        reply: [0; 32],
+        taken: 0,
+        written: 0,
+        stop,
     }
 }
 
+// A reply without its data and the refusal.
+fn reply_to(h: Head) -> Bytes {
+    let size = bytes::with_four([0; 32], 0, data(h) as u32 + 3);
+    bytes::with(size, 2, (h.kind % 128) as u8 | 128)
+}
+
 // A record done.
-fn done(r: Progress, record: Bytes) -> Progress {
-    let kind = record[2];
-    let first = record[4];
-    let n = std::num::wrapping_sub_u8(record[0], 2);
-    let size = data(kind, first) as usize + 5;
+fn done(r: Progress, h: Head, record: Bytes) -> Progress {
     let mut chip = r.chip;
-    let mut reply = bytes::with_four([0; 24], 0, (size - 2) as u32);
-    reply[2] = kind | 128;
-    for i in 0..events(kind, n, first) {
+    let mut reply = reply_to(h);
+    for i in 0..events(h) {
         let at = i % 16;
-        let answer = chip::event(chip, kind as u32, record[4 + at]);
+        let answer = chip::event(chip, h.kind, bytes::byte(record, 4 + at));
         chip = answer.chip;
-        reply[4] = answer.refusal;
-        reply[5 + at] = answer.byte;
+        reply = bytes::with(bytes::with(reply, 4, answer.refusal), 5 + at, answer.byte);
     }
     Progress {
         chip,
         reply,
-        taken: std::num::wrapping_add_usize(r.taken, n as usize + 4),
-        written: std::num::wrapping_add_usize(r.written, size),
+        taken: std::num::wrapping_add_usize(r.taken, h.length as usize + 2),
+        written: std::num::wrapping_add_usize(r.written, data(h) as usize + 5),
         stop: 0,
     }
 }
 
-// One record more, unless the run has stopped or none is left.
+// What becomes of a run by the record at its place.
+fn judged_and_done(r: Progress, record: Bytes, left: usize, room: usize) -> Progress {
+    let h = head_of(record);
+    let stop = judged(h, left, room);
+    if stop == 0 {
+        done(r, h, record)
+    } else {
+        stopped(r, stop)
+    }
+}
+
+fn stopped(r: Progress, stop: u8) -> Progress {
+    let mut after = r;
+    after.stop = stop;
+    after
+}
+
+// One record more, unless the run has stopped or none is left; a run that stops writes nothing.
 fn next(r: Progress, input: &[u8], replies: &mut [u8]) -> Progress {
     if (r.stop != 0) | (input.len() <= r.taken) {
         return r;
     }
     let at = r.written;
-    let record = bytes::read(input, r.taken);
     let left = std::num::wrapping_sub_usize(input.len(), r.taken);
-    let stop = judged(
-        record,
-        left,
-        std::num::wrapping_sub_usize(replies.len(), at),
-    );
-    if stop != 0 {
-        let mut stopped = r;
-        stopped.stop = stop;
-        return stopped;
-    }
-    let after = done(r, record);
+    let room = std::num::wrapping_sub_usize(replies.len(), at);
+    let after = judged_and_done(r, bytes::read(input, r.taken), left, room);
     let reply = after.reply;
-    let size = std::num::wrapping_sub_usize(after.written, at);
-    bytes::write(replies, at, reply, size);
+    bytes::write(
+        replies,
+        at,
+        reply,
+        std::num::wrapping_sub_usize(after.written, at),
+    );
     after
 }
 
 // What stops a run before its first record, or 0.
 fn first_stop(sound: bool, n: usize) -> u8 {
-    if !sound {
-        13
-    } else if 12288 < n {
-        9
-    } else {
-        0
+    match sound {
+        false => 13,
+        true => if 12288 < n { 9 } else { 0 },
     }
+}
+
+fn report_of(r: Progress) -> Bytes {
+    let stop = bytes::with([0; 32], 0, r.stop);
+    let taken = bytes::with_four(stop, 1, (r.taken % 4294967296) as u32);
+    bytes::with_four(taken, 5, (r.written % 4294967296) as u32)
 }
 
 // A record has at least four bytes, so the turns are enough for every file.
@@ -133,25 +175,13 @@ pub fn run(state: &mut [u8], input: &[u8], replies: &mut [u8], report: &mut [u8]
         return 14;
     }
     let chip = bytes::read(state, 0);
-    let mut r = Progress {
-        chip,
-        reply: [0; 24],
-        taken: 0,
-        written: 0,
-        stop: first_stop(chip::is_state(chip, state.len()), input.len()),
-    };
+    let stop = first_stop(chip::is_state(chip, state.len()), input.len());
+    let mut r = begun(chip, stop);
     for _ in 0..3073u32 {
         r = next(r, input, replies);
     }
     let after = r.chip;
     bytes::write(state, 0, after, 19);
-    let told = bytes::with([0; 24], 0, r.stop);
-    let taken = bytes::with_four(told, 1, (r.taken % 4294967296) as u32);
-    bytes::write(
-        report,
-        0,
-        bytes::with_four(taken, 5, (r.written % 4294967296) as u32),
-        9,
-    );
+    bytes::write(report, 0, report_of(r), 9);
     r.stop as u32
 }

@@ -1,11 +1,14 @@
 // Runs the exported calls and the second opinion side by side over edge words and drawn words: every command
-// that makes a word of words, and the conversions. Prints a line for each group: its name, how many were
-// compared, how many differ. The first case that differs in a group is shown before its line.
+// that makes a word of words, and the conversions; and the chip by value over states, all 256 codes among its
+// events. Prints a line for each group: its name, how many were compared, how many differ. The first case that
+// differs in a group is shown before its line.
 use cases::bytes;
 use cases::tally;
 use cases::tally::Tally;
 use words::Pair;
 
+// Events on states of the chip.
+mod states;
 // The operands of a case.
 mod words;
 
@@ -51,25 +54,32 @@ fn compared_bits(t: Tally, side: u32, bits: u32, size: usize, i: u32) -> Tally {
     tally::seen(t, i, told, second, &x, &y)
 }
 
+// One case more of an operation's part, or of a part of the chip's states.
+fn seen(t: Tally, op: u32, part: u32, i: u32) -> Tally {
+    let p = words::operands(op, part, i);
+    match op {
+        23 | 24 => compared_bits(t, op - 23, p.a, words::size(part, i), i),
+        25 => states::seen(t, part, i),
+        _ => commanded(t, op, p, i),
+    }
+}
+
 fn compared(op: u32, part: u32) -> Tally {
     let mut t = tally::none();
     for i in 0..words::count(op, part) {
-        let p = words::operands(op, part, i);
-        t = match op {
-            23 | 24 => compared_bits(t, op - 23, p.a, words::size(part, i), i),
-            _ => commanded(t, op, p, i),
-        };
+        t = seen(t, op, part, i);
     }
     t
 }
 
 fn main() {
     let names =
-        b"SADD SSUB SMUL SMUU SDIV CHSS DADD DSUB DMUL DMUU DDIV CHSD FADD FSUB FMUL FDIV FIXD FIXS FLTD FLTS CHSF PROP SQRT to_f32 to_word";
-    let parts = b"edges distances neighbours squares exponents slices drawn";
-    for group in 0..175u32 {
-        let op = group / 7;
-        let part = group % 7;
+        b"SADD SSUB SMUL SMUU SDIV CHSS DADD DSUB DMUL DMUU DDIV CHSD FADD FSUB FMUL FDIV FIXD FIXS FLTD FLTS CHSF PROP SQRT to_f32 to_word chip";
+    let parts =
+        b"edges distances neighbours squares exponents slices drawn grid half-words busy codes events";
+    for group in 0..312u32 {
+        let op = group / 12;
+        let part = group % 12;
         if words::count(op, part) > 0 {
             tally::line(names, op as usize, parts, part as usize, compared(op, part));
         }

@@ -1,5 +1,7 @@
 // The operands of a case. An operation is a number: 0 to 5 fixed point at 16 bits, 6 to 11 at 32, 12 to 15 two
-// float words to one, 16 to 22 one word to another, 23 and 24 the conversions.
+// float words to one, 16 to 22 one word to another, 23 and 24 the conversions; 25 are
+// the events on states.
+use crate::states;
 use cases::words;
 ghost use Prim.Native.Nat.{_<_};
 
@@ -24,25 +26,43 @@ pub fn is_narrow(op: u32) -> bool {
 // How many cases a part of an operation has, 0 where it has not this part.
 pub fn count(op: u32, part: u32) -> u32 {
     match part {
-        0 => match op {
-            0..=4 => 102 * 102,
-            5 => 102,
-            6..=10 => 198 * 198,
-            12..=15 => 91 * 91,
-            16 | 17 | 22 => 5 * 128 * 2,
-            19 => 65536,
-            _ => 198,
-        },
+        0 => edge_count(op),
         1 => if float_pair(op) { 12800 } else { 0 },
         2 => if float_pair(op) { 2304 } else { 0 },
         3 => if op == 22 { 6144 } else { 0 },
-        4 => match op {
-            23 => 8192,
-            24 => 16384,
-            _ => 0,
-        },
-        5 => if 23 <= op { 198 * 8 } else { 0 },
-        _ => if float_pair(op) { 8192 } else { 4096 },
+        4 => exponent_count(op),
+        5 => if (op == 23) | (op == 24) { 198 * 8 } else { 0 },
+        6 => drawn_count(op),
+        _ => if op == 25 { states::count(part) } else { 0 },
+    }
+}
+
+fn edge_count(op: u32) -> u32 {
+    match op {
+        0 | 1 | 2 | 3 | 4 => 102 * 102,
+        5 => 102,
+        6 | 7 | 8 | 9 | 10 => 198 * 198,
+        12 | 13 | 14 | 15 => 91 * 91,
+        16 | 17 | 22 => 5 * 128 * 2,
+        19 => 65536,
+        25 => 0,
+        _ => 198,
+    }
+}
+
+fn exponent_count(op: u32) -> u32 {
+    match op {
+        23 => 8192,
+        24 => 16384,
+        _ => 0,
+    }
+}
+
+fn drawn_count(op: u32) -> u32 {
+    match op {
+        12 | 13 | 14 | 15 => 8192,
+        25 => 0,
+        _ => 4096,
     }
 }
 
@@ -90,9 +110,9 @@ fn fractions(i: u32) -> u32 {
 // All pairs of edge words, of `floats`; single words.
 fn edge_pair(op: u32, i: u32) -> Pair {
     match op {
-        0..=5 => two(words::edge(false, i / 102), words::edge(false, i % 102)),
-        6..=11 => two(words::edge(true, i / 198), words::edge(true, i % 198)),
-        12..=15 => two(floats(i / 91), floats(i % 91)),
+        0 | 1 | 2 | 3 | 4 | 5 => two(words::edge(false, i / 102), words::edge(false, i % 102)),
+        6 | 7 | 8 | 9 | 10 | 11 => two(words::edge(true, i / 198), words::edge(true, i % 198)),
+        12 | 13 | 14 | 15 => two(floats(i / 91), floats(i % 91)),
         16 | 17 | 22 => one(fractions(i)),
         19 => one(i),
         _ => one(words::edge(true, i)),
@@ -183,9 +203,9 @@ fn drawn_pair(op: u32, i: u32) -> Pair {
     let y = words::drawn(at + 1);
     let z = words::drawn(at + 2);
     match op {
-        0..=5 => two(x % 65536, words::sized(i, y % 65536, z)),
-        6..=11 => two(x, words::sized(i, y, z)),
-        12..=15 => drawn_floats(i, x, y, z),
+        0 | 1 | 2 | 3 | 4 | 5 => two(x % 65536, words::sized(i, y % 65536, z)),
+        6 | 7 | 8 | 9 | 10 | 11 => two(x, words::sized(i, y, z)),
+        12 | 13 | 14 | 15 => drawn_floats(i, x, y, z),
         16 | 17 => one(words::float(2147483648 <= x, (56 + x % 48) * 8388608 + y % 8388608)),
         19 => one(words::sized(i, x, y) % 65536),
         22 => one(words::float(x % 8 == 0, y)),

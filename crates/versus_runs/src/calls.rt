@@ -67,12 +67,12 @@ fn edge_room(i: u32) -> usize {
 pub fn run_at(group: u32, i: u32) -> Case {
     let few = (i % 128) as usize;
     match group {
-        5 => sound(i, 1 + i % 24, INPUT, 0, ROOM),
-        6 => sound(i / 128, 16, few, 0, ROOM),
-        7 => sound(i, 1 + i % 8, INPUT, 1 + i % 2, ROOM),
-        8 => sound(i / 128, 16, INPUT, 0, few),
-        9 => sound(i, 2400, 12264 + (i % 40) as usize, 0, ROOM),
-        10 => unsound(i),
+        0 => sound(i, 1 + i % 24, INPUT, 0, ROOM),
+        1 => sound(i / 128, 16, few, 0, ROOM),
+        2 => sound(i, 1 + i % 8, INPUT, 1 + i % 2, ROOM),
+        3 => sound(i / 128, 16, INPUT, 0, few),
+        4 => sound(i, 2400, 12264 + (i % 40) as usize, 0, ROOM),
+        5 => unsound(i),
         _ => sound(i, 0, INPUT, 0, edge_room(i / 5280)),
     }
 }

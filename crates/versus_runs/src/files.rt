@@ -71,8 +71,8 @@ fn record(size: u8, kind: u8, n: u32, seed: u32) -> [u8; 24] {
     let mut r = [0u8; 24];
     r[0] = std::num::wrapping_add_u8(size, 2);
     r[2] = kind;
-    for i in 0..16usize {
-        r[4 + i] = payload(kind, n, seed, i);
+    for i in 0..size as usize {
+        r[4 + i % 16] = payload(kind, n, seed, i);
     }
     r
 }
@@ -148,12 +148,18 @@ pub fn state_size(fault: u32) -> usize {
 pub fn state(seed: u32, fault: u32) -> [u8; 20] {
     let n = words::drawn(seed);
     let over = (2 + n / 1024 % 8 * 36) as u8;
-    let mut s = [0u8; 20];
-    for i in 0..20usize {
-        s[i] = bytes::byte_of(words::drawn(seed % 65536 * 64 + i as u32), 0);
+    let pending = match fault {
+        4 => over,
+        _ => (n % 4 == 0) as u8,
+    };
+    let busy = ((fault == 5) as u8) << 7;
+    let sound = bytes::state(words::any(n), words::any(seed), pending, busy, seed);
+    let mut s = [165u8; 20];
+    for i in 0..19usize {
+        s[i] = sound[i];
     }
-    s[16] = if fault == 4 { over } else { (n % 4 == 0) as u8 };
-    s[17] = (n / 8 % 128) as u8 | ((fault == 5) as u8) << 7;
-    s[18] = if fault == 6 { over } else { (n / 4 % 2) as u8 };
+    if fault == 6 {
+        s[18] = over;
+    }
     s
 }

@@ -5,10 +5,10 @@ use Rattle.versus_runs.proofs.files.state.Statement.{statement}
 use Rattle.versus_runs.proofs.files.state.Tie as tie
 
 abbrev Inv-loop : tie.InvT-loop
-Inv-loop seed fault n over s₀ i₀ s i = i ≤ 20
+Inv-loop seed fault n over pending busy sound s₀ i₀ s i = i ≤ 19
 
 abbrev μ-loop : tie.MeasureT-loop
-μ-loop seed fault n over s₀ i₀ s i = 20 - i
+μ-loop seed fault n over pending busy sound s₀ i₀ s i = 19 - i
 
 pub state-spec : {M : Type 1} → statement M
-state-spec = tie.close (tie.spec Inv-loop μ-loop (λ c κs. search needs) (λ c. search needs) (λ c. search needs) (λ c. search needs) (λ c. search needs) (λ c. search needs) (λ c. search needs) (λ c. search needs) (λ c κs. search needs) (λ c κs. search needs) (λ c. search needs) (λ c. search needs) (λ c. search needs) (λ c. search needs) (λ c. search needs) (λ c. search needs) (λ c. search needs) (λ c. search needs) (λ c. search needs) (λ c. search needs) (λ c. search needs) (λ c. search needs))
+state-spec = tie.close (tie.spec Inv-loop μ-loop (λ c κs. search needs) (λ c. search needs) (λ c. search needs) (λ c. search needs) (λ c. search needs) (λ c. search needs) (λ c κs. search needs) (λ c κs. search needs) (λ c κs. search needs) (λ c. search needs) (λ c. search needs) (λ c. search needs) (λ c. search needs) (λ c. search needs) (λ c. search needs) (λ c. search needs) (λ c. search needs) (λ c. search needs))

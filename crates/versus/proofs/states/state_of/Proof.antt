@@ -1,8 +1,8 @@
 -- The places are counted. Assumes nothing.
 use Prim.Native.Nat.{_-_, _≤_}
 use borrow.Author.Needs.{needs}
-use Rattle.versus_runs.proofs.states.state_of.Statement.{statement}
-use Rattle.versus_runs.proofs.states.state_of.Tie as tie
+use Rattle.versus.proofs.states.state_of.Statement.{statement}
+use Rattle.versus.proofs.states.state_of.Tie as tie
 
 abbrev Inv-loop : tie.InvT-loop
 Inv-loop s stack₀ i₀ stack i = i ≤ 16

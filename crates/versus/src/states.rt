@@ -52,15 +52,25 @@ fn any_state(i: u32) -> [u8; 19] {
     )
 }
 
+// The cases of a part, from 7 to 11.
+pub fn count(part: u32) -> u32 {
+    match part {
+        7 => 24 * 24 * 256,
+        8 | 9 => 24 * 256,
+        10 => 256 * 256,
+        _ => 6 * 4096,
+    }
+}
+
 // The state i of a part: all pairs of the grid, the grid with a half word, the grid while busy, drawn states
 // for every code, drawn states for every event.
 fn state_at(part: u32, i: u32) -> [u8; 19] {
     let j = i / 256;
     match part {
-        0 => bytes::state(grid(j), grid(j / GRID), 0, 0, j),
-        1 => bytes::state(grid(j), grid(j + 1), 1, 0, j),
-        2 => bytes::state(grid(j), grid(j + 1), (j % 2) as u8, 128, j),
-        3 => any_state(j),
+        7 => bytes::state(grid(j), grid(j / GRID), 0, 0, j),
+        8 => bytes::state(grid(j), grid(j + 1), 1, 0, j),
+        9 => bytes::state(grid(j), grid(j + 1), (j % 2) as u8, 128, j),
+        10 => any_state(j),
         _ => any_state(i),
     }
 }
@@ -103,7 +113,7 @@ fn answer(s: State, kind: u32, byte: u8) -> Answer {
 
 // One event more: a command with every code in turn, and in the last part every event with a drawn byte.
 pub fn seen(t: Tally, part: u32, i: u32) -> Tally {
-    let any = part == 4;
+    let any = part == 11;
     let kind = if any { 1 + i % 6 } else { 3 };
     let code = if any { words::drawn(i) } else { i };
     let byte = (code % 256) as u8;
