@@ -177,7 +177,7 @@ pub fn run(state: &mut [u8], input: &[u8], replies: &mut [u8], report: &mut [u8]
     let chip = bytes::read(state, 0);
     let stop = first_stop(chip::is_state(chip, state.len()), input.len());
     let mut r = begun(chip, stop);
-    for _ in 0..3073u32 {
+    for _ in 0..input.len() / 4 + 1 {
         r = next(r, input, replies);
     }
     let after = r.chip;
