@@ -1,23 +1,15 @@
 // The single event and the conversions on lent slices.
 use crate::bytes;
+use crate::chip;
 use crate::host_floats;
 use crate::host_floats::Host;
-use crate::ring;
 
-// 256 times the refusal plus the byte read; a refused event writes nothing.
+// 256 times the refusal plus the byte read; a refused event leaves the state.
 pub fn event(state: &mut [u8], kind: u32, byte: u8) -> u32 {
-    if !bytes::is_state(state) {
-        return 13 * 256;
-    }
-    if kind == 0 || 6 < kind {
-        return 5 * 256;
-    }
-    let r = ring::event(bytes::read_state(state), kind, byte);
-    if r.refusal != 0 {
-        return r.refusal as u32 * 256;
-    }
-    bytes::write_state(state, r.chip);
-    r.byte as u32
+    let r = chip::event_of(bytes::read(state, 0), state.len(), kind, byte);
+    let after = r.chip;
+    bytes::write(state, 0, after, 19);
+    r.refusal as u32 * 256 + r.byte as u32
 }
 
 fn handed(out: &mut [u8], h: Host) -> u32 {
@@ -27,7 +19,7 @@ fn handed(out: &mut [u8], h: Host) -> u32 {
     if h.refusal != 0 {
         return h.refusal as u32;
     }
-    bytes::put_four(out, 0, h.bits);
+    bytes::write(out, 0, bytes::with_four([0; 32], 0, h.bits), 4);
     0
 }
 

@@ -1,133 +1,71 @@
-// Whole numbers as 320 binary digits, the digit of weight 2^i at place i: exact sums, differences,
-// products, quotients and roots, a digit at a time.
+// Whole numbers, a binary digit at a time.
 
-// The places of a number.
-pub const PLACES: usize = 320;
-
-// n written from a place on; what would stand past the last place is left out.
-pub fn number(n: u32, at: usize) -> [u8; 320] {
-    let mut digits = [0u8; 320];
-    let mut place = at;
-    let mut rest = n;
-    while rest > 0 {
-        if place < PLACES {
-            digits[place] = (rest % 2) as u8;
-            place += 1;
-        }
-        rest /= 2;
-    }
-    digits
-}
-
-pub fn plus(x: [u8; 320], y: [u8; 320]) -> [u8; 320] {
-    let mut sum = [0u8; 320];
-    let mut carry: u8 = 0;
-    for i in 0..PLACES {
-        sum[i] = x[i] ^ y[i] ^ carry;
-        carry = (x[i] & y[i]) | (carry & (x[i] | y[i]));
-    }
-    sum
-}
-
-// x - y, where y is not above x.
-pub fn minus(x: [u8; 320], y: [u8; 320]) -> [u8; 320] {
-    let mut difference = [0u8; 320];
-    let mut borrow: u8 = 0;
-    for i in 0..PLACES {
-        difference[i] = x[i] ^ y[i] ^ borrow;
-        borrow = (y[i] & borrow) | ((x[i] ^ 1) & (y[i] | borrow));
-    }
-    difference
-}
-
-// Whether x is below y: the highest place where they differ tells.
-pub fn below(x: [u8; 320], y: [u8; 320]) -> bool {
-    let mut told = false;
-    for i in 0..PLACES {
-        if x[i] != y[i] {
-            told = x[i] < y[i];
-        }
-    }
-    told
-}
-
-// One more than the highest place with a digit 1, and 0 where there is none.
-pub fn length(x: [u8; 320]) -> usize {
-    let mut all: usize = 0;
-    for i in 0..PLACES {
-        if x[i] == 1 {
-            all = i + 1;
-        }
-    }
-    all
-}
-
-// The number that the n digits below a place spell; below the lowest place stand zeros.
-pub fn spelled(x: [u8; 320], below: usize, n: usize) -> u64 {
-    let mut all: u64 = 0;
-    let mut place = below;
-    for _ in 0..n {
-        all = std::num::wrapping_add_u64(all, all);
-        if 0 < place {
-            place -= 1;
-            if place < PLACES {
-                all = std::num::wrapping_add_u64(all, x[place] as u64);
-            }
-        }
-    }
-    all
-}
-
-// b times a, written from a place on.
-pub fn product(b: u32, a: u32, at: usize) -> [u8; 320] {
-    let mut sum = [0u8; 320];
-    let mut place = at;
+// b times a, modulo 2^64: the one is doubled while the other is halved.
+pub fn product(b: u64, a: u64) -> u64 {
+    let mut sum: u64 = 0;
+    let mut part = b;
     let mut rest = a;
     while rest > 0 {
         if rest % 2 == 1 {
-            let next = plus(sum, number(b, place));
-            sum = next;
+            sum = std::num::wrapping_add_u64(sum, part);
         }
-        place = std::num::wrapping_add_usize(place, 1);
+        part = part << 1;
         rest /= 2;
     }
     sum
 }
 
-// The first 33 digits of b over a, for b below 2 a, the digit of weight 1 at a place and the rest below it.
-pub fn quotient(b: u32, a: u32, at: usize) -> [u8; 320] {
-    let mut digits = [0u8; 320];
-    let mut place = at;
-    let mut rest = b as u64;
-    for _ in 0..33u32 {
-        if rest >= a as u64 {
-            rest -= a as u64;
-            if place < PLACES {
-                digits[place] = 1;
-            }
+// The greatest number below 2^32 whose product with a, or with itself, is not above x: the quotient and
+// the root, tried from the highest digit down.
+pub fn greatest(x: u64, a: u64, with_itself: bool) -> u64 {
+    let mut found: u64 = 0;
+    let mut digit: u64 = 2147483648;
+    while digit > 0 {
+        let tried = found | digit;
+        let factor = if with_itself { tried } else { a };
+        if product(tried, factor) <= x {
+            found = tried;
         }
-        rest = std::num::wrapping_add_u64(rest, rest);
-        place = std::num::wrapping_sub_usize(place, 1);
+        digit /= 2;
     }
-    digits
+    found
 }
 
-// The first 24 digits of the root of x below 2^192, from place 95 down: a digit is 1 where the square of
-// the digits so far, with it, is not above x.
-pub fn root(x: [u8; 320]) -> [u8; 320] {
-    let mut place: usize = 96;
-    let mut found: u32 = 0;
-    while 0 < place {
-        place -= 1;
-        let tried = found * 2 + 1;
-        found = if below(x, product(tried, tried, place * 2)) {
-            tried - 1
-        } else {
-            tried
-        };
-        if 8388608 <= found {
-            break;
+// What is kept of a whole number: its first 24 digits, and how many it has; `below`: it is negative, and
+// nothing of it is kept.
+pub struct Kept {
+    pub digits: u32,
+    pub length: u32,
+    pub below: bool,
+}
+
+// The digit of weight 2^place in n times 2^at.
+fn digit(n: u64, at: u32, place: u32) -> u32 {
+    let i = std::num::wrapping_sub_u32(place, at);
+    if i < 64 { ((n >> i) % 2) as u32 } else { 0 }
+}
+
+// b times 2^i, plus or minus a times 2^j, from the lowest digit up: `last` are the last 24 of the result.
+pub fn combined(b: u64, i: u32, a: u64, j: u32, minus: bool) -> Kept {
+    let turn = minus as u32;
+    let mut carry: u32 = 0;
+    let mut last: u32 = 0;
+    let mut digits: u32 = 0;
+    let mut length: u32 = 0;
+    for place in 0..320u32 {
+        let x = digit(b, i, place);
+        let y = digit(a, j, place);
+        let sum = x ^ y ^ carry;
+        carry = (x ^ turn) & y | carry & (x ^ turn | y);
+        last = last >> 1 | sum << 23;
+        if sum == 1 {
+            digits = last;
+            length = place + 1;
         }
     }
-    number(found, place)
+    Kept {
+        digits,
+        length,
+        below: carry == 1,
+    }
 }

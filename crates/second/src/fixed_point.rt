@@ -1,228 +1,95 @@
-// Fixed point at 16 bits, or 32 where `wide`: sums by halves of a word, products and quotients
-// a bit at a time on magnitudes. A word of 16 bits stands in the low half of a u32.
-ghost use Prim.Native.Nat.{_<_};
+// Fixed point at 16 or 32 bits, in 64 bits of two's complement: a result overflows where the sign of its
+// low word, spread over 64 bits, does not give it back. A word of 16 bits stands in the low half of a u32.
+use crate::digits;
 
-// What a command leaves: the word, the error field (divide by zero 8, overflow 1) and carry or borrow.
-pub struct Made {
+// What a command leaves: the word, the error field and carry or borrow.
+pub struct Outcome {
     pub word: u32,
     pub error: u8,
     pub carry: bool,
 }
 
-// The low half of a word.
-fn lower(wide: bool, w: u32) -> u32
-    ensures { λ r. ⌜ r < 65536 ⌝ }
-{
-    if wide { w % 65536 } else { w % 256 }
+pub fn made(word: u32, error: u8, carry: bool) -> Outcome {
+    Outcome { word, error, carry }
 }
 
-// What stands above the low half.
-fn upper(wide: bool, w: u32) -> u32
-    ensures { λ r. ⌜ r < 65536 ⌝ }
-{
-    if wide { w / 65536 } else { w / 256 % 256 }
+// 0 - x.
+fn opposite(x: u64) -> u64 {
+    std::num::wrapping_sub_u64(0, x)
 }
 
-// A word from its halves.
-fn joined(wide: bool, high: u32, low: u32) -> u32 {
-    if wide {
-        high % 65536 * 65536 + low % 65536
-    } else {
-        high % 256 * 256 + low % 256
+// A word whose sign has the weight h, with that sign in every bit above it.
+pub fn spread(h: u64, w: u64) -> u64 {
+    std::num::wrapping_sub_u64(w ^ h, h)
+}
+
+pub fn is_negative(x: u64) -> bool {
+    x >> 63 == 1
+}
+
+pub fn magnitude(x: u64) -> u64 {
+    if is_negative(x) { opposite(x) } else { x }
+}
+
+// x over y, towards zero.
+fn quotient(x: u64, y: u64) -> u64 {
+    let q = digits::greatest(magnitude(x), magnitude(y), false);
+    if is_negative(x ^ y) { opposite(q) } else { q }
+}
+
+// The result of an operation, exact but for MUU's, whose lower word is left out.
+fn exact(op: u8, mask: u64, x: u64, y: u64) -> u64 {
+    match op {
+        0x0C => std::num::wrapping_add_u64(x, y),
+        0x0D => std::num::wrapping_sub_u64(x, y),
+        0x0E => digits::product(x, y),
+        0x0F => quotient(x, y),
+        0x14 => opposite(y),
+        _ => match mask {
+            65535 => digits::product(x, y) >> 16,
+            _ => digits::product(x, y) >> 32,
+        },
     }
 }
 
-// The low n bits of a number.
-fn low_bits(wide: bool, x: u64) -> u32 {
-    if wide {
-        (x % 4294967296) as u32
-    } else {
-        (x % 65536) as u32
+// A sum passes a carry on where it is above `mask`, a difference a borrow where A is above B.
+fn carries(op: u8, mask: u64, b: u32, a: u32) -> bool {
+    match op {
+        0x0C => mask < b as u64 + a as u64,
+        0x0D => b < a,
+        _ => false,
     }
 }
 
-fn least(wide: bool) -> u32 {
-    if wide { 2147483648 } else { 32768 }
-}
-
-fn negative(wide: bool, w: u32) -> bool {
-    least(wide) <= w
-}
-
-// Every bit of the word turned.
-fn turned(wide: bool, w: u32) -> u32 {
-    low_bits(wide, (4294967295 - w) as u64)
-}
-
-// 0 - w.
-fn opposite(wide: bool, w: u32) -> u32 {
-    low_bits(wide, std::num::wrapping_sub_u32(0, w) as u64)
-}
-
-fn magnitude(wide: bool, w: u32) -> u32 {
-    if negative(wide, w) {
-        opposite(wide, w)
-    } else {
-        w
+// Whether a least operand tells the result: for a product and a quotient either one.
+fn is_told(op: u8, least_b: bool, least_a: bool) -> bool {
+    match op {
+        0x0E | 0x0F | 0x16 => least_b | least_a,
+        _ => false,
     }
 }
 
-fn overflow(over: bool) -> u8 {
-    if over { 1 } else { 0 }
-}
-
-// b + a + more, the low halves first; the carry is what the upper half passes on.
-fn summed(wide: bool, b: u32, a: u32, more: u32) -> Made
-    requires { ⌜ more < 2 ⌝ }
-{
-    let low = lower(wide, b) + lower(wide, a) + more;
-    let high = upper(wide, b) + upper(wide, a) + upper(wide, low);
-    Made {
-        word: joined(wide, lower(wide, high), lower(wide, low)),
-        error: 0,
-        carry: 0 < upper(wide, high),
+// Whether a result overflows: an upper word never does; a difference does for A least whatever B is.
+fn overflows(op: u8, fits: bool, least_a: bool) -> bool {
+    match op {
+        0x0D => !fits | least_a,
+        0x16 => false,
+        _ => !fits,
     }
 }
 
-// Overflow where two words of one sign give a word of the other.
-pub fn add(wide: bool, b: u32, a: u32) -> Made {
-    let sum = summed(wide, b, a, 0);
-    let sign = negative(wide, b);
-    let over = sign == negative(wide, a) && sign != negative(wide, sum.word);
-    Made {
-        word: sum.word,
-        error: overflow(over),
-        carry: sum.carry,
+// The words of a width are those up to `mask`; what stands above it in the result is not looked at.
+// Errors: divide by zero 8, which leaves B; overflow 1, with least where a least operand tells the result.
+pub fn fixed(op: u8, mask: u64, b: u32, a: u32) -> Outcome {
+    let h = mask ^ mask >> 1;
+    let least_a = a as u64 == h;
+    if (op == 0x0F) & (a == 0) {
+        return made(b, 8, false);
     }
-}
-
-// B plus the turned bits of A plus 1. Overflow where two words of unlike sign give a word of A's sign,
-// and for A least whatever B is.
-pub fn sub(wide: bool, b: u32, a: u32) -> Made {
-    let difference = summed(wide, b, turned(wide, a), 1);
-    let sign = negative(wide, a);
-    let over = sign != negative(wide, b) && sign == negative(wide, difference.word);
-    Made {
-        word: difference.word,
-        error: overflow(over || a == least(wide)),
-        carry: !difference.carry,
+    if is_told(op, b as u64 == h, least_a) {
+        return made((h % 4294967296) as u32, 1, false);
     }
-}
-
-// The product of two magnitudes: one is halved while the other is doubled.
-fn product(b: u32, a: u32) -> u64 {
-    let mut sum: u64 = 0;
-    let mut part = b as u64;
-    let mut rest = a;
-    while rest > 0 {
-        if rest % 2 == 1 {
-            sum = std::num::wrapping_add_u64(sum, part);
-        }
-        part = std::num::wrapping_add_u64(part, part);
-        rest /= 2;
-    }
-    sum
-}
-
-// The product of two words with its sign, in two's complement of 64 bits.
-fn signed_product(wide: bool, b: u32, a: u32) -> u64 {
-    let p = product(magnitude(wide, b), magnitude(wide, a));
-    if negative(wide, b) == negative(wide, a) {
-        p
-    } else {
-        std::num::wrapping_sub_u64(0, p)
-    }
-}
-
-// The row of 01 for a least operand: least, with overflow.
-fn meaningless(wide: bool) -> Made {
-    Made {
-        word: least(wide),
-        error: 1,
-        carry: false,
-    }
-}
-
-// Overflow where the low half, read with its sign, has not the magnitude of the product.
-pub fn mul(wide: bool, b: u32, a: u32) -> Made {
-    if b == least(wide) || a == least(wide) {
-        return meaningless(wide);
-    }
-    let p = signed_product(wide, b, a);
-    let word = low_bits(wide, p);
-    let back = if negative(wide, word) {
-        std::num::wrapping_sub_u64(0, magnitude(wide, word) as u64)
-    } else {
-        word as u64
-    };
-    Made {
-        word,
-        error: overflow(p != back),
-        carry: false,
-    }
-}
-
-pub fn muu(wide: bool, b: u32, a: u32) -> Made {
-    if b == least(wide) || a == least(wide) {
-        return meaningless(wide);
-    }
-    let p = signed_product(wide, b, a);
-    let above = if wide { p / 4294967296 } else { p / 65536 };
-    Made {
-        word: low_bits(wide, above),
-        error: 0,
-        carry: false,
-    }
-}
-
-// The quotient of two magnitudes, from the top bit of b down.
-fn quotient(b: u32, a: u32) -> u32 {
-    let mut left = b;
-    let mut rest: u64 = 0;
-    let mut digits: u32 = 0;
-    for _ in 0..32u32 {
-        rest = std::num::wrapping_add_u64(rest, rest);
-        if left >= 2147483648 {
-            rest = std::num::wrapping_add_u64(rest, 1);
-        }
-        left = std::num::wrapping_add_u32(left, left);
-        digits = std::num::wrapping_add_u32(digits, digits);
-        if rest >= a as u64 {
-            rest -= a as u64;
-            digits = std::num::wrapping_add_u32(digits, 1);
-        }
-    }
-    digits
-}
-
-pub fn div(wide: bool, b: u32, a: u32) -> Made {
-    if a == 0 {
-        return Made {
-            word: b,
-            error: 8,
-            carry: false,
-        };
-    }
-    if b == least(wide) || a == least(wide) {
-        return meaningless(wide);
-    }
-    let q = quotient(magnitude(wide, b), magnitude(wide, a));
-    let word = if negative(wide, b) == negative(wide, a) {
-        q
-    } else {
-        opposite(wide, q)
-    };
-    Made {
-        word,
-        error: 0,
-        carry: false,
-    }
-}
-
-pub fn chs(wide: bool, a: u32) -> Made {
-    Made {
-        word: opposite(wide, a),
-        error: overflow(a == least(wide)),
-        carry: false,
-    }
+    let r = exact(op, mask, spread(h, b as u64), spread(h, a as u64));
+    let over = overflows(op, spread(h, r & mask) == r, least_a);
+    made((r % 4294967296) as u32, over as u8, carries(op, mask, b, a))
 }

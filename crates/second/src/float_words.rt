@@ -1,168 +1,132 @@
-// Float words: exact values as binary digits, cut once to 24 of them.
-// A value's digits are those of the value times 2^unit; the value of a word times 2^88 is whole.
-ghost use Prim.Native.Nat.{_<_};
+// Float words: exact values, of which the first 24 digits are kept. The value of a word is its mantissa
+// times 2^(raised - 88).
 use crate::digits;
-use crate::fixed_point::Made;
-
-pub fn made(word: u32, error: u8) -> Made {
-    Made {
-        word,
-        error,
-        carry: false,
-    }
-}
+use crate::digits::Kept;
+use crate::fixed_point;
+use crate::fixed_point::Outcome;
+use crate::fixed_point::made;
+ghost use Prim.Native.Nat.{_<_};
 
 pub fn is_negative(w: u32) -> bool {
     2147483648 <= w
 }
 
-pub fn mantissa(w: u32) -> u32 {
-    w % 16777216
+pub fn mantissa(w: u32) -> u64 {
+    (w % 16777216) as u64
 }
 
 // The exponent plus 64, from 0 to 127.
-pub fn raised(w: u32) -> usize
+pub fn raised(w: u32) -> u32
     ensures { λ r. ⌜ r < 128 ⌝ }
 {
-    ((w / 16777216 + 64) % 128) as usize
+    (w / 16777216 + 64) % 128
 }
 
 // Bit 23 is set, or all bits are zero.
 pub fn is_proper(w: u32) -> bool {
-    w == 0 || 8388608 <= mantissa(w)
+    (w == 0) | (8388608 <= w % 16777216)
 }
 
-// The value of a word times 2^88, without its sign.
-fn exact(w: u32) -> [u8; 320] {
-    digits::number(mantissa(w), raised(w))
-}
-
-// The word with the first 24 digits of a number of this unit, and the error of its exponent.
-// `high` is the exponent plus 192.
-pub fn cut(negative: bool, x: [u8; 320], unit: usize) -> Made {
-    let length = digits::length(x);
-    if length == 0 {
-        return made(0, 0);
+// The word of what is kept of a number times 2^(up - 192), and the error of its exponent: `high` is the
+// exponent plus 192.
+pub fn cut(negative: bool, k: Kept, up: u32) -> Outcome {
+    if k.length == 0 {
+        return made(0, 0, false);
     }
-    let m = (digits::spelled(x, length, 24) % 16777216) as u32;
-    let high = std::num::wrapping_sub_usize(std::num::wrapping_add_usize(length, 192), unit);
-    let error = if high < 128 {
-        2
-    } else if high < 256 {
-        0
-    } else {
-        1
+    let high = std::num::wrapping_add_u32(k.length, up);
+    let error = match high {
+        0..=127 => 2,
+        128..=255 => 0,
+        _ => 1,
     };
-    let exponent = (high % 128 + 64) % 128;
-    made(signed(negative, exponent as u32 * 16777216 + m), error)
+    let exponent = (high ^ 64) % 128;
+    made(
+        (negative as u32) << 31 | exponent << 24 | k.digits,
+        error,
+        false,
+    )
 }
 
-pub fn signed(negative: bool, w: u32) -> u32 {
-    if negative {
-        std::num::wrapping_add_u32(w, 2147483648)
+// The word of a single number times 2^(place + up - 192).
+fn kept(negative: bool, n: u64, place: u32, up: u32) -> Outcome {
+    cut(negative, digits::combined(n, place, 0, 0, false), up)
+}
+
+// The sum of the values of two words without their signs, or their difference.
+fn combined(b: u32, a: u32, minus: bool) -> Kept {
+    digits::combined(mantissa(b), raised(b), mantissa(a), raised(a), minus)
+}
+
+// The sum of two words, or their difference: the greater magnitude has the sign.
+pub fn sum(minus: bool, b: u32, a: u32) -> Outcome {
+    let negative = is_negative(a) != minus;
+    let unlike = is_negative(b) != negative;
+    let k = combined(b, a, unlike);
+    if unlike & k.below {
+        cut(negative, combined(a, b, true), 104)
     } else {
-        w
+        cut(is_negative(b), k, 104)
     }
 }
 
-// The sum of two words, the second taken with the sign that is given.
-fn summed(b: u32, a: u32, negative: bool) -> Made {
-    let x = exact(b);
-    let y = exact(a);
-    if is_negative(b) == negative {
-        return cut(negative, digits::plus(x, y), 88);
-    }
-    if digits::below(x, y) {
-        cut(negative, digits::minus(y, x), 88)
-    } else {
-        cut(!negative, digits::minus(x, y), 88)
-    }
+fn unlike(b: u32, a: u32) -> bool {
+    is_negative(b) != is_negative(a)
 }
 
-pub fn add(b: u32, a: u32) -> Made {
-    summed(b, a, is_negative(a))
+pub fn mul(b: u32, a: u32) -> Outcome {
+    let p = digits::product(mantissa(b), mantissa(a));
+    kept(unlike(b, a), p, raised(b) + raised(a), 16)
 }
 
-pub fn sub(b: u32, a: u32) -> Made {
-    summed(b, a, !is_negative(a))
-}
-
-// The product of two whole values of unit 88 has unit 176.
-pub fn mul(b: u32, a: u32) -> Made {
-    let x = digits::product(mantissa(b), mantissa(a), raised(b) + raised(a));
-    cut(is_negative(b) != is_negative(a), x, 176)
-}
-
-// The quotient of the mantissas, moved by the difference of the exponents.
-pub fn div(b: u32, a: u32) -> Made {
+// The quotient of the mantissas times 2^25 has more than 24 digits.
+pub fn div(b: u32, a: u32) -> Outcome {
     if a == 0 {
-        return made(b, 8);
+        return made(b, 8, false);
     }
-    let x = digits::quotient(mantissa(b), mantissa(a), 176 + raised(b) - raised(a));
-    cut(is_negative(b) != is_negative(a), x, 176)
+    let q = digits::greatest(mantissa(b) << 25, mantissa(a), false);
+    kept(unlike(b, a), q, 128 + raised(b) - raised(a), 39)
 }
 
-// The root of a value times 2^128 has unit 64. A negative word stays.
-pub fn sqrt(a: u32) -> Made {
+// The root of the mantissa times 2^24, or 2^25 where the exponent is odd. A negative word stays.
+pub fn sqrt(a: u32) -> Outcome {
     if is_negative(a) {
-        return made(a, 4);
+        return made(a, 4, false);
     }
-    let x = digits::number(mantissa(a), raised(a) + 40);
-    cut(false, digits::root(x), 64)
+    let e = raised(a);
+    let q = digits::greatest(mantissa(a) << (24 + e % 2), 0, true);
+    kept(false, q, e / 2, 136)
 }
 
-// A whole number and its sign as a float word.
-fn float(negative: bool, magnitude: u32) -> Made {
-    cut(negative, digits::number(magnitude, 88), 88)
+// A number in 64 bits of two's complement as a float word.
+pub fn float(x: u64) -> Outcome {
+    kept(
+        fixed_point::is_negative(x),
+        fixed_point::magnitude(x),
+        0,
+        192,
+    )
 }
 
-pub fn fltd(a: u32) -> Made {
-    if 2147483648 <= a {
-        float(true, std::num::wrapping_sub_u32(0, a))
+// The whole part, where it is below the weight of the sign; else the word stays.
+pub fn fix(wide: bool, a: u32) -> Outcome {
+    let e = raised(a);
+    let whole = match e {
+        0..=63 => 0,
+        64..=103 => mantissa(a) << (e - 64) >> 24,
+        _ => 4294967296,
+    };
+    let over = if wide { whole >> 31 } else { whole >> 15 };
+    let low = (whole % 4294967296) as u32;
+    if over != 0 {
+        made(a, 1, false)
+    } else if is_negative(a) {
+        made(std::num::wrapping_sub_u32(0, low), 0, false)
     } else {
-        float(false, a)
+        made(low, 0, false)
     }
-}
-
-pub fn flts(a: u32) -> Made {
-    let w = a % 65536;
-    if 32768 <= w {
-        float(true, 65536 - w)
-    } else {
-        float(false, w)
-    }
-}
-
-// The whole part: the digits from place 88 up.
-fn fixed(wide: bool, a: u32) -> Made {
-    let whole = digits::spelled(exact(a), 320, 232);
-    let most = if wide { 2147483647 } else { 32767 };
-    if most < whole {
-        return made(a, 1);
-    }
-    let magnitude = (whole % 4294967296) as u32;
-    if is_negative(a) {
-        let w = std::num::wrapping_sub_u32(0, magnitude);
-        made(if wide { w } else { w % 65536 }, 0)
-    } else {
-        made(magnitude, 0)
-    }
-}
-
-pub fn fixd(a: u32) -> Made {
-    fixed(true, a)
-}
-
-// The word of a result without error has 16 bits.
-pub fn fixs(a: u32) -> Made {
-    fixed(false, a)
 }
 
 // The sign turned where bit 23 is 1.
-pub fn chsf(w: u32) -> u32 {
-    if mantissa(w) < 8388608 {
-        w
-    } else {
-        std::num::wrapping_add_u32(w, 2147483648)
-    }
+pub fn chsf(w: u32) -> Outcome {
+    made(w ^ (w & 8388608) << 8, 0, false)
 }

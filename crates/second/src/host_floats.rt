@@ -19,41 +19,38 @@ pub fn word_to_f32(word: u32) -> Host {
     if !float_words::is_proper(word) {
         return given(4, 0);
     }
-    let x = digits::number(float_words::mantissa(word), float_words::raised(word) + 61);
-    let length = digits::length(x);
-    if length == 0 {
+    let k = digits::combined(
+        float_words::mantissa(word),
+        float_words::raised(word) + 61,
+        0,
+        0,
+        false,
+    );
+    if k.length == 0 {
         return given(0, 0);
     }
-    let field = (std::num::wrapping_sub_usize(length, 23) % 256) as u32;
-    let m = (digits::spelled(x, length, 24) % 8388608) as u32;
-    given(
-        0,
-        float_words::signed(float_words::is_negative(word), field * 8388608 + m),
-    )
+    let field = std::num::wrapping_sub_u32(k.length, 23) % 256;
+    given(0, word & 2147483648 | field << 23 | k.digits % 8388608)
 }
 
 // A field of 255 is no finite value. Of the others, 2^63 has its digit at place 63 + 149, 2^-65 at 84.
 pub fn f32_to_word(bits: u32) -> Host {
-    let field = (bits / 8388608 % 256) as usize;
-    if field == 255 {
-        return given(10, 0);
-    }
-    let x = if field == 0 {
-        digits::number(bits % 8388608, 0)
-    } else {
-        digits::number(bits % 8388608 + 8388608, field - 1)
+    let field = bits / 8388608 % 256;
+    let m = (bits % 8388608) as u64;
+    let k = match field {
+        0 => digits::combined(m, 0, 0, 0, false),
+        _ => digits::combined(m + 8388608, field - 1, 0, 0, false),
     };
-    let length = digits::length(x);
-    if length == 0 {
-        given(0, 0)
-    } else if 212 < length {
+    if field == 255 {
+        given(10, 0)
+    } else if 212 < k.length {
         given(11, 0)
-    } else if length < 85 {
+    } else if (0 < k.length) & (k.length < 85) {
         given(12, 0)
     } else {
         given(
             0,
-            float_words::cut(float_words::is_negative(bits), x, 149).word,
+            float_words::cut(float_words::is_negative(bits), k, 43).word,
         )
     }
 }

@@ -2,19 +2,21 @@
 // by other means than the crates that it is compared with. Every function is proved safe and ending;
 // none promises a result.
 
-// Lent slices, and the state as bytes.
+// Lent slices, and 24 bytes by value.
 mod bytes;
 // The single event and the conversions, on slices.
 pub mod calls;
-// Whole numbers of 320 binary digits.
+// The chip: an event on the bytes of its state.
+mod chip;
+// Whole numbers, a binary digit at a time.
 mod digits;
-// Fixed point: sums by halves, products by shift and add, quotients a bit at a time.
-pub mod fixed_point;
-// Float words: exact values as binary digits, cut once.
-pub mod float_words;
+// Fixed point, in 64 bits of two's complement.
+mod fixed_point;
+// Float words: exact values, of which the first 24 digits are kept.
+mod float_words;
 // Chip words and host floats.
-pub mod host_floats;
-// The chip as a ring of bytes: stack, status, service line and commands.
-pub mod ring;
+mod host_floats;
 // Files of records.
 pub mod runner;
+// The sheet's codes and stacks, in letters.
+mod sheet;

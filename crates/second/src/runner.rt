@@ -1,147 +1,172 @@
 // Files of records: each is judged from its bytes alone, then done, event by event.
 use crate::bytes;
-use crate::ring;
-use crate::ring::Chip;
-ghost use Prim.Native.Nat.{_≤_};
+use crate::bytes::Bytes;
+use crate::chip;
 
-// The bytes of data in a reply, by kind and the payload's first byte.
-fn data(kind: usize, first: u8) -> usize
-    ensures { λ r. ⌜ r ≤ 255 ⌝ }
-{
-    if kind == 2 {
-        first as usize
-    } else if kind == 4 {
-        1
-    } else {
-        0
+// A record's length, kind and first byte of payload.
+struct Head {
+    length: u32,
+    kind: u32,
+    first: u8,
+}
+
+// The number of two bytes, the low one first.
+fn pair(record: Bytes, at: usize) -> u32 {
+    let n = bytes::number(record, at) >> 16;
+    n % 256 * 256 + n / 256
+}
+
+fn head_of(record: Bytes) -> Head {
+    Head {
+        length: pair(record, 0),
+        kind: pair(record, 2),
+        first: bytes::byte(record, 4),
     }
 }
 
-// Whether a payload of n bytes is one of its kind.
-fn suits(kind: usize, n: usize, first: u8) -> bool {
-    if kind == 1 {
-        1 <= n && n <= 16
-    } else if kind == 2 {
-        n == 1 && 1 <= first && first <= 16
-    } else if kind == 3 {
-        n == 1
-    } else {
-        n == 0
+// How many bytes of data a reply has.
+fn data(h: Head) -> u8 {
+    let kind = h.kind;
+    match kind {
+        2 => h.first,
+        4 => 1,
+        _ => 0,
     }
 }
 
-// Why the record at a place stops the run, in 01's order, or 0.
-fn judged(input: &[u8], at: usize, room: usize) -> u8 {
-    let left = std::num::wrapping_sub_usize(input.len(), at);
-    let length = bytes::pair(input, at);
-    let kind = bytes::pair(input, bytes::on(at, 2));
-    let first = bytes::get(input, bytes::on(at, 4));
-    if left < 2 {
-        6
-    } else if length < 2 || length > 18 {
+// How many events a record is: one for each byte pushed or popped, else one.
+fn events(h: Head) -> usize {
+    let kind = h.kind;
+    match kind {
+        1 => std::num::wrapping_sub_u32(h.length, 2) as usize,
+        2 => h.first as usize,
+        _ => 1,
+    }
+}
+
+// Whether a record of a length from 2 to 18 is one of its kind.
+fn suits(h: Head) -> bool {
+    let kind = h.kind;
+    match kind {
+        1 => 2 < h.length,
+        2 => (h.length == 3) & (0 < h.first) & (h.first < 17),
+        3 => h.length == 3,
+        _ => h.length == 2,
+    }
+}
+
+// Why a record stops the run, in 01's order, or 0; `left` and `room` are the bytes of input and of replies
+// from its place on.
+fn judged(h: Head, left: usize, room: usize) -> u8 {
+    let whole = (2 <= left) & (h.length as usize + 2 <= left);
+    let known = (1 <= h.kind) & (h.kind <= 6);
+    let short = room < data(h) as usize + 5;
+    if (2 <= left) & ((h.length < 2) | (18 < h.length)) {
         7
-    } else if left < length + 2 {
+    } else if !whole {
         6
-    } else if kind == 0 || kind > 6 {
+    } else if !known {
         5
-    } else if !suits(kind, std::num::wrapping_sub_usize(length, 2), first) {
+    } else if !suits(h) {
         7
-    } else if room < 5 + data(kind, first) {
-        8
     } else {
-        0
+        (short as u8) << 3
     }
 }
 
-// The bytes of the payload, pushed in order.
-fn push_all(c: Chip, input: &[u8], from: usize, n: usize) -> Chip {
-    let mut after = c;
-    for i in 0..n {
-        after = ring::push(after, bytes::get(input, bytes::on(from, i))).chip;
-    }
-    after
-}
-
-// n bytes popped into the replies.
-fn pop_all(c: Chip, replies: &mut [u8], to: usize, n: usize) -> Chip {
-    let mut after = c;
-    for i in 0..n {
-        bytes::put(replies, bytes::on(to, i), ring::byte(after, 0));
-        after = ring::pop(after).chip;
-    }
-    after
-}
-
-// Does the record at a place and writes its reply.
-fn worked(c: Chip, input: &[u8], at: usize, replies: &mut [u8], to: usize) -> Chip {
-    let length = bytes::pair(input, at);
-    let kind = bytes::get(input, bytes::on(at, 2));
-    let first = bytes::get(input, bytes::on(at, 4));
-    let size = data(kind as usize, first);
-    bytes::put_four(replies, to, (3 + size) as u32);
-    bytes::put(
-        replies,
-        bytes::on(to, 2),
-        std::num::wrapping_add_u8(kind, 128),
-    );
-    bytes::put(replies, bytes::on(to, 4), 0);
-    if kind == 1 {
-        return push_all(
-            c,
-            input,
-            bytes::on(at, 4),
-            std::num::wrapping_sub_usize(length, 2),
-        );
-    }
-    if kind == 2 {
-        return pop_all(c, replies, bytes::on(to, 5), size);
-    }
-    if kind == 4 {
-        bytes::put(replies, bytes::on(to, 5), c.status);
-        return c;
-    }
-    let r = ring::event(c, kind as u32, first);
-    bytes::put(replies, bytes::on(to, 4), r.refusal);
-    r.chip
-}
-
-fn reported(report: &mut [u8], refusal: u8, taken: u32, written: u32) {
-    bytes::put(report, 0, refusal);
-    bytes::put_four(report, 1, taken);
-    bytes::put_four(report, 5, written);
-}
-
-// How far a run has come: the bytes taken and written, and what stopped it.
+// How far a run has come: the chip, the bytes taken and written, and what stopped it; and the reply to
+// the last record.
 struct Progress {
-    chip: Chip,
+    chip: Bytes,
+    reply: Bytes,
     taken: usize,
     written: usize,
     stop: u8,
 }
 
-// One record more, unless the run has stopped or none is left.
-fn next(r: Progress, input: &[u8], replies: &mut [u8]) -> Progress {
-    if r.stop != 0 || input.len() <= r.taken {
-        return r;
-    }
-    let room = std::num::wrapping_sub_usize(replies.len(), r.written);
-    let stop = judged(input, r.taken, room);
-    let c = r.chip;
-    if stop != 0 {
-        return Progress {
-            chip: c,
-            taken: r.taken,
-            written: r.written,
-            stop,
-        };
-    }
-    let chip = worked(c, input, r.taken, replies, r.written);
+fn begun(chip: Bytes, stop: u8) -> Progress {
     Progress {
         chip,
-        taken: bytes::on(r.taken, bytes::pair(input, r.taken) + 2),
-        written: bytes::on(r.written, bytes::pair(replies, r.written) + 2),
+        reply: [0; 32],
+        taken: 0,
+        written: 0,
+        stop,
+    }
+}
+
+// A reply without its data and the refusal.
+fn reply_to(h: Head) -> Bytes {
+    let size = bytes::with_four([0; 32], 0, data(h) as u32 + 3);
+    bytes::with(size, 2, (h.kind % 128) as u8 | 128)
+}
+
+// A record done.
+fn done(r: Progress, h: Head, record: Bytes) -> Progress {
+    let mut chip = r.chip;
+    let mut reply = reply_to(h);
+    for i in 0..events(h) {
+        let at = i % 16;
+        let answer = chip::event(chip, h.kind, bytes::byte(record, 4 + at));
+        chip = answer.chip;
+        reply = bytes::with(bytes::with(reply, 4, answer.refusal), 5 + at, answer.byte);
+    }
+    Progress {
+        chip,
+        reply,
+        taken: std::num::wrapping_add_usize(r.taken, h.length as usize + 2),
+        written: std::num::wrapping_add_usize(r.written, data(h) as usize + 5),
         stop: 0,
     }
+}
+
+// What becomes of a run by the record at its place.
+fn judged_and_done(r: Progress, record: Bytes, left: usize, room: usize) -> Progress {
+    let h = head_of(record);
+    let stop = judged(h, left, room);
+    if stop == 0 {
+        done(r, h, record)
+    } else {
+        stopped(r, stop)
+    }
+}
+
+fn stopped(r: Progress, stop: u8) -> Progress {
+    let mut after = r;
+    after.stop = stop;
+    after
+}
+
+// One record more, unless the run has stopped or none is left; a run that stops writes nothing.
+fn next(r: Progress, input: &[u8], replies: &mut [u8]) -> Progress {
+    if (r.stop != 0) | (input.len() <= r.taken) {
+        return r;
+    }
+    let at = r.written;
+    let left = std::num::wrapping_sub_usize(input.len(), r.taken);
+    let room = std::num::wrapping_sub_usize(replies.len(), at);
+    let after = judged_and_done(r, bytes::read(input, r.taken), left, room);
+    let reply = after.reply;
+    bytes::write(
+        replies,
+        at,
+        reply,
+        std::num::wrapping_sub_usize(after.written, at),
+    );
+    after
+}
+
+// What stops a run before its first record, or 0.
+fn first_stop(sound: bool, n: usize) -> u8 {
+    match sound {
+        false => 13,
+        true => if 12288 < n { 9 } else { 0 },
+    }
+}
+
+fn report_of(r: Progress) -> Bytes {
+    let stop = bytes::with([0; 32], 0, r.stop);
+    let taken = bytes::with_four(stop, 1, (r.taken % 4294967296) as u32);
+    bytes::with_four(taken, 5, (r.written % 4294967296) as u32)
 }
 
 // A record has at least four bytes, so the turns are enough for every file.
@@ -149,29 +174,14 @@ pub fn run(state: &mut [u8], input: &[u8], replies: &mut [u8], report: &mut [u8]
     if report.len() != 9 {
         return 14;
     }
-    if !bytes::is_state(state) {
-        reported(report, 13, 0, 0);
-        return 13;
-    }
-    if 12288 < input.len() {
-        reported(report, 9, 0, 0);
-        return 9;
-    }
-    let mut r = Progress {
-        chip: bytes::read_state(state),
-        taken: 0,
-        written: 0,
-        stop: 0,
-    };
-    for _ in 0..3073u32 {
+    let chip = bytes::read(state, 0);
+    let stop = first_stop(chip::is_state(chip, state.len()), input.len());
+    let mut r = begun(chip, stop);
+    for _ in 0..input.len() / 4 + 1 {
         r = next(r, input, replies);
     }
-    bytes::write_state(state, r.chip);
-    reported(
-        report,
-        r.stop,
-        (r.taken % 4294967296) as u32,
-        (r.written % 4294967296) as u32,
-    );
+    let after = r.chip;
+    bytes::write(state, 0, after, 19);
+    bytes::write(report, 0, report_of(r), 9);
     r.stop as u32
 }

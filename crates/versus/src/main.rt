@@ -1,30 +1,87 @@
-// Runs the crates and the second opinion side by side over edge words and drawn words,
-// and prints a line for each group: its name, how many were compared, how many differ.
-// The first case that differs in a group is printed in hex before its line.
+// Runs the exported calls and the second opinion side by side over edge words and drawn words: every command
+// that makes a word of words, and the conversions; and the chip by value over states, all 256 codes among its
+// events. Prints a line for each group: its name, how many were compared, how many differ. The first case that
+// differs in a group is shown before its line.
+use cases::bytes;
+use cases::tally;
+use cases::tally::Tally;
+use words::Pair;
 
-// The exported calls on lent slices.
-mod calls;
-// Chip words and host floats.
-mod conversions;
-// Record files and states as bytes.
-mod files;
-// Fixed point at both widths.
-mod fixed_point;
-// Float words.
-mod float_words;
-// Lent slices.
-mod lent;
 // Events on states of the chip.
 mod states;
-// Counting, and the lines that are printed.
-mod tally;
-// Edge words and drawn words.
+// The operands of a case.
 mod words;
 
+// The codes of the operations, in the order of their names. PROP is FIXD on any word: it is refused where the
+// word is not proper.
+fn code(op: u32) -> u8 {
+    let codes =
+        b"\x6C\x6D\x6E\x76\x6F\x74\x2C\x2D\x2E\x36\x2F\x34\x10\x11\x12\x13\x1E\x1F\x1C\x1D\x15\x1E\x01";
+    bytes::at(codes, op as usize)
+}
+
+// A command, on a state with the operands on top: halves of one word where they have 16 bits.
+fn commanded(t: Tally, op: u32, p: Pair, i: u32) -> Tally {
+    let code = code(op);
+    let top = if words::is_narrow(op) {
+        p.a << 16 | p.b
+    } else {
+        p.a
+    };
+    let mut x = bytes::state(top, p.b, 0, 0, i);
+    let mut y = x;
+    let told = pundaliket::pundaliket_event(&mut x, 3, code);
+    let second = second::calls::event(&mut y, 3, code);
+    tally::seen(t, i, told, second, &x, &y)
+}
+
+// A conversion to a slice of so many bytes: the calls, then the second opinion; out, then in.
+fn converted(side: u32, bits: u32, out: &mut [u8], size: usize) -> u32 {
+    let n = bytes::part(out, size);
+    match side {
+        0 => pundaliket::pundaliket_word_to_f32(bits, &mut out[..n]),
+        1 => pundaliket::pundaliket_f32_to_word(bits, &mut out[..n]),
+        2 => second::calls::word_to_f32(bits, &mut out[..n]),
+        _ => second::calls::f32_to_word(bits, &mut out[..n]),
+    }
+}
+
+fn compared_bits(t: Tally, side: u32, bits: u32, size: usize, i: u32) -> Tally {
+    let mut x = [165u8; 8];
+    let mut y = [165u8; 8];
+    let told = converted(side % 2, bits, &mut x, size);
+    let second = converted(side % 2 + 2, bits, &mut y, size);
+    tally::seen(t, i, told, second, &x, &y)
+}
+
+// One case more of an operation's part, or of a part of the chip's states.
+fn seen(t: Tally, op: u32, part: u32, i: u32) -> Tally {
+    let p = words::operands(op, part, i);
+    match op {
+        23 | 24 => compared_bits(t, op - 23, p.a, words::size(part, i), i),
+        25 => states::seen(t, part, i),
+        _ => commanded(t, op, p, i),
+    }
+}
+
+fn compared(op: u32, part: u32) -> Tally {
+    let mut t = tally::none();
+    for i in 0..words::count(op, part) {
+        t = seen(t, op, part, i);
+    }
+    t
+}
+
 fn main() {
-    fixed_point::groups();
-    float_words::groups();
-    states::groups();
-    conversions::groups();
-    calls::groups();
+    let names =
+        b"SADD SSUB SMUL SMUU SDIV CHSS DADD DSUB DMUL DMUU DDIV CHSD FADD FSUB FMUL FDIV FIXD FIXS FLTD FLTS CHSF PROP SQRT to_f32 to_word chip";
+    let parts =
+        b"edges distances neighbours squares exponents slices drawn grid half-words busy codes events";
+    for group in 0..312u32 {
+        let op = group / 12;
+        let part = group % 12;
+        if words::count(op, part) > 0 {
+            tally::line(names, op as usize, parts, part as usize, compared(op, part));
+        }
+    }
 }

@@ -1,20 +1,11 @@
-// The chip: single events on states by value, all 256 codes among them.
+// The chip by value: single events on states, all 256 codes among them.
 // An event has the number of its record kind: 1 push, 2 pop, 3 command, 4 status, 5 reset, 6 acknowledge.
-use crate::lent;
-use crate::tally;
-use crate::tally::Tally;
-use crate::words;
+use cases::bytes;
+use cases::tally;
+use cases::tally::Tally;
+use cases::words;
 use chip::Answer;
 use chip::State;
-use second::ring::Chip;
-use second::ring::Reply;
-
-// An event on a state.
-struct Event {
-    state: State,
-    kind: u32,
-    byte: u8,
-}
 
 // The words of the grid: fixed point edges, float edges and improper words.
 const GRID: u32 = 24;
@@ -48,183 +39,89 @@ fn grid(i: u32) -> u32 {
     }
 }
 
-// A stack of four words, the first on top.
-fn stack_of(a: u32, b: u32, c: u32, d: u32) -> [u8; 16] {
-    let mut s = [0u8; 16];
-    for i in 0..16usize {
-        let w = match i / 4 {
-            0 => a,
-            1 => b,
-            2 => c,
-            _ => d,
-        };
-        s[i] = lent::byte_of(w, i);
-    }
-    s
-}
-
-// A state with A and B given and the rest drawn.
-fn state(a: u32, b: u32, pending: bool, busy: bool, i: u32) -> State {
-    let at = i % 1000000 * 3;
-    let stack = stack_of(a, b, words::drawn(at), words::drawn(at + 1));
-    let more = words::drawn(at + 2);
-    let low = (more % 128) as u8;
-    State {
-        stack,
-        pending,
-        status: if busy { low + 128 } else { low },
-        service: more / 128 % 2 == 1,
-    }
-}
-
 // A drawn state, in one of four cases with a half word, in one of sixteen busy.
-fn any_state(i: u32) -> State {
+fn any_state(i: u32) -> [u8; 19] {
     let at = i % 1000000 * 3;
     let more = words::drawn(at);
-    state(
+    bytes::state(
         words::any(at + 1),
         words::any(at + 2),
-        more % 4 == 1,
-        more / 4 % 16 == 1,
+        (more % 4 == 1) as u8,
+        ((more / 4 % 16 == 1) as u8) << 7,
         i,
     )
 }
 
-fn command(state: State, code: u32) -> Event {
-    Event {
-        state,
-        kind: 3,
-        byte: (code % 256) as u8,
-    }
-}
-
-// The event i of a part: every code on all pairs of the grid, on the grid with a half word, on the grid
-// while busy, on drawn states; every event on drawn states.
-fn event_at(part: u32, i: u32) -> Event {
-    let j = i / 256;
+// The cases of a part, from 7 to 11.
+pub fn count(part: u32) -> u32 {
     match part {
-        0 => command(state(grid(j), grid(j / GRID), false, false, j), i),
-        1 => command(state(grid(j), grid(j + 1), true, false, j), i),
-        2 => command(state(grid(j), grid(j + 1), j % 2 == 1, true, j), i),
-        3 => command(any_state(j), i),
-        _ => Event {
-            state: any_state(i),
-            kind: 1 + i % 6,
-            byte: lent::byte_of(words::drawn(i), 0),
-        },
-    }
-}
-
-fn count(part: u32) -> u32 {
-    match part {
-        0 => 24 * 24 * 256,
-        1 | 2 => 24 * 256,
-        3 => 256 * 256,
+        7 => 24 * 24 * 256,
+        8 | 9 => 24 * 256,
+        10 => 256 * 256,
         _ => 6 * 4096,
     }
 }
 
-fn chip_of(s: State) -> Chip {
-    let ring = s.stack;
-    Chip {
-        ring,
-        top: 0,
-        pending: s.pending,
-        status: s.status,
-        service: s.service,
+// The state i of a part: all pairs of the grid, the grid with a half word, the grid while busy, drawn states
+// for every code, drawn states for every event.
+fn state_at(part: u32, i: u32) -> [u8; 19] {
+    let j = i / 256;
+    match part {
+        7 => bytes::state(grid(j), grid(j / GRID), 0, 0, j),
+        8 => bytes::state(grid(j), grid(j + 1), 1, 0, j),
+        9 => bytes::state(grid(j), grid(j + 1), (j % 2) as u8, 128, j),
+        10 => any_state(j),
+        _ => any_state(i),
     }
 }
 
-// An answer of the main crate in the second one's form.
-fn reply_of(x: Answer) -> Reply {
-    let refusal = x.refusal;
-    let state = x.state;
-    Reply {
-        refusal: terms::number(refusal),
-        byte: x.byte,
-        chip: chip_of(state),
+fn state_of(s: [u8; 19]) -> State {
+    let mut stack = [0u8; 16];
+    for i in 0..16usize {
+        stack[i] = s[i];
+    }
+    State {
+        stack,
+        pending: s[16] == 1,
+        status: s[17],
+        service: s[18] == 1,
     }
 }
 
-fn main_answer(e: Event) -> Reply {
-    let s = e.state;
-    let kind = e.kind;
+fn bytes_of(s: State) -> [u8; 19] {
+    let stack = s.stack;
+    let mut all = [0u8; 19];
+    for i in 0..16usize {
+        all[i] = stack[i];
+    }
+    all[16] = s.pending as u8;
+    all[17] = s.status;
+    all[18] = s.service as u8;
+    all
+}
+
+fn answer(s: State, kind: u32, byte: u8) -> Answer {
     match kind {
-        1 => reply_of(s.push(e.byte)),
-        2 => reply_of(s.pop()),
-        3 => reply_of(s.command(e.byte)),
-        4 => reply_of(s.status()),
-        5 => reply_of(s.reset()),
-        _ => reply_of(s.acknowledge()),
+        1 => s.push(byte),
+        2 => s.pop(),
+        3 => s.command(byte),
+        4 => s.status(),
+        5 => s.reset(),
+        _ => s.acknowledge(),
     }
 }
 
-fn second_answer(e: Event) -> Reply {
-    second::ring::event(chip_of(e.state), e.kind, e.byte)
-}
-
-fn same_stack(x: Chip, y: Chip) -> bool {
-    let mut same = true;
-    for i in 0..16usize {
-        if second::ring::byte(x, i) != second::ring::byte(y, i) {
-            same = false;
-        }
-    }
-    same
-}
-
-fn same_chip(x: Chip, y: Chip) -> bool {
-    same_stack(x, y) && x.pending == y.pending && x.status == y.status && x.service == y.service
-}
-
-fn same(x: Reply, y: Reply) -> bool {
-    x.refusal == y.refusal && x.byte == y.byte && same_chip(x.chip, y.chip)
-}
-
-// Two numbers, then a stack, pending, status and service.
-fn show(x: u32, y: u8, c: Chip) {
-    tally::text(b",");
-    tally::hex(x as u64, 2);
-    tally::hex(y as u64, 2);
-    for i in 0..16usize {
-        tally::hex(second::ring::byte(c, i) as u64, 2);
-    }
-    tally::hex(c.pending as u64, 2);
-    tally::hex(c.status as u64, 2);
-    tally::hex(c.service as u64, 2);
-}
-
-// One event more; the first that differs is shown: kind, byte and state, then refusal, byte and state of both.
-fn seen(t: Tally, e: Event) -> Tally {
-    let x = main_answer(e);
-    let y = second_answer(e);
-    let agree = same(x, y);
-    if tally::is_first(t, agree) {
-        tally::text(b"differs:");
-        show(e.kind, e.byte, chip_of(e.state));
-        show(x.refusal as u32, x.byte, x.chip);
-        show(y.refusal as u32, y.byte, y.chip);
-        tally::text(b"\n");
-    }
-    tally::counted(t, agree)
-}
-
-fn compared(part: u32) -> Tally {
-    let mut t = tally::none();
-    for i in 0..count(part) {
-        t = seen(t, event_at(part, i));
-    }
-    t
-}
-
-fn group(part: u32, name: &[u8]) {
-    tally::line(b"chip", 0, name, compared(part));
-}
-
-pub fn groups() {
-    group(0, b" grid");
-    group(1, b" half words");
-    group(2, b" busy");
-    group(3, b" drawn");
-    group(4, b" events");
+// One event more: a command with every code in turn, and in the last part every event with a drawn byte.
+pub fn seen(t: Tally, part: u32, i: u32) -> Tally {
+    let any = part == 11;
+    let kind = if any { 1 + i % 6 } else { 3 };
+    let code = if any { words::drawn(i) } else { i };
+    let byte = (code % 256) as u8;
+    let mut y = state_at(part, i);
+    let x = answer(state_of(y), kind, byte);
+    let refusal = x.refusal;
+    let after = x.state;
+    let told = terms::number(refusal) as u32 * 256 + x.byte as u32;
+    let second = second::calls::event(&mut y, kind, byte);
+    tally::seen(t, i, told, second, &bytes_of(after), &y)
 }

@@ -1,88 +1,233 @@
-// The words that are compared: edge words, float words by their place in the order of magnitudes,
-// and drawn words. Each is a function of its index, so a case is named by its number.
+// The operands of a case. An operation is a number: 0 to 5 fixed point at 16 bits, 6 to 11 at 32, 12 to 15 two
+// float words to one, 16 to 22 one word to another, 23 and 24 the conversions; 25 are
+// the events on states.
+use crate::states;
+use cases::words;
 ghost use Prim.Native.Nat.{_<_};
 
-// The operands of a case.
 pub struct Pair {
     pub b: u32,
     pub a: u32,
 }
 
-// The low 16 or 32 bits.
-pub fn low_bits(wide: bool, x: u64) -> u32 {
-    if wide {
-        (x % 4294967296) as u32
-    } else {
-        (x % 65536) as u32
+fn two(b: u32, a: u32) -> Pair {
+    Pair { b, a }
+}
+
+fn one(a: u32) -> Pair {
+    Pair { b: 0, a }
+}
+
+// Whether the operands have 16 bits.
+pub fn is_narrow(op: u32) -> bool {
+    (op < 6) | (op == 19)
+}
+
+// How many cases a part of an operation has, 0 where it has not this part.
+pub fn count(op: u32, part: u32) -> u32 {
+    match part {
+        0 => edge_count(op),
+        1 => if float_pair(op) { 12800 } else { 0 },
+        2 => if float_pair(op) { 2304 } else { 0 },
+        3 => if op == 22 { 6144 } else { 0 },
+        4 => exponent_count(op),
+        5 => if (op == 23) | (op == 24) { 198 * 8 } else { 0 },
+        6 => drawn_count(op),
+        _ => if op == 25 { states::count(part) } else { 0 },
     }
 }
 
-// How many edge words a width has.
-pub fn edges(wide: bool) -> u32
-    ensures { λ r. ⌜ (0 < r) × (r < 200) ⌝ }
-{
-    if wide { 198 } else { 102 }
-}
-
-// 2^k - 1, 2^k, 2^k + 1 and their opposites for every k up to the width: zero, one, minus one, least
-// and greatest are among them.
-pub fn edge(wide: bool, i: u32) -> u32 {
-    let power: u64 = 1 << (i / 6 % 33);
-    let above = std::num::wrapping_add_u64(power, (i / 2 % 3) as u64);
-    let near = std::num::wrapping_sub_u64(above, 1);
-    if i % 2 == 0 {
-        low_bits(wide, near)
-    } else {
-        low_bits(wide, std::num::wrapping_sub_u64(0, near))
+fn edge_count(op: u32) -> u32 {
+    match op {
+        0 | 1 | 2 | 3 | 4 => 102 * 102,
+        5 => 102,
+        6 | 7 | 8 | 9 | 10 => 198 * 198,
+        12 | 13 | 14 | 15 => 91 * 91,
+        16 | 17 | 22 => 5 * 128 * 2,
+        19 => 65536,
+        25 => 0,
+        _ => 198,
     }
 }
 
-// The positive proper words that are not zero, in order of magnitude: 2^23 for each exponent from -64 up.
-pub fn float(negative: bool, rank: u32) -> u32 {
-    let exponent = (rank / 8388608 + 64) % 128;
-    let w = exponent * 16777216 + 8388608 + rank % 8388608;
-    if negative { w + 2147483648 } else { w }
+fn exponent_count(op: u32) -> u32 {
+    match op {
+        23 => 8192,
+        24 => 16384,
+        _ => 0,
+    }
 }
 
-// Five fractions: the least, its neighbour, the half, the two greatest.
-pub fn fraction(i: u32) -> u32
-    ensures { λ r. ⌜ r < 8388608 ⌝ }
+fn drawn_count(op: u32) -> u32 {
+    match op {
+        12 | 13 | 14 | 15 => 8192,
+        25 => 0,
+        _ => 4096,
+    }
+}
+
+fn float_pair(op: u32) -> bool {
+    (12 <= op) & (op <= 15)
+}
+
+// Nine exponents, each plus 64.
+fn exponent(i: u32) -> u32
+    ensures { λ r. ⌜ r < 128 ⌝ }
 {
-    match i % 5 {
+    match i % 9 {
         0 => 0,
         1 => 1,
-        2 => 4194304,
-        3 => 8388606,
-        _ => 8388607,
+        2 => 2,
+        3 => 40,
+        4 => 64,
+        5 => 65,
+        6 => 88,
+        7 => 126,
+        _ => 127,
     }
 }
 
-// One step of a linear congruence, its halves exchanged: the upper half varies most.
-fn step(seed: u32) -> u32 {
-    let next = ((seed as u64 * 1664525 + 1013904223) % 4294967296) as u32;
-    next / 65536 + next % 65536 * 65536
-}
-
-// The drawn word of a number, from a fixed seed.
-pub fn drawn(i: u32) -> u32 {
-    step(step(step(step(std::num::wrapping_add_u32(i, 9511)))))
-}
-
-// On odd turns a word is divided by up to 2^16, so that numbers of every size occur.
-pub fn sized(turn: u32, word: u32, size: u32) -> u32 {
-    if turn % 2 == 0 {
-        word
+// Zero, and the five fractions at nine exponents with either sign.
+fn floats(i: u32) -> u32 {
+    if i == 0 {
+        0
     } else {
-        word / (1 + size % 65536)
+        words::float(
+            i / 45 % 2 == 0,
+            exponent(i / 5) * 8388608 + words::fraction(i),
+        )
     }
 }
 
-// A drawn word, a proper one in three of four cases.
-pub fn any(i: u32) -> u32 {
-    let w = drawn(i);
-    if i % 4 == 0 {
-        w
-    } else {
-        float(2147483648 <= w, w)
+// The five fractions at every exponent with either sign.
+fn fractions(i: u32) -> u32 {
+    words::float(
+        i / 640 % 2 == 1,
+        i % 128 * 8388608 + words::fraction(i / 128),
+    )
+}
+
+// All pairs of edge words, of `floats`; single words.
+fn edge_pair(op: u32, i: u32) -> Pair {
+    match op {
+        0 | 1 | 2 | 3 | 4 | 5 => two(words::edge(false, i / 102), words::edge(false, i % 102)),
+        6 | 7 | 8 | 9 | 10 | 11 => two(words::edge(true, i / 198), words::edge(true, i % 198)),
+        12 | 13 | 14 | 15 => two(floats(i / 91), floats(i % 91)),
+        16 | 17 | 22 => one(fractions(i)),
+        19 => one(i),
+        _ => one(words::edge(true, i)),
     }
+}
+
+// Exponents that lie i % 128 apart, in the middle of their range: the five fractions, either order,
+// like and unlike signs.
+fn distance_pair(i: u32) -> Pair {
+    let apart = i % 128;
+    let low = (127 - apart) / 2;
+    let x = words::float(false, (low + apart) * 8388608 + words::fraction(i / 128));
+    let y = words::float(i / 3200 % 2 == 1, low * 8388608 + words::fraction(i / 640));
+    if i / 6400 % 2 == 0 {
+        two(x, y)
+    } else {
+        two(y, x)
+    }
+}
+
+// Two neighbours of a power of two, or the power itself, for each exponent, with like and unlike signs.
+fn neighbour_pair(i: u32) -> Pair {
+    let power = i % 128 * 8388608;
+    two(
+        words::float(false, words::near(power, i / 128 % 3)),
+        words::float(i / 1152 % 2 == 1, words::near(power, i / 384 % 3)),
+    )
+}
+
+// The square of a number of 12 digits.
+fn squared(k: u32) -> u32
+    requires { ⌜ k < 4096 ⌝ }
+    ensures { λ r. ⌜ r < 16777216 ⌝ }
+{
+    k * k
+}
+
+// The squares of the numbers of 12 digits, at 63 exponents in turn, and the words beside them.
+fn square_word(i: u32) -> u32 {
+    let q = squared(2048 + i % 2048);
+    let even = i % 63 * 2;
+    let rank = if 8388608 <= q {
+        even * 8388608 + (q - 8388608)
+    } else {
+        even * 8388608 + q * 2
+    };
+    words::float(false, words::near(rank, i / 2048 % 3))
+}
+
+// The five fractions, and 27 drawn ones.
+fn fraction(i: u32) -> u32
+    ensures { λ r. ⌜ r < 8388608 ⌝ }
+{
+    if i % 32 < 5 {
+        words::fraction(i % 32)
+    } else {
+        words::drawn(i) % 8388608
+    }
+}
+
+// Every exponent with either sign, and 32 fractions of each: a word, or the bits of an f32.
+fn pattern(op: u32, i: u32) -> u32 {
+    if op == 23 {
+        words::float(i / 32 % 2 == 1, i / 64 % 128 * 8388608 + fraction(i))
+    } else {
+        i / 32 % 512 * 8388608 + fraction(i)
+    }
+}
+
+// Drawn float words: of free exponents, of exponents up to 31 apart, and close together.
+fn drawn_floats(i: u32, x: u32, y: u32, z: u32) -> Pair {
+    let rank = match i % 4 {
+        0 | 1 => y,
+        2 => std::num::wrapping_add_u32(x, y % 268435456),
+        _ => std::num::wrapping_add_u32(x, y % 64),
+    };
+    two(
+        words::float(2147483648 <= x, x),
+        words::float(z % 2 == 1, rank),
+    )
+}
+
+// Fixed point: every other A is of a drawn size. FIXD and FIXS: of magnitude 2^-9 up to 2^40. SQRT: one in eight
+// is negative.
+fn drawn_pair(op: u32, i: u32) -> Pair {
+    let at = i % 8192 * 3;
+    let x = words::drawn(at);
+    let y = words::drawn(at + 1);
+    let z = words::drawn(at + 2);
+    match op {
+        0 | 1 | 2 | 3 | 4 | 5 => two(x % 65536, words::sized(i, y % 65536, z)),
+        6 | 7 | 8 | 9 | 10 | 11 => two(x, words::sized(i, y, z)),
+        12 | 13 | 14 | 15 => drawn_floats(i, x, y, z),
+        16 | 17 => one(words::float(2147483648 <= x, (56 + x % 48) * 8388608 + y % 8388608)),
+        19 => one(words::sized(i, x, y) % 65536),
+        22 => one(words::float(x % 8 == 0, y)),
+        23 | 24 => one(words::drawn(i)),
+        _ => one(words::sized(i, x, y)),
+    }
+}
+
+// The case i of a part: edges, distances, neighbours, squares, exponents, slices, drawn.
+pub fn operands(op: u32, part: u32, i: u32) -> Pair {
+    match part {
+        0 => edge_pair(op, i),
+        1 => distance_pair(i),
+        2 => neighbour_pair(i),
+        3 => one(square_word(i)),
+        4 => one(pattern(op, i)),
+        5 => one(words::edge(true, i / 8)),
+        _ => drawn_pair(op, i),
+    }
+}
+
+// How many bytes a conversion is lent: four, or from none to seven.
+pub fn size(part: u32, i: u32) -> usize {
+    if part == 5 { (i % 8) as usize } else { 4 }
 }

@@ -1,0 +1,175 @@
+// The exported calls on lent slices: both sides are lent the same bytes, and all that they leave is
+// compared, the bytes past the lent part too.
+use crate::files;
+use cases::bytes;
+use cases::tally;
+use cases::tally::Tally;
+use cases::words;
+
+// A run: the file is drawn from a seed with so many records, then cut and damaged, or is an edge record
+// where there are none; the state is sound where `fault` is not 1 to 6; replies and report have so many bytes.
+pub struct Case {
+    seed: u32,
+    records: u32,
+    cut: usize,
+    damage: u32,
+    fault: u32,
+    room: usize,
+    report: usize,
+}
+
+// The most bytes that are lent.
+const INPUT: usize = 12304;
+
+const ROOM: usize = 16384;
+
+fn sound(seed: u32, records: u32, cut: usize, damage: u32, room: usize) -> Case {
+    Case {
+        seed,
+        records,
+        cut,
+        damage,
+        fault: 0,
+        room,
+        report: 9,
+    }
+}
+
+// A fault of the state, a length of the report, and a long input or a short one.
+fn unsound(i: u32) -> Case {
+    let long = i / 8 % 2 == 1;
+    Case {
+        seed: i,
+        records: if long { 2400 } else { 4 },
+        cut: if long { 12289 } else { 64 },
+        damage: 0,
+        fault: i % 8,
+        room: ROOM,
+        report: match i / 16 % 4 {
+            0 => 8,
+            1 => 10,
+            2 => 0,
+            _ => 9,
+        },
+    }
+}
+
+// No room, room for a reply without data, or ample room.
+fn edge_room(i: u32) -> usize {
+    match i % 3 {
+        0 => 4,
+        1 => 5,
+        _ => ROOM,
+    }
+}
+
+// The run i of a group: whole files, cut, damaged, with small rooms, long, with faults, edge records.
+pub fn run_at(group: u32, i: u32) -> Case {
+    let few = (i % 128) as usize;
+    match group {
+        0 => sound(i, 1 + i % 24, INPUT, 0, ROOM),
+        1 => sound(i / 128, 16, few, 0, ROOM),
+        2 => sound(i, 1 + i % 8, INPUT, 1 + i % 2, ROOM),
+        3 => sound(i / 128, 16, INPUT, 0, few),
+        4 => sound(i, 2400, 12264 + (i % 40) as usize, 0, ROOM),
+        5 => unsound(i),
+        _ => sound(i, 0, INPUT, 0, edge_room(i / 5280)),
+    }
+}
+
+// The input of a case; how many bytes it has.
+fn put_input(s: &mut [u8], c: Case) -> usize {
+    if c.records == 0 {
+        return files::put_edge(s, c.seed);
+    }
+    let all = files::put_records(s, c.seed, c.records);
+    let n = if c.cut < all { c.cut } else { all };
+    files::damage(s, n, c.damage, c.seed);
+    n
+}
+
+// A run of the calls, or of the second opinion.
+fn ran(
+    again: bool,
+    c: Case,
+    state: &mut [u8],
+    input: &[u8],
+    n: usize,
+    replies: &mut [u8],
+    report: &mut [u8],
+) -> u32 {
+    let s = bytes::part(state, files::state_size(c.fault));
+    let i = bytes::part(input, n);
+    let r = bytes::part(replies, c.room);
+    let p = bytes::part(report, c.report);
+    if again {
+        second::runner::run(
+            &mut state[..s],
+            &input[..i],
+            &mut replies[..r],
+            &mut report[..p],
+        )
+    } else {
+        pundaliket::pundaliket_run(
+            &mut state[..s],
+            &input[..i],
+            &mut replies[..r],
+            &mut report[..p],
+        )
+    }
+}
+
+// One run more. Where states or replies differ, the second answer counts as another one.
+pub fn seen_run(t: Tally, c: Case, i: u32) -> Tally {
+    let mut input = [0u8; 12304];
+    let n = put_input(&mut input, c);
+    let mut state = files::state(c.seed, c.fault);
+    let mut replies = [165u8; 16384];
+    let mut report = [90u8; 10];
+    let mut state_again = state;
+    let mut replies_again = [165u8; 16384];
+    let mut report_again = [90u8; 10];
+    let x = ran(false, c, &mut state, &input, n, &mut replies, &mut report);
+    let y = ran(
+        true,
+        c,
+        &mut state_again,
+        &input,
+        n,
+        &mut replies_again,
+        &mut report_again,
+    );
+    let same = check::same(&state, &state_again) & check::same(&replies, &replies_again);
+    tally::seen(t, i, x, y | (!same as u32) << 31, &report, &report_again)
+}
+
+// Kinds 0 to 7, and two that are not to be taken modulo 256.
+fn kind(i: u32) -> u32 {
+    match i % 10 {
+        8 => 259,
+        9 => 4294967041,
+        n => n,
+    }
+}
+
+// An event of the calls, or of the second opinion.
+fn answered(again: bool, state: &mut [u8], fault: u32, kind: u32, byte: u8) -> u32 {
+    let s = bytes::part(state, files::state_size(fault));
+    if again {
+        second::calls::event(&mut state[..s], kind, byte)
+    } else {
+        pundaliket::pundaliket_event(&mut state[..s], kind, byte)
+    }
+}
+
+// One event more.
+pub fn seen_event(t: Tally, i: u32) -> Tally {
+    let fault = i % 16;
+    let kind = kind(i / 16);
+    let byte = files::code(words::drawn(i));
+    let mut state = files::state(i, fault);
+    let mut again = state;
+    let x = answered(false, &mut state, fault, kind, byte);
+    let y = answered(true, &mut again, fault, kind, byte);
+    tally::seen(t, i, x, y, &state, &again)
+}

@@ -1,0 +1,165 @@
+// Record files, drawn record by record from a seed, and states as bytes.
+use cases::bytes;
+use cases::words;
+
+// A payload of one to sixteen bytes, in three of four cases a word.
+fn amount(n: u32) -> u8 {
+    match n % 4 {
+        0 => (1 + n / 4 % 16) as u8,
+        1 => 2,
+        _ => 4,
+    }
+}
+
+// A carried code in seven of eight cases, with either service bit; else any.
+pub fn code(n: u32) -> u8 {
+    let carried =
+        b"\x00\x01\x10\x11\x12\x13\x15\x17\x18\x19\x1A\x1C\x1D\x1E\x1F\x2C\x2D\x2E\x2F\x34\x36\x37\x38\x39\x6C\x6D\x6E\x6F\x74\x76\x77\x78\x79";
+    let low = n / 8;
+    if n % 8 == 0 {
+        (low % 256) as u8
+    } else {
+        bytes::at(carried, (low % 33) as usize) | (low / 33 % 2 * 128) as u8
+    }
+}
+
+// Half of the records push, a quarter are commands, the others are of every kind.
+fn kind(n: u32) -> u8 {
+    match n % 4 {
+        0 | 1 => 1,
+        2 => 3,
+        _ => (1 + n / 4 % 6) as u8,
+    }
+}
+
+// How many bytes the payload of a kind has.
+fn size(kind: u8, n: u32) -> u8 {
+    match kind {
+        1 => amount(n),
+        2 | 3 => 1,
+        _ => 0,
+    }
+}
+
+// Pushed words come low byte first.
+fn payload(kind: u8, n: u32, seed: u32, i: usize) -> u8 {
+    match kind {
+        1 => bytes::byte_of(
+            words::any(std::num::wrapping_add_u32(seed, (i / 4 % 4) as u32)),
+            3 - i % 4,
+        ),
+        2 => amount(n),
+        _ => code(n),
+    }
+}
+
+fn put(s: &mut [u8], i: usize, b: u8) {
+    if i < s.len() {
+        s[i] = b;
+    }
+}
+
+// The first n bytes of a record, stored from a place on; the place after them.
+fn put_record(s: &mut [u8], at: usize, r: [u8; 24], n: usize) -> usize {
+    for i in 0..n {
+        put(s, std::num::wrapping_add_usize(at, i), r[i % 24]);
+    }
+    std::num::wrapping_add_usize(at, n)
+}
+
+fn record(size: u8, kind: u8, n: u32, seed: u32) -> [u8; 24] {
+    let mut r = [0u8; 24];
+    r[0] = std::num::wrapping_add_u8(size, 2);
+    r[2] = kind;
+    for i in 0..size as usize {
+        r[4 + i % 16] = payload(kind, n, seed, i);
+    }
+    r
+}
+
+// So many records from the start; the place after them.
+pub fn put_records(s: &mut [u8], seed: u32, records: u32) -> usize {
+    let mut at: usize = 0;
+    for i in 0..records {
+        let drawn = std::num::wrapping_add_u32(seed % 65536 * 4096, i);
+        let n = words::drawn(drawn);
+        let k = kind(n);
+        let bytes = size(k, n / 16);
+        at = put_record(s, at, record(bytes, k, n / 16, drawn), bytes as usize + 4);
+    }
+    at
+}
+
+// A single record with a length of 0 to 21, eight kinds and two that are not to be cut to a byte, eight
+// first bytes, in a file that is one byte short, whole or one byte over; how many bytes the file has.
+pub fn put_edge(s: &mut [u8], i: u32) -> usize {
+    let length = i % 22;
+    let kind = i / 22 % 10;
+    let mut r = [0u8; 24];
+    r[0] = length as u8;
+    r[2] = (kind % 8) as u8;
+    r[3] = (kind / 8) as u8;
+    r[4] = edge_byte(i / 220);
+    put_record(s, 0, r, 24);
+    (length + 1 + i / 1760 % 3) as usize
+}
+
+fn edge_byte(i: u32) -> u8 {
+    match i % 8 {
+        0 => 0,
+        1 => 1,
+        2 => 2,
+        3 => 15,
+        4 => 16,
+        5 => 17,
+        6 => 0x90,
+        _ => 0xFF,
+    }
+}
+
+// One of the first n bytes, or one past all where there is none.
+fn place(n: usize, w: u32) -> usize {
+    if n == 0 {
+        return 65536;
+    }
+    (w / 256) as usize % n
+}
+
+// Some of the first n bytes changed, the first of them to one below 24.
+pub fn damage(s: &mut [u8], n: usize, times: u32, seed: u32) {
+    for i in 0..times {
+        let w = words::drawn(std::num::wrapping_add_u32(seed, i));
+        let b = if i == 0 { w % 24 } else { w % 256 };
+        put(s, place(n, w), (b % 256) as u8);
+    }
+}
+
+// A fault of a state: 1 to 3 another length, 4 to 6 a byte that 01 refuses, else none.
+pub fn state_size(fault: u32) -> usize {
+    match fault {
+        1 => 18,
+        2 => 20,
+        3 => 0,
+        _ => 19,
+    }
+}
+
+// A drawn state and a byte past it; a half word is pending in one of four.
+pub fn state(seed: u32, fault: u32) -> [u8; 20] {
+    let n = words::drawn(seed);
+    let over = (2 + n / 1024 % 8 * 36) as u8;
+    let pending = match fault {
+        4 => over,
+        _ => (n % 4 == 0) as u8,
+    };
+    let busy = ((fault == 5) as u8) << 7;
+    let sound = bytes::state(words::any(n), words::any(seed), pending, busy, seed);
+    let mut s = [165u8; 20];
+    for i in 0..19usize {
+        s[i] = sound[i];
+    }
+    if fault == 6 {
+        s[18] = over;
+    }
+    s
+}
