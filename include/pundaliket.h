@@ -29,7 +29,7 @@ enum {
     PUNDALIKET_IMPROPER = 4,       /* a float operand, or a word to be made an f32, is not proper; the state stays */
     PUNDALIKET_NO_SUCH_KIND = 5,   /* kind of record or event not 1 to 6 */
     PUNDALIKET_CUT_SHORT = 6,      /* the file ends inside a record */
-    PUNDALIKET_BAD_LENGTH = 7,     /* length under 2 or over 18, payload wrong for the kind, pop count not 1 to 16 */
+    PUNDALIKET_BAD_LENGTH = 7,     /* length under 2 or over 242, payload wrong for the kind, pop count not 1 to 240 */
     PUNDALIKET_NO_ROOM = 8,        /* no room for this record's reply; or a conversion's slice is not 4 bytes */
     PUNDALIKET_INPUT_TOO_LONG = 9, /* input over 12,288 bytes; only the report is written */
     PUNDALIKET_NOT_FINITE = 10,    /* the f32 is infinite or not a number */
@@ -41,8 +41,8 @@ enum {
 
 /* The kinds of a record and of a single event. */
 enum {
-    PUNDALIKET_PUSH = 1,       /* record: 1 to 16 bytes, pushed in order; event: the byte */
-    PUNDALIKET_POP = 2,        /* record: one byte n, 1 to 16, the reply holds n bytes; event: one byte */
+    PUNDALIKET_PUSH = 1,       /* record: 1 to 240 bytes, pushed in order; event: the byte */
+    PUNDALIKET_POP = 2,        /* record: one byte n, 1 to 240, the reply holds n bytes; event: one byte */
     PUNDALIKET_COMMAND = 3,    /* one command code */
     PUNDALIKET_STATUS = 4,     /* nothing; the reply holds the status byte */
     PUNDALIKET_RESET = 5,      /* nothing */
@@ -51,17 +51,19 @@ enum {
 
 /*
  * Sizes in bytes. With room for PUNDALIKET_MOST_REPLIES bytes of replies 8 cannot come from a run: a record of 5 bytes
- * is answered with at most 21, one of 4 with at most 6, so a file of n bytes needs 21 * (n / 5), and 6 more where n % 5
- * is 4. PUNDALIKET_STACK_BYTES is the stack that a call needs below its caller's frame: more by half, at least, than the
- * most that was measured, by calls of each kind on a painted stack. tests/c/test.c measures it anew each time it runs.
+ * is answered with at most 245 (a pop of 240), one of 4 with at most 6, so a file of n bytes needs 245 * (n / 5), and 6
+ * more where n % 5 is 4. With less room a run that ends with 8 has done the records before: lend the rest of the file,
+ * from the report's bytes taken on, and fresh room, and it goes on. PUNDALIKET_STACK_BYTES is the stack that a call needs
+ * below its caller's frame: more by half, at least, than the most that was measured, by calls of each kind on a painted
+ * stack. tests/c/test.c measures it anew each time it runs.
  */
 enum {
-    PUNDALIKET_STATE_BYTES = 19,     /* stack, top first (16), pending 0 or 1, status, service 0 or 1; 19 zeros: reset */
-    PUNDALIKET_REPORT_BYTES = 9,     /* refusal, bytes of whole records taken, bytes of replies written */
-    PUNDALIKET_FLOAT_BYTES = 4,      /* what a conversion writes */
-    PUNDALIKET_MOST_INPUT = 12288,   /* the longest input */
-    PUNDALIKET_MOST_REPLIES = 51597, /* replies to the longest input */
-    PUNDALIKET_STACK_BYTES = 2048    /* stack of a call */
+    PUNDALIKET_STATE_BYTES = 19,      /* stack, top first (16), pending 0 or 1, status, service 0 or 1; 19 zeros: reset */
+    PUNDALIKET_REPORT_BYTES = 9,      /* refusal, bytes of whole records taken, bytes of replies written */
+    PUNDALIKET_FLOAT_BYTES = 4,       /* what a conversion writes */
+    PUNDALIKET_MOST_INPUT = 12288,    /* the longest input */
+    PUNDALIKET_MOST_REPLIES = 601965, /* replies to the longest input */
+    PUNDALIKET_STACK_BYTES = 2048     /* stack of a call */
 };
 
 /* Where each part of a state begins. */

@@ -27,7 +27,7 @@ static void put(uint8_t *p, int n, uint32_t w)
 #define MOVE(to, from, n) __builtin_memmove((to), (from), (n))
 #define CLEAR(p, n) __builtin_memset((p), 0, (n))
 
-/* n bytes pushed in order, at most 16 */
+/* n bytes pushed in order */
 static void push(uint8_t *s, const uint8_t *p, uint32_t n)
 {
     if (n == 4) {
@@ -46,7 +46,7 @@ static void push(uint8_t *s, const uint8_t *p, uint32_t n)
     s[PENDING] ^= n & 1;
 }
 
-/* n bytes popped, at most 16 */
+/* n bytes popped */
 static void pop(uint8_t *s, uint8_t *out, uint32_t n)
 {
     uint8_t t[4];
@@ -374,7 +374,7 @@ static uint32_t look(const uint8_t *in, size_t left, uint32_t *kind, uint32_t *p
     if (left < 2)
         return 6;
     uint32_t length = in[0] | (uint32_t)in[1] << 8;
-    if (length < 2 || length > 18)
+    if (length < 2 || length > 242)
         return 7;
     if (left - 2 < length)
         return 6;
@@ -384,7 +384,7 @@ static uint32_t look(const uint8_t *in, size_t left, uint32_t *kind, uint32_t *p
     switch (*kind) {
     case 1: return *payload == 0 ? 7 : 0;
     case 2:
-        if (*payload != 1 || in[4] < 1 || in[4] > 16)
+        if (*payload != 1 || in[4] < 1 || in[4] > 240)
             return 7;
         *data = in[4];
         return 0;

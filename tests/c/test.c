@@ -23,7 +23,7 @@ static void check(int good, const char *what, unsigned number)
 
 /* ---- lent slices, with guard bytes round them, at any alignment */
 
-enum { ROOM = 70000, GUARD = 64, UNTOUCHED = 0xA5 };
+enum { ROOM = PUNDALIKET_MOST_REPLIES, GUARD = 64, UNTOUCHED = 0xA5 };
 
 struct slice {
     uint8_t bytes[ROOM + 2 * GUARD + 8];
@@ -213,7 +213,7 @@ static void refusals_of_a_file(void)
     static const uint8_t not_proper[] = { 3, 0, 3, 0, 0x9E }, not_proper_replies[] = { 3, 0, 131, 0, 4 };
     static const uint8_t kind[] = { 3, 0, 1, 0, 7, 2, 0, 7, 0 }, wide_kind[] = { 3, 0, 1, 0, 7, 2, 0, 4, 1 };
     static const uint8_t cut[] = { 3, 0, 1, 0, 7, 3, 0, 1, 0 }, cut_length[] = { 3, 0, 1, 0, 7, 3 };
-    static const uint8_t low[] = { 3, 0, 1, 0, 7, 1, 0 }, high[] = { 3, 0, 1, 0, 7, 19, 0, 1, 0 };
+    static const uint8_t low[] = { 3, 0, 1, 0, 7, 1, 0 }, high[] = { 3, 0, 1, 0, 7, 243, 0, 1, 0 };
     static const uint8_t no_count[] = { 3, 0, 1, 0, 7, 3, 0, 2, 0, 0 }, status_pay[] = { 3, 0, 1, 0, 7, 3, 0, 4, 0, 0 };
     static const uint8_t pop[] = { 3, 0, 1, 0, 7, 3, 0, 2, 0, 2 };
     expect_run("refusal 1", zeros, unknown, sizeof unknown, 64, 0, 10, unknown_replies, 10, pushed);
@@ -225,11 +225,34 @@ static void refusals_of_a_file(void)
     expect_run("refusal 6", zeros, cut, sizeof cut, 64, 6, 5, one, 5, pushed);
     expect_run("refusal 6, in the length", zeros, cut_length, sizeof cut_length, 64, 6, 5, one, 5, pushed);
     expect_run("refusal 7, length 1", zeros, low, sizeof low, 64, 7, 5, one, 5, pushed);
-    expect_run("refusal 7, length 19", zeros, high, sizeof high, 64, 7, 5, one, 5, pushed);
+    expect_run("refusal 7, length 243", zeros, high, sizeof high, 64, 7, 5, one, 5, pushed);
     expect_run("refusal 7, pop of none", zeros, no_count, sizeof no_count, 64, 7, 5, one, 5, pushed);
     expect_run("refusal 7, payload", zeros, status_pay, sizeof status_pay, 64, 7, 5, one, 5, pushed);
     expect_run("refusal 8", zeros, pop, sizeof pop, 11, 8, 5, one, 5, pushed);
     expect_run("an empty file", pushed, zeros, 0, 0, 0, 0, one, 0, pushed);
+}
+
+/* the longest push and the longest pop: of 240 bytes the last 16 stay, the last on top, and 240 pops hand them out fifteen
+ * times over; then one byte more than either takes */
+static void longest_blocks(void)
+{
+    uint8_t file[244 + 5 + 5], written[5 + 245], left[PUNDALIKET_STATE_BYTES] = { 0 };
+    memcpy(file, "\362\0\1\0", 4);
+    for (unsigned i = 0; i < 240; i++)
+        file[4 + i] = (uint8_t)(i * 11 + 5);
+    memcpy(file + 244, "\3\0\2\0\360", 5);
+    memcpy(file + 249, "\3\0\2\0\361", 5);
+    memcpy(written, "\3\0\201\0\0\363\0\202\0\0", 10);
+    for (unsigned i = 0; i < 16; i++)
+        left[i] = file[4 + 239 - i];
+    for (unsigned i = 0; i < 240; i++)
+        written[10 + i] = left[i % 16];
+    expect_run("a push of 240", zeros, file, 244, 5, 0, 244, written, 5, left);
+    expect_run("a push and a pop of 240", zeros, file, 249, 250, 0, 249, written, 250, left);
+    expect_run("a pop of 240, its room short by a byte", zeros, file, 249, 249, 8, 244, written, 5, left);
+    expect_run("a pop of 241", zeros, file, 254, 1000, 7, 249, written, 250, left);
+    file[244] = 243;
+    expect_run("length 243", zeros, file, 254, 1000, 7, 244, written, 5, left);
 }
 
 static void refusals_of_the_call(void)
@@ -416,13 +439,13 @@ static size_t draw_record(uint8_t *to)
     };
     uint32_t draw = below(16), kind = draw < 6 ? 1 : draw < 8 ? 2 : draw < 13 ? 3 : draw - 9, n = 0;
     if (kind == 1) {
-        n = below(4) ? 4 : below(3) ? 2 : 1 + below(16);
+        n = below(4) ? 4 : below(3) ? 2 : 1 + below(below(4) ? 16 : 240);
         uint32_t w = drawn_word();
         for (uint32_t i = 0; i < n; i++)
             to[4 + i] = i < 4 ? (uint8_t)(w >> (8 * i)) : (uint8_t)drawn();
     } else if (kind == 2) {
         n = 1;
-        to[4] = below(3) ? (below(2) ? 4 : 2) : (uint8_t)(1 + below(16));
+        to[4] = below(3) ? (below(2) ? 4 : 2) : (uint8_t)(1 + below(below(4) ? 16 : 240));
     } else if (kind == 3) {
         n = 1;
         to[4] = below(12) ? codes[below(sizeof codes)] | (uint8_t)(below(2) << 7) : (uint8_t)drawn();
@@ -436,7 +459,7 @@ static size_t draw_record(uint8_t *to)
 
 static void drawn_files(void)
 {
-    static uint8_t file[16384];
+    static uint8_t file[65536];
     uint8_t s[24];
     for (unsigned i = 0; i < 10000; i++) {
         size_t n = 0, records = i % 100 == 0 ? 900 : below(40), room = i % 3 ? 2000 : below(200);
@@ -469,7 +492,7 @@ static void drawn_files(void)
             file[k] = below(3) ? (uint8_t)below(8) : (uint8_t)drawn();
         check(run_agrees(i, zeros, below(10) ? 19 : below(24), file, n, below(40), below(10) ? 9 : below(16)), "small file", i);
     }
-    for (n = 0; n + 20 < PUNDALIKET_MOST_INPUT;)
+    for (n = 0; n + 244 < PUNDALIKET_MOST_INPUT;)
         n += draw_record(file + n);
     while (n < PUNDALIKET_MOST_INPUT + 2)
         file[n++] = 4;
@@ -497,21 +520,21 @@ static void room_for_replies(void)
 {
     static uint8_t file[PUNDALIKET_MOST_INPUT];
     static uint32_t most[PUNDALIKET_MOST_INPUT + 1];
-    /* of the records of 4 bytes a status has the longest reply, 6, of those of 5 a pop of 16, 21; of those of 6 to 20, all pushes, any, 5 */
+    /* of the records of 4 bytes a status has the longest reply, 6, of those of 5 a pop of 240, 245; of those of 6 to 244, all pushes, any, 5 */
     for (size_t n = 0; n <= PUNDALIKET_MOST_INPUT; n++) {
         if (n > 0)
             most[n] = most[n - 1];
         if (n >= 4 && most[n - 4] + 6 > most[n])
             most[n] = most[n - 4] + 6;
-        if (n >= 5 && most[n - 5] + 21 > most[n])
-            most[n] = most[n - 5] + 21;
-        check(most[n] == 21 * (n / 5) + (n % 5 == 4 ? 6 : 0), "replies to a file of", (unsigned)n);
+        if (n >= 5 && most[n - 5] + 245 > most[n])
+            most[n] = most[n - 5] + 245;
+        check(most[n] == 245 * (n / 5) + (n % 5 == 4 ? 6 : 0), "replies to a file of", (unsigned)n);
     }
     check(most[PUNDALIKET_MOST_INPUT] == PUNDALIKET_MOST_REPLIES, "replies to the longest file", most[PUNDALIKET_MOST_INPUT]);
     for (size_t n = PUNDALIKET_MOST_INPUT; n > PUNDALIKET_MOST_INPUT - 8; n--) {
         size_t whole = n / 5 * 5;
         for (size_t i = 0; i < whole; i += 5)
-            memcpy(file + i, "\3\0\2\0\20", 5);
+            memcpy(file + i, "\3\0\2\0\360", 5);
         if (n % 5 == 4) {
             memcpy(file + whole, "\2\0\4\0", 4);
             whole += 4;
@@ -533,7 +556,7 @@ static uint8_t painted[STACK] __attribute__((aligned(64)));
 static size_t deepest;
 
 /* what the next call is lent */
-static uint8_t lent_state[PUNDALIKET_STATE_BYTES], lent_file[2048], lent_replies[8192], lent_report[PUNDALIKET_REPORT_BYTES], lent_out[4];
+static uint8_t lent_state[PUNDALIKET_STATE_BYTES], lent_file[2304], lent_replies[65536], lent_report[PUNDALIKET_REPORT_BYTES], lent_out[4];
 static size_t lent_length;
 static uint32_t lent_number;
 static uint8_t lent_byte;
@@ -586,6 +609,7 @@ int main(void)
 {
     example_of_01();
     refusals_of_a_file();
+    longest_blocks();
     refusals_of_the_call();
     refusals_of_conversions();
     events_of_each_kind();

@@ -12,7 +12,7 @@ use Rattle.terms.specs.declared.Width.{Width}
 use Rattle.terms.specs.declared.Width.the-variants.{Single, Double}
 use Rattle.terms.specs.Width.{sizeOf}
 use Rattle.terms.specs.declared.Rule.{Rule}
-use Rattle.stack.specs.Stack.{IsStack, bytesOf, topByte, pushed, popped, pushedAll, lowFirst, handedOut}
+use Rattle.stack.specs.Stack.{IsStack, bytesOf, topByte, pushed, popped, pushedAll, poppedAll, lowFirst, handedOut}
 use Rattle.stack.proofs.Moves.{pushes-lay, pops-read}
 use Rattle.codes.specs.declared.Command.{Command}
 use Rattle.codes.specs.declared.Kind.the-variants.{Known}
@@ -22,7 +22,7 @@ use Rattle.chip.specs.declared.Answer.{Answer}
 use Rattle.chip.specs.State.{moved}
 use Rattle.chip.specs.Commands.{outcomeOf}
 use Rattle.chip.specs.Step.{done, pushOf, popOf, commandUnder}
-use Rattle.chip.specs.InTurn.{afterPushes, bytesPopped, resultBytes}
+use Rattle.chip.specs.InTurn.{afterPushes, afterPops, bytesPopped, resultBytes}
 use Rattle.chip.proofs.Outcomes.{outcome-hands}
 use Rattle.chip.proofs.Accepted.{accepted, leaves}
 
@@ -49,6 +49,10 @@ pub pushes-state : (l : List ℕ) (s : State) → s .status < 128 → afterPushe
 pushes-state [] s h = refl
 pushes-state (b ∷ l) s h =
     ap (λ (a : Answer). afterPushes (a .state) l) (push-done s b h) ∙ pushes-state l (moved s (pushed (s .stack) b)) h
+
+pub pops-state : (k : ℕ) (s : State) → s .status < 128 → afterPops k s ≡ restacked s (poppedAll k (s .stack)) k
+pops-state zero s h = refl
+pops-state (suc k) s h = ap (λ (a : Answer). afterPops k (a .state)) (pop-done s h) ∙ pops-state k (moved s (popped (s .stack))) h
 
 pub pops-bytes : (k : ℕ) (s : State) → s .status < 128 → bytesPopped k s ≡ handedOut k (s .stack)
 pops-bytes zero s h = refl

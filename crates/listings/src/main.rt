@@ -45,9 +45,9 @@ fn main() {
     // push 0003, a push of two bytes that is cut after the first
     let cut = [4, 0, 1, 0, 3, 0, 4, 0, 1, 0, 5];
     show(b"cut short\n", &cut);
-    // push 0003, a pop of 17 bytes
-    let count = [4, 0, 1, 0, 3, 0, 3, 0, 2, 0, 17];
-    show(b"pop of 17\n", &count);
+    // push 0003, a pop of 241 bytes
+    let count = [4, 0, 1, 0, 3, 0, 3, 0, 2, 0, 241];
+    show(b"pop of 241\n", &count);
     // push 00, code 0C unknown, SIN derived, SADD and NOP with a half word pending
     let half = [
         3,

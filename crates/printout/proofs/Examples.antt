@@ -8,7 +8,7 @@ use Rattle.chip.specs.Status.{statusOf}
 use Rattle.chip.specs.Commands.{keepsA}
 use Rattle.chip.specs.Step.{pushOf, popOf, readOf, carried, commandUnder}
 use Rattle.files.specs.Run.{run, runBy}
-use Rattle.records.specs.Record.{headOf, turnOf}
+use Rattle.records.specs.Record.{frameUnder, turnUnder}
 use Rattle.stored.specs.Bytes.{isState}
 use Rattle.pundaliket.specs.Calls.{callOf}
 use Rattle.listing.specs.Text.{spelled}
@@ -22,5 +22,5 @@ exampleInput =
     6 ∷ 0 ∷ 1 ∷ 0 ∷ 3 ∷ 0 ∷ 5 ∷ 0 ∷ 3 ∷ 0 ∷ 3 ∷ 0 ∷ 108 ∷ 3 ∷ 0 ∷ 2 ∷ 0 ∷ 2 ∷ 2 ∷ 0 ∷ 4 ∷ 0 ∷ []
 
 pub example-printed : printoutOf exampleInput ≡ exampleText
-unfolding decoded low add statusOf keepsA pushOf popOf readOf carried commandUnder headOf turnOf run runBy isState callOf spelled hasReply linesUpTo
+unfolding decoded low add statusOf keepsA pushOf popOf readOf carried commandUnder frameUnder turnUnder run runBy isState callOf spelled hasReply linesUpTo
 example-printed = refl

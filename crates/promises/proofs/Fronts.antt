@@ -10,12 +10,14 @@ use lib.ListN.{length, getD}
 use Rattle.terms.specs.declared.Refusal.{Refusal}
 use Rattle.terms.specs.declared.Refusal.the-variants.{NoSuchKind, CutShort, BadLength, NoRoom}
 use Rattle.terms.specs.Refusal.{numberOf}
+use Rattle.terms.specs.Limits.{mostPayload}
 use Rattle.chip.specs.declared.State.{State}
 use Rattle.records.specs.declared.head.Event.{Event}
 use Rattle.records.specs.declared.head.Event.the-variants.{Push, Pop, Command, Status, Reset, Acknowledge}
+use Rattle.records.specs.declared.head.Frame.the-variants.{Broken}
 use Rattle.records.specs.declared.head.Head.the-variants.{Stop}
 use Rattle.little.specs.Little.{wordAt}
-use Rattle.records.specs.Record.{answeredOf, headNumber, rowOf, headOf, Holds, stopped, turnOf}
+use Rattle.records.specs.Record.{answeredOf, headNumber, rowUnder, frameUnder, headIn, headOf, Holds, stopped, turnUnder, turnOf}
 use Rattle.records.specs.Run.{ended}
 use Rattle.files.proofs.Tests.{either-lt, either-eq}
 use Rattle.records.proofs.Heads.{short, low, high, cut, whole, head-is}
@@ -30,18 +32,22 @@ stops-with s l room r e some n =
     let k : headNumber (headOf l) ≡ numberOf r = ap headNumber e in
     bad-head s l room some (λ z. omega (arith, z, k)) ∙ ap (λ (m : ℕ). ended m s) k
 
+-- a frame that is broken
+broken : (l : List ℕ) (r : Refusal) → frameUnder mostPayload l ≡ Broken r → headOf l ≡ Stop r
+broken l r e = ap (headIn mostPayload l) e
+
 -- all bytes there: the row of the kind and of the payload of n bytes
-row-is : (l : List ℕ) (n k : ℕ) → wordAt l 0 ≡ 2 + n → wordAt l 2 ≡ k → n ≤ 16 → 4 + n ≤ length l → headOf l ≡ rowOf k n (getD l 4 0)
+row-is : (l : List ℕ) (n k : ℕ) → wordAt l 0 ≡ 2 + n → wordAt l 2 ≡ k → n ≤ 240 → 4 + n ≤ length l → headOf l ≡ rowUnder mostPayload k n (getD l 4 0)
 row-is l n k a b d e =
     let m : wordAt l 0 - 2 ≡ n = omega arith in
-    whole l (omega arith) (omega arith) (omega arith) (omega arith) ∙ ap₂ (λ (i j : ℕ). rowOf i j (getD l 4 0)) b m
+    ap (headIn mostPayload l) (whole mostPayload l (omega arith) (omega arith) (omega arith) (omega arith)) ∙ ap₂ (λ (i j : ℕ). rowUnder mostPayload i j (getD l 4 0)) b m
 
 -- ---- rows
 -- a kind that is none is none of the six
 pub none : (k : ℕ) → (k ≡ 0) ⊎ (6 < k) → (i : ℕ) → 1 ≤ i → i ≤ 6 → k ≡ i → ⊥
 none k h i a b e = ⊎-elim (λ z. omega arith) (λ z. omega arith) h
 
-other-kind : (k n first : ℕ) → (k ≡ 0) ⊎ (6 < k) → rowOf k n first ≡ Stop NoSuchKind
+other-kind : (k n first : ℕ) → (k ≡ 0) ⊎ (6 < k) → rowUnder mostPayload k n first ≡ Stop NoSuchKind
 other-kind k n first h =
     rw (
       ne-eqb k 1 (none k h 1 (lit≤ tt) (lit≤ tt)),
@@ -52,41 +58,41 @@ other-kind k n first h =
       ne-eqb k 6 (none k h 6 (lit≤ tt) (lit≤ tt)),
     )
 
-not-one : (n first : ℕ) → (n ≡ 1 → ⊥) → (rowOf 2 n first ≡ Stop BadLength) × (rowOf 3 n first ≡ Stop BadLength)
+not-one : (n first : ℕ) → (n ≡ 1 → ⊥) → (rowUnder mostPayload 2 n first ≡ Stop BadLength) × (rowUnder mostPayload 3 n first ≡ Stop BadLength)
 not-one n first h = rw (ne-eqb n 1 h) (refl, refl)
 
-pop-low : (first : ℕ) → first ≡ 0 → rowOf 2 1 first ≡ Stop BadLength
+pop-low : (first : ℕ) → first ≡ 0 → rowUnder mostPayload 2 1 first ≡ Stop BadLength
 pop-low first h = rw h
 
-pop-high : (first : ℕ) → 16 < first → rowOf 2 1 first ≡ Stop BadLength
-pop-high first h = rw (le-ltb first 1 (omega arith), lt-ltb 16 first h)
+pop-high : (first : ℕ) → 240 < first → rowUnder mostPayload 2 1 first ≡ Stop BadLength
+pop-high first h = rw (le-ltb first 1 (omega arith), lt-ltb 240 first h)
 
-some-bytes : (k n first : ℕ) → 1 ≤ n → 4 ≤ k → k ≤ 6 → rowOf k n first ≡ Stop BadLength
+some-bytes : (k n first : ℕ) → 1 ≤ n → 4 ≤ k → k ≤ 6 → rowUnder mostPayload k n first ≡ Stop BadLength
 some-bytes k n first h a b =
     let z = ne-eqb n 0 (λ e. omega arith) in
-    either-eq (λ (x : ℕ). rowOf k n first ≡ Stop BadLength) k 4 0 0 (λ e. rw (e, z)) (λ e.
-    either-eq (λ (x : ℕ). rowOf k n first ≡ Stop BadLength) k 5 0 0 (λ f. rw (f, z)) (λ f.
+    either-eq (λ (x : ℕ). rowUnder mostPayload k n first ≡ Stop BadLength) k 4 0 0 (λ e. rw (e, z)) (λ e.
+    either-eq (λ (x : ℕ). rowUnder mostPayload k n first ≡ Stop BadLength) k 5 0 0 (λ f. rw (f, z)) (λ f.
     let g : k ≡ 6 = omega arith in rw (g, z)))
 
 -- a whole record whose reply has no room
-no-turn : (s : State) (l : List ℕ) (room : ℕ) (e : Event) → Holds l e → room < 5 + answeredOf e → turnOf s l room ≡ stopped NoRoom s
-unfolding turnOf
+no-turn : (s : State) (l : List ℕ) (room : ℕ) (e : Event) → Holds mostPayload l e → room < 5 + answeredOf e → turnOf s l room ≡ stopped NoRoom s
+unfolding turnUnder
 no-turn s l room e h g = rw (head-is l e h, lt-ltb room (5 + answeredOf e) g)
 
-crowded : (s : State) (l : List ℕ) (room : ℕ) (e : Event) → Holds l e → room < 5 + answeredOf e → Stops s l room 8
+crowded : (s : State) (l : List ℕ) (room : ℕ) (e : Event) → Holds mostPayload l e → room < 5 + answeredOf e → Stops s l room 8
 crowded s l room e h g = first-stops lawful s l room (stopped NoRoom s) (no-turn s l room e h g) (omega (arith, h .there)) (λ y. omega arith)
 
 -- ---- the statement
 pub fronts : Fronts
 fronts = record {
-  one-byte = λ s room a. stops-with s (a ∷ []) room CutShort (short (a ∷ []) (omega arith)) (omega arith) (omega arith);
+  one-byte = λ s room a. stops-with s (a ∷ []) room CutShort (broken (a ∷ []) CutShort (short mostPayload (a ∷ []) (omega arith))) (omega arith) (omega arith);
   bad-length = λ s room a b rest h.
       stops-with s (a ∷ b ∷ rest) room BadLength
       (either-lt (λ (x : ℕ). headOf (a ∷ b ∷ rest) ≡ Stop BadLength) (a + b * 256) 2 0 0
-      (λ i. low (a ∷ b ∷ rest) (omega arith) i)
-      (λ i. high (a ∷ b ∷ rest) (omega arith) i (⊎-elim (λ z. absurd (omega arith)) (λ z. z) h)))
+      (λ i. broken (a ∷ b ∷ rest) BadLength (low mostPayload (a ∷ b ∷ rest) (omega arith) i))
+      (λ i. broken (a ∷ b ∷ rest) BadLength (high mostPayload (a ∷ b ∷ rest) (omega arith) i (⊎-elim (λ z. absurd (omega arith)) (λ z. z) h))))
       (omega arith) (omega arith);
-  bytes-missing = λ s room a b rest i j h. stops-with s (a ∷ b ∷ rest) room CutShort (cut (a ∷ b ∷ rest) (omega arith) i j (omega arith)) (omega arith) (omega arith);
+  bytes-missing = λ s room a b rest i j h. stops-with s (a ∷ b ∷ rest) room CutShort (broken (a ∷ b ∷ rest) CutShort (cut mostPayload (a ∷ b ∷ rest) (omega arith) i j (omega arith))) (omega arith) (omega arith);
   bad-kind = λ s room n c d rest i j h.
       let l : List ℕ = (2 + n) ∷ 0 ∷ c ∷ d ∷ rest in
       stops-with s l room NoSuchKind (row-is l n (c + d * 256) (omega arith) refl i (omega arith) ∙ other-kind (c + d * 256) n (getD l 4 0) h) (omega arith) (omega arith);

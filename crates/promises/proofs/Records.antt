@@ -21,6 +21,7 @@ use Rattle.records.specs.declared.head.Head.{Head}
 use Rattle.records.specs.declared.head.Head.the-variants.{Whole, Stop}
 use Rattle.records.specs.Record.{kindOf, payloadOf, answeredOf, headNumber, headOf, answerOf, dataOf, replyOf, stopped, turnOf}
 use Rattle.records.specs.Run.{Outcome, ended, took, after, runOf}
+use Rattle.terms.specs.Limits.{mostPayload}
 use Rattle.records.proofs.Steps.{steps}
 use Rattle.records.proofs.Prefix.{holds-too, within, lawful}
 use Rattle.records.proofs.Single.{one-turn, no-turn, stopped-by, push-alone, pop-alone, command-alone, status-alone, reset-alone, acknowledge-alone}
@@ -85,7 +86,7 @@ counted =
     let r = take (t .size) l in
     let o = runOf (t .state) (drop (t .size) l) (room - length (t .reply)) in
     let one = alone lawful s l room p z in
-    let n = length-take-le (t .size) l (within s l room z) in
+    let n = length-take-le (t .size) l (within mostPayload s l room z) in
     let g = length-append (t .reply) (o .written) in
     record {
       records = r ∷ h .records;

@@ -16,7 +16,7 @@ use Rattle.chip.proofs.Rows.{both-of}
 use Rattle.host.specs.Host.{hostOf, takenOf}
 use Rattle.files.specs.Run.{run, runBy}
 use Rattle.records.specs.declared.head.Event.the-variants.{Push, Reset}
-use Rattle.records.specs.Record.{headOf, turnOf}
+use Rattle.records.specs.Record.{frameUnder, turnUnder}
 use Rattle.stored.specs.Bytes.{isState}
 use Rattle.pundaliket.specs.Calls.{callOf, signalOf, sentOf}
 use Rattle.pundaliket.proofs.Calling.{bad-state, too-long}
@@ -80,7 +80,7 @@ module _ (c : Core) (M : Meets c) where
 
 -- ---- what the definitions give
 tells : (c : Core) → Meets c → Tells c
-unfolding callOf signalOf sentOf isState runBy run turnOf headOf hostOf takenOf pushOf resetOf
+unfolding callOf signalOf sentOf isState runBy run turnUnder frameUnder hostOf takenOf pushOf resetOf
 tells c M = record {
   run-0 = M .run fresh [] [] nine fresh-bytes tt tt nine-bytes .result-is;
   run-14 = M .run fresh [] [] [] fresh-bytes tt tt tt .result-is;

@@ -20,3 +20,5 @@ pub mod TwosComplement
 pub mod Listings
 pub mod Figures
 pub mod WrongCores
+pub mod OldLimits
+pub mod LongBlocks

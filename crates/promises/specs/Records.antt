@@ -23,7 +23,7 @@ use Rattle.pundaliket.specs.Calls.{callOf}
 -- a whole record of an event and nothing else
 pub record IsRecord (r : List ℕ) : Type 0 where
   pub event : Event
-  pub held : Holds r event
+  pub held : Holds mostPayload r event
   pub size : length r ≡ 4 + payloadOf event
 
 -- the bytes of a list of records

@@ -5,5 +5,6 @@ pub mod Writes
 pub mod Turning
 pub mod Steps
 pub mod Prefix
+pub mod Wider
 pub mod Single
 pub mod Ready

@@ -23,18 +23,18 @@ use Rattle.files.proofs.Append.{nothing, first-stops, first-taken}
 use Rattle.records.specs.declared.head.Event.{Event}
 use Rattle.records.specs.declared.head.Event.the-variants.{Push, Pop, Command, Status, Reset, Acknowledge}
 use Rattle.records.specs.declared.head.Head.the-variants.{Stop}
-use Rattle.records.specs.Record.{kindOf, payloadOf, answeredOf, headOf, Carried, Holds, before, pushAll, popAll, answerOf, dataOf, replyOf, stopped, worked, turnOf}
+use Rattle.records.specs.Record.{kindOf, payloadOf, answeredOf, headOf, Carried, Holds, before, pushAll, popAll, answerOf, dataOf, replyOf, stopped, worked, turnUnder, turnOf}
 use Rattle.records.specs.Run.{ended, took, runOf}
 use Rattle.records.proofs.Heads.{head-is}
 use Rattle.records.proofs.Blocks.{length-popped}
 use Rattle.records.proofs.Prefix.{lawful}
 
-module _ (s : State) (r : List ℕ) (room : ℕ) (e : Event) (h : Holds r e) (n : length r ≡ 4 + payloadOf e) where
+module _ (s : State) (r : List ℕ) (room : ℕ) (e : Event) (h : Holds mostPayload r e) (n : length r ≡ 4 + payloadOf e) where
   some : 0 < length r
   some = omega arith
 
   the-turn : 5 + answeredOf e ≤ room → turnOf s r room ≡ worked s e (answerOf s (drop 4 r) e)
-  unfolding turnOf
+  unfolding turnUnder
   the-turn g = rw (head-is r e h, le-ltb room (5 + answeredOf e) g, take-all (payloadOf e) (drop 4 r) (simp length-drop (omega arith)))
 
   -- it is taken: state and reply from the chip's answer
@@ -47,7 +47,7 @@ module _ (s : State) (r : List ℕ) (room : ℕ) (e : Event) (h : Holds r e) (n 
       ∙ rw (d, nothing lawful (t .state) (room - length (t .reply)), add-zero (4 + payloadOf e), append-nil (t .reply))
 
   stop-turn : room < 5 + answeredOf e → turnOf s r room ≡ stopped NoRoom s
-  unfolding turnOf
+  unfolding turnUnder
   stop-turn g = rw (head-is r e h, lt-ltb room (5 + answeredOf e) g)
 
   -- its reply has no room
@@ -56,7 +56,7 @@ module _ (s : State) (r : List ℕ) (room : ℕ) (e : Event) (h : Holds r e) (n 
 
 -- a head that is a refusal
 pub stopped-by : (s : State) (l : List ℕ) (room : ℕ) (r : Refusal) → headOf l ≡ Stop r → turnOf s l room ≡ stopped r s
-unfolding turnOf
+unfolding turnUnder
 stopped-by s l room r e = rw e
 
 -- ---- what the chip answers while it is not busy
@@ -93,7 +93,7 @@ pub push-alone : (s : State) (p : List ℕ) (room : ℕ) → busy s ≡ false �
 push-alone s p room calm least most fits =
     let r : List ℕ = (2 + length p) ∷ 0 ∷ 1 ∷ 0 ∷ p in
     let e = Push (length p) in
-    let h : Holds r e = record { length-is = omega arith; kind-is = refl; there = omega arith; small = most; carried = least } in
+    let h : Holds mostPayload r e = record { length-is = omega arith; kind-is = refl; there = omega arith; small = most; carried = least } in
     let q = pushes p (before s) calm refl in
     one-turn s r room e h (omega arith) (omega arith) ∙ rw (q .0, q .1)
 
@@ -102,7 +102,7 @@ pub pop-alone : (s : State) (n room : ℕ) → busy s ≡ false → 1 ≤ n → 
 pop-alone s n room calm least most fits =
     let r : List ℕ = 3 ∷ 0 ∷ 2 ∷ 0 ∷ n ∷ [] in
     let e = Pop n in
-    let h : Holds r e = record { length-is = refl; kind-is = refl; there = omega arith; small = lit≤ tt; carried = (refl, least, most) } in
+    let h : Holds mostPayload r e = record { length-is = refl; kind-is = refl; there = omega arith; small = lit≤ tt; carried = (refl, least, most) } in
     let q = pops n (before s) calm refl in
     let low : (3 + n) % 256 ≡ 3 + n = omega arith in
     let high : (3 + n) / 256 ≡ 0 = omega arith in
@@ -112,11 +112,11 @@ pub command-alone : (s : State) (code room : ℕ) → 5 ≤ room
     → runOf s (3 ∷ 0 ∷ 3 ∷ 0 ∷ code ∷ []) room ≡ took (commandOf s code .state) 5 (3 ∷ 0 ∷ 131 ∷ 0 ∷ numberOf (commandOf s code .refusal) ∷ [])
 command-alone s code room fits =
     let r : List ℕ = 3 ∷ 0 ∷ 3 ∷ 0 ∷ code ∷ [] in
-    let h : Holds r (Command code) = record { length-is = refl; kind-is = refl; there = omega arith; small = lit≤ tt; carried = refl } in
+    let h : Holds mostPayload r (Command code) = record { length-is = refl; kind-is = refl; there = omega arith; small = lit≤ tt; carried = refl } in
     one-turn s r room (Command code) h refl fits
 
 -- the three kinds without a payload
-bare : (e : Event) (k : ℕ) → k ≡ kindOf e → payloadOf e ≡ 0 → Carried 0 e → Holds (2 ∷ 0 ∷ k ∷ 0 ∷ []) e
+bare : (e : Event) (k : ℕ) → k ≡ kindOf e → payloadOf e ≡ 0 → Carried mostPayload 0 e → Holds mostPayload (2 ∷ 0 ∷ k ∷ 0 ∷ []) e
 bare e k a b c = record { length-is = omega arith; kind-is = omega arith; there = omega arith; small = omega arith; carried = c }
 
 pub status-alone : (s : State) (room : ℕ) → busy s ≡ false → 6 ≤ room → runOf s (2 ∷ 0 ∷ 4 ∷ 0 ∷ []) room ≡ took s 4 (4 ∷ 0 ∷ 132 ∷ 0 ∷ 0 ∷ s .status ∷ [])

@@ -9,7 +9,7 @@ pub use Rattle.little.specs.Little.{wordAt, le2}
 use Rattle.terms.specs.declared.Refusal.{Refusal}
 use Rattle.terms.specs.declared.Refusal.the-variants.{Done, NoSuchKind, CutShort, BadLength, NoRoom}
 use Rattle.terms.specs.Refusal.{numberOf}
-use Rattle.terms.specs.Limits.{mostPayload, leastLength, mostLength}
+use Rattle.terms.specs.Limits.{mostPayload, leastLength}
 use Rattle.chip.specs.declared.State.{State}
 use Rattle.chip.specs.declared.Answer.{Answer}
 use Rattle.chip.specs.Step.{pushOf, popOf, readOf, resetOf, acknowledgeOf, commandOf}
@@ -17,6 +17,8 @@ use Rattle.chip.specs.InTurn.{bytesPopped}
 use Rattle.files.specs.Run as files
 use Rattle.records.specs.declared.head.Event.{Event}
 use Rattle.records.specs.declared.head.Event.the-variants.{Push, Pop, Command, Status, Reset, Acknowledge}
+use Rattle.records.specs.declared.head.Frame.{Frame}
+use Rattle.records.specs.declared.head.Frame.the-variants.{Framed, Broken}
 use Rattle.records.specs.declared.head.Head.{Head}
 use Rattle.records.specs.declared.head.Head.the-variants.{Whole, Stop}
 
@@ -61,40 +63,52 @@ abbrev pub pushRow : ℕ → Head
 pushRow n = cond (ltb n 1) (Stop BadLength) (Whole (Push n))
 
 -- a pop whose payload is not one byte, or whose count is 0 or over the most, is 7
-abbrev pub popRow : ℕ → ℕ → Head
-popRow n count =
+abbrev pub popRow : ℕ → ℕ → ℕ → Head
+popRow most n count =
     cond (eqb n 1)
-    (cond (ltb count 1) (Stop BadLength) (cond (ltb mostPayload count) (Stop BadLength) (Whole (Pop count))))
+    (cond (ltb count 1) (Stop BadLength) (cond (ltb most count) (Stop BadLength) (Whole (Pop count))))
     (Stop BadLength)
 
--- 01's table of kinds: the kind, the bytes of the payload, and the first of them
-abbrev pub rowOf : ℕ → ℕ → ℕ → Head
-rowOf kind n first =
+-- 01's table of kinds: the most bytes that a record pushes or pops, the kind, the bytes of the payload, and the first of them
+abbrev pub rowUnder : ℕ → ℕ → ℕ → ℕ → Head
+rowUnder most kind n first =
     cond (eqb kind 1) (pushRow n)
-    (cond (eqb kind 2) (popRow n first)
+    (cond (eqb kind 2) (popRow most n first)
     (cond (eqb kind 3) (exactly 1 n (Command first))
     (cond (eqb kind 4) (exactly 0 n Status)
     (cond (eqb kind 5) (exactly 0 n Reset)
     (cond (eqb kind 6) (exactly 0 n Acknowledge)
     (Stop NoSuchKind))))))
 
--- the front of a file: fewer than two bytes 6, length out of range 7, bytes missing 6, then kind 5 and payload 7
-unfoldable pub headOf : List ℕ → Head
-headOf l =
-    cond (ltb (length l) 2) (Stop CutShort)
-    (cond (ltb (wordAt l 0) leastLength) (Stop BadLength)
-    (cond (ltb mostLength (wordAt l 0)) (Stop BadLength)
-    (cond (ltb (length l - 2) (wordAt l 0)) (Stop CutShort)
-    (rowOf (wordAt l 2) (wordAt l 0 - 2) (getD l 4 0)))))
+-- the frame of a record at the front of a file: fewer than two bytes 6, length out of range 7, bytes missing 6, else the bytes of its payload
+unfoldable pub frameUnder : ℕ → List ℕ → Frame
+frameUnder most l =
+    cond (ltb (length l) 2) (Broken CutShort)
+    (cond (ltb (wordAt l 0) leastLength) (Broken BadLength)
+    (cond (ltb (leastLength + most) (wordAt l 0)) (Broken BadLength)
+    (cond (ltb (length l - 2) (wordAt l 0)) (Broken CutShort)
+    (Framed (wordAt l 0 - 2)))))
+
+-- then kind 5 and payload 7
+abbrev pub headIn : ℕ → List ℕ → Frame → Head
+headIn most l (Framed n) = rowUnder most (wordAt l 2) n (getD l 4 0)
+headIn most l (Broken r) = Stop r
+
+abbrev pub headUnder : ℕ → List ℕ → Head
+headUnder most l = headIn most l (frameUnder most l)
+
+-- under the limit of today
+abbrev pub headOf : List ℕ → Head
+headOf l = headUnder mostPayload l
 
 -- the event of a record whose first payload byte is this: at least one byte is pushed or popped, and not too many; a code is that byte
-abbrev pub Carried : ℕ → Event → Type 0
-Carried first (Push n) = 1 ≤ n
-Carried first (Pop n) = (n ≡ first) × (1 ≤ n) × (n ≤ mostPayload)
-Carried first (Command code) = code ≡ first
-Carried first Status = Unit
-Carried first Reset = Unit
-Carried first Acknowledge = Unit
+abbrev pub Carried : ℕ → ℕ → Event → Type 0
+Carried most first (Push n) = 1 ≤ n
+Carried most first (Pop n) = (n ≡ first) × (1 ≤ n) × (n ≤ most)
+Carried most first (Command code) = code ≡ first
+Carried most first Status = Unit
+Carried most first Reset = Unit
+Carried most first Acknowledge = Unit
 
 -- a push or a pop is of at least one byte
 abbrev pub Asks : Event → Type 0
@@ -105,13 +119,13 @@ Asks Status = Unit
 Asks Reset = Unit
 Asks Acknowledge = Unit
 
--- a whole record of this event stands at the front of a file
-pub record Holds (l : List ℕ) (e : Event) : Type 0 where
+-- a whole record of this event, of at most so many bytes, stands at the front of a file
+pub record Holds (most : ℕ) (l : List ℕ) (e : Event) : Type 0 where
   pub length-is : wordAt l 0 ≡ 2 + payloadOf e
   pub kind-is : wordAt l 2 ≡ kindOf e
   pub there : 4 + payloadOf e ≤ length l
-  pub small : payloadOf e ≤ mostPayload
-  pub carried : Carried (getD l 4 0) e
+  pub small : payloadOf e ≤ most
+  pub carried : Carried most (getD l 4 0) e
 
 -- ---- what an event does
 
@@ -176,6 +190,10 @@ turnBy s l room (Stop r) = stopped r s
 turnBy s l room (Whole e) =
     cond (ltb room (5 + answeredOf e)) (stopped NoRoom s) (worked s e (answerOf s (take (payloadOf e) (drop 4 l)) e))
 
--- the record step
-unfoldable pub turnOf : State → List ℕ → ℕ → Turned
-turnOf s l room = turnBy s l room (headOf l)
+-- the record step, where a record pushes or pops at most so many bytes
+unfoldable pub turnUnder : ℕ → State → List ℕ → ℕ → Turned
+turnUnder most s l room = turnBy s l room (headUnder most l)
+
+-- under the limit of today
+abbrev pub turnOf : State → List ℕ → ℕ → Turned
+turnOf = turnUnder mostPayload

@@ -3,7 +3,8 @@ use Prim.Native.Nat.{ℕ}
 use mathlib.Core.List.{List}
 use Rattle.chip.specs.declared.State.{State}
 use Rattle.files.specs.Run as files
-use Rattle.records.specs.Record.{turnOf}
+use Rattle.terms.specs.Limits.{mostPayload}
+use Rattle.records.specs.Record.{turnUnder}
 
 -- what a run leaves: its refusal, the state, the bytes of whole records taken, the replies written
 abbrev pub Outcome : Type 0
@@ -21,6 +22,10 @@ took s size reply = files.took s size reply
 abbrev pub after : ℕ → List ℕ → Outcome → Outcome
 after n w o = files.after n w o
 
--- the run of a file, with so much room for the replies
+-- the run of a file whose records push or pop at most so many bytes, with so much room for the replies
+abbrev pub runUnder : ℕ → State → List ℕ → ℕ → Outcome
+runUnder most s l room = files.runBy (turnUnder most) s l room
+
+-- under the limit of today
 abbrev pub runOf : State → List ℕ → ℕ → Outcome
-runOf s l room = files.runBy turnOf s l room
+runOf s l room = runUnder mostPayload s l room

@@ -4,7 +4,8 @@ use terms::Refusal;
 ghost use mathlib.Core.Path.{_≡_};
 ghost use Prim.Native.Nat.{_+_, _*_, _≤_};
 ghost use lib.ListN.{length, getD};
-ghost use Rattle.records.specs.Record.{exactly, pushRow, popRow, rowOf, headOf};
+ghost use Rattle.terms.specs.Limits.{mostPayload};
+ghost use Rattle.records.specs.Record.{exactly, pushRow, popRow, rowUnder, frameUnder, headOf};
 
 // The event of a record, one case for each kind of 01's table.
 pub enum Event {
@@ -17,6 +18,12 @@ pub enum Event {
     Status,
     Reset,
     Acknowledge,
+}
+
+// The frame of the record at the front of a file: the bytes of its payload, or a refusal.
+pub enum Frame {
+    Framed(usize),
+    Broken(Refusal),
 }
 
 // What stands at the front of a file: a whole record with its event, or a refusal.
@@ -54,7 +61,7 @@ fn push_row(n: usize) -> Head
 
 // A pop of so many bytes, 1 to the most.
 fn pop_of(count: u8) -> Head
-    ensures { λ r. ⌜ r ≡ popRow 1 count ⌝ }
+    ensures { λ r. ⌜ r ≡ popRow mostPayload 1 count ⌝ }
 {
     let bytes = count as usize;
     if bytes < 1 {
@@ -69,7 +76,7 @@ fn pop_of(count: u8) -> Head
 // A pop whose payload has n bytes, the first of them the count.
 fn pop_row(rest: &[u8], n: usize) -> Head
     requires { ⌜ 4 + n ≤ length (now rest) ⌝ }
-    ensures { λ r. ⌜ r ≡ popRow n (getD (now (rest .entry)) 4 0) ⌝ }
+    ensures { λ r. ⌜ r ≡ popRow mostPayload n (getD (now (rest .entry)) 4 0) ⌝ }
 {
     if n != 1 {
         return Head::Stop(Refusal::BadLength);
@@ -91,7 +98,7 @@ fn command_row(rest: &[u8], n: usize) -> Head
 // The row of 01's table for a kind and a payload of n bytes, which stand behind the four bytes of the head.
 fn row(kind: u16, n: usize, rest: &[u8]) -> Head
     requires { ⌜ 4 + n ≤ length (now rest) ⌝ }
-    ensures { λ r. ⌜ r ≡ rowOf kind n (getD (now (rest .entry)) 4 0) ⌝ }
+    ensures { λ r. ⌜ r ≡ rowUnder mostPayload kind n (getD (now (rest .entry)) 4 0) ⌝ }
 {
     match kind {
         1 => push_row(n),
@@ -104,23 +111,33 @@ fn row(kind: u16, n: usize, rest: &[u8]) -> Head
     }
 }
 
+// The frame of the record at the front of `rest`.
+pub fn read_frame(rest: &[u8]) -> Frame
+    ensures { λ r. ⌜ r ≡ frameUnder mostPayload (now (rest .entry)) ⌝ }
+{
+    let left = rest.len();
+    if left < 2 {
+        return Frame::Broken(Refusal::CutShort);
+    }
+    let n = word(rest[0], rest[1]) as usize;
+    if n < terms::LEAST_LENGTH {
+        return Frame::Broken(Refusal::BadLength);
+    }
+    if terms::MOST_LENGTH < n {
+        return Frame::Broken(Refusal::BadLength);
+    }
+    if left - 2 < n {
+        return Frame::Broken(Refusal::CutShort);
+    }
+    Frame::Framed(n - 2)
+}
+
 // The head of the record at the front of `rest`.
 pub fn read_head(rest: &[u8]) -> Head
     ensures { λ r. ⌜ r ≡ headOf (now (rest .entry)) ⌝ }
 {
-    let left = rest.len();
-    if left < 2 {
-        return Head::Stop(Refusal::CutShort);
+    match read_frame(rest) {
+        Frame::Framed(n) => row(word(rest[2], rest[3]), n, rest),
+        Frame::Broken(refusal) => Head::Stop(refusal),
     }
-    let n = word(rest[0], rest[1]) as usize;
-    if n < terms::LEAST_LENGTH {
-        return Head::Stop(Refusal::BadLength);
-    }
-    if terms::MOST_LENGTH < n {
-        return Head::Stop(Refusal::BadLength);
-    }
-    if left - 2 < n {
-        return Head::Stop(Refusal::CutShort);
-    }
-    row(word(rest[2], rest[3]), n - 2, rest)
 }

@@ -28,15 +28,15 @@ pub struct Pass {
     pub reply: usize,
 }
 
-// The five bytes before a reply's n bytes of data, at the front of `room`.
-fn open_reply(room: &mut [u8], n: usize, kind: u8, refusal: u8)
-    requires { ⌜ (n ≤ mostPayload) × (5 ≤ length (now room)) × (kind < 128) ⌝ }
-    ensures { λ _. ⌜ now (room .exit) ≡ le2 (3 + n) ++ (le2 (kind + 128) ++ (refusal ∷ drop 5 (now (room .entry)))) ⌝ }
+// The five bytes before a reply's n bytes of data, at the front of `room`; the kind is the reply's own.
+fn open_reply(room: &mut [u8], n: usize, kind: u16, refusal: u8)
+    requires { ⌜ (n ≤ mostPayload) × (5 ≤ length (now room)) ⌝ }
+    ensures { λ _. ⌜ now (room .exit) ≡ le2 (3 + n) ++ (le2 kind ++ (refusal ∷ drop 5 (now (room .entry)))) ⌝ }
 {
     room[0] = (3 + n) as u8;
     room[1] = 0;
-    room[2] = kind + 128;
-    room[3] = 0;
+    room[2] = (kind % 256) as u8;
+    room[3] = (kind / 256) as u8;
     room[4] = refusal;
 }
 
@@ -67,9 +67,9 @@ fn blank(room: &mut [u8], n: usize)
 }
 
 // A record that meets a busy state: 13, and zeros in the place of its n bytes of data.
-fn turn_away(f: Flags, room: &mut [u8], kind: u8, payload: usize, n: usize) -> Pass
-    requires { ⌜ (n ≤ mostPayload) × (5 + n ≤ length (now room)) × (kind < 128) × (payload ≤ mostPayload) ⌝ }
-    ensures { λ r. ⌜ (r ≡ turnedAway f payload n) × (now (room .exit) ≡ le2 (3 + n) ++ (le2 (kind + 128) ++ (13 ∷ (zeros n ++ drop n (drop 5 (now (room .entry))))))) ⌝ }
+fn turn_away(f: Flags, room: &mut [u8], kind: u16, payload: usize, n: usize) -> Pass
+    requires { ⌜ (n ≤ mostPayload) × (5 + n ≤ length (now room)) × (payload ≤ mostPayload) ⌝ }
+    ensures { λ r. ⌜ (r ≡ turnedAway f payload n) × (now (room .exit) ≡ le2 (3 + n) ++ (le2 kind ++ (13 ∷ (zeros n ++ drop n (drop 5 (now (room .entry))))))) ⌝ }
 {
     blank(&mut room[5..], n);
     open_reply(room, n, kind, number(Refusal::BadState));
@@ -92,11 +92,11 @@ fn pass_push(stack: &mut [u8], f: Flags, n: usize, rest: &[u8], room: &mut [u8])
         return stop(Refusal::NoRoom, f);
     }
     if 128 <= f.status {
-        return turn_away(f, room, 1, n, 0);
+        return turn_away(f, room, 129, n, 0);
     }
     let end = 4 + n;
     let pending = place::push(stack, f.pending, &rest[4..end]);
-    open_reply(room, 0, 1, 0);
+    open_reply(room, 0, 129, 0);
     Pass {
         refusal: 0,
         pending,
@@ -116,10 +116,10 @@ fn pass_pop(stack: &mut [u8], f: Flags, n: usize, room: &mut [u8]) -> Pass
         return stop(Refusal::NoRoom, f);
     }
     if 128 <= f.status {
-        return turn_away(f, room, 2, 1, n);
+        return turn_away(f, room, 130, 1, n);
     }
     let pending = place::pop(stack, f.pending, n, &mut room[5..]);
-    open_reply(room, n, 2, 0);
+    open_reply(room, n, 130, 0);
     Pass {
         refusal: 0,
         pending,
@@ -139,11 +139,11 @@ fn pass_command(stack: &mut [u8], f: Flags, code: u8, room: &mut [u8]) -> Pass
         return stop(Refusal::NoRoom, f);
     }
     if 128 <= f.status {
-        return turn_away(f, room, 3, 1, 0);
+        return turn_away(f, room, 131, 1, 0);
     }
     let answer = place::command(stack, f.pending, code);
     if answer < 256 {
-        open_reply(room, 0, 3, 0);
+        open_reply(room, 0, 131, 0);
         return Pass {
             refusal: 0,
             pending: f.pending,
@@ -153,7 +153,7 @@ fn pass_command(stack: &mut [u8], f: Flags, code: u8, room: &mut [u8]) -> Pass
             reply: 5,
         };
     }
-    open_reply(room, 0, 3, (answer / 256) as u8);
+    open_reply(room, 0, 131, (answer / 256) as u8);
     Pass {
         refusal: 0,
         pending: f.pending,
@@ -172,10 +172,10 @@ fn pass_status(f: Flags, room: &mut [u8]) -> Pass
         return stop(Refusal::NoRoom, f);
     }
     if 128 <= f.status {
-        return turn_away(f, room, 4, 0, 1);
+        return turn_away(f, room, 132, 0, 1);
     }
     room[5] = f.status;
-    open_reply(room, 1, 4, 0);
+    open_reply(room, 1, 132, 0);
     Pass {
         refusal: 0,
         pending: f.pending,
@@ -195,10 +195,10 @@ fn pass_reset(stack: &mut [u8], f: Flags, room: &mut [u8]) -> Pass
         return stop(Refusal::NoRoom, f);
     }
     if 128 <= f.status {
-        return turn_away(f, room, 5, 0, 0);
+        return turn_away(f, room, 133, 0, 0);
     }
     let after = place::reset(stack);
-    open_reply(room, 0, 5, 0);
+    open_reply(room, 0, 133, 0);
     Pass {
         refusal: 0,
         pending: after.pending,
@@ -217,9 +217,9 @@ fn pass_acknowledge(f: Flags, room: &mut [u8]) -> Pass
         return stop(Refusal::NoRoom, f);
     }
     if 128 <= f.status {
-        return turn_away(f, room, 6, 0, 0);
+        return turn_away(f, room, 134, 0, 0);
     }
-    open_reply(room, 0, 6, 0);
+    open_reply(room, 0, 134, 0);
     Pass {
         refusal: 0,
         pending: f.pending,

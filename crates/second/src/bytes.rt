@@ -1,14 +1,14 @@
-// 32 bytes by value hold a state, a record, a reply or a report from their first place on. Lent slices are
-// read and written within their bounds: what stands past the end reads as 0, and what would be stored
+// 32 bytes by value hold a state, the front of a record or of a reply, or a report from their first place on.
+// Lent slices are read and written within their bounds: what stands past the end reads as 0, and what would be stored
 // there is not.
 
 pub type Bytes = [u8; 32];
 
-fn get(s: &[u8], i: usize) -> u8 {
+pub fn get(s: &[u8], i: usize) -> u8 {
     if i < s.len() { s[i] } else { 0 }
 }
 
-fn put(s: &mut [u8], i: usize, b: u8) {
+pub fn put(s: &mut [u8], i: usize, b: u8) {
     if i < s.len() {
         s[i] = b;
     }

@@ -44,12 +44,12 @@ fn events(h: Head) -> usize {
     }
 }
 
-// Whether a record of a length from 2 to 18 is one of its kind.
+// Whether a record of a length from 2 to 242 is one of its kind.
 fn suits(h: Head) -> bool {
     let kind = h.kind;
     match kind {
         1 => 2 < h.length,
-        2 => (h.length == 3) & (0 < h.first) & (h.first < 17),
+        2 => (h.length == 3) & (0 < h.first) & (h.first < 241),
         3 => h.length == 3,
         _ => h.length == 2,
     }
@@ -61,7 +61,7 @@ fn judged(h: Head, left: usize, room: usize) -> u8 {
     let whole = (2 <= left) & (h.length as usize + 2 <= left);
     let known = (1 <= h.kind) & (h.kind <= 6);
     let short = room < data(h) as usize + 5;
-    if (2 <= left) & ((h.length < 2) | (18 < h.length)) {
+    if (2 <= left) & ((h.length < 2) | (242 < h.length)) {
         7
     } else if !whole {
         6
@@ -74,11 +74,9 @@ fn judged(h: Head, left: usize, room: usize) -> u8 {
     }
 }
 
-// How far a run has come: the chip, the bytes taken and written, and what stopped it; and the reply to
-// the last record.
+// How far a run has come: the chip, the bytes taken and written, and what stopped it.
 struct Progress {
     chip: Bytes,
-    reply: Bytes,
     taken: usize,
     written: usize,
     stop: u8,
@@ -87,46 +85,44 @@ struct Progress {
 fn begun(chip: Bytes, stop: u8) -> Progress {
     Progress {
         chip,
-        reply: [0; 32],
         taken: 0,
         written: 0,
         stop,
     }
 }
 
-// A reply without its data and the refusal.
-fn reply_to(h: Head) -> Bytes {
+// The front of a reply: all but its data.
+fn reply_to(h: Head, refusal: u8) -> Bytes {
     let size = bytes::with_four([0; 32], 0, data(h) as u32 + 3);
-    bytes::with(size, 2, (h.kind % 128) as u8 | 128)
+    bytes::with(bytes::with(size, 2, (h.kind % 128) as u8 | 128), 4, refusal)
 }
 
-// A record done.
-fn done(r: Progress, h: Head, record: Bytes) -> Progress {
-    let mut chip = r.chip;
-    let mut reply = reply_to(h);
-    for i in 0..events(h) {
-        let at = i % 16;
-        let answer = chip::event(chip, h.kind, bytes::byte(record, 4 + at));
-        chip = answer.chip;
-        reply = bytes::with(bytes::with(reply, 4, answer.refusal), 5 + at, answer.byte);
+// The byte that event i read, to its place among n bytes of data.
+fn keep(replies: &mut [u8], to: usize, i: usize, n: usize, b: u8) {
+    if i < n {
+        bytes::put(replies, std::num::wrapping_add_usize(to, i), b);
     }
+}
+
+// A record done: an event for each byte of input that it pushes, each byte read to its place in the reply.
+fn done(r: Progress, h: Head, input: &[u8], replies: &mut [u8]) -> Progress {
+    let mut chip = r.chip;
+    let mut refusal = 0;
+    let from = std::num::wrapping_add_usize(r.taken, 4);
+    let to = std::num::wrapping_add_usize(r.written, 5);
+    for i in 0..events(h) {
+        let pushed = bytes::get(input, std::num::wrapping_add_usize(from, i));
+        let answer = chip::event(chip, h.kind, pushed);
+        chip = answer.chip;
+        refusal = answer.refusal;
+        keep(replies, to, i, data(h) as usize, answer.byte);
+    }
+    bytes::write(replies, r.written, reply_to(h, refusal), 5);
     Progress {
         chip,
-        reply,
         taken: std::num::wrapping_add_usize(r.taken, h.length as usize + 2),
-        written: std::num::wrapping_add_usize(r.written, data(h) as usize + 5),
+        written: std::num::wrapping_add_usize(to, data(h) as usize),
         stop: 0,
-    }
-}
-
-// What becomes of a run by the record at its place.
-fn judged_and_done(r: Progress, record: Bytes, left: usize, room: usize) -> Progress {
-    let h = head_of(record);
-    let stop = judged(h, left, room);
-    if stop == 0 {
-        done(r, h, record)
-    } else {
-        stopped(r, stop)
     }
 }
 
@@ -141,18 +137,14 @@ fn next(r: Progress, input: &[u8], replies: &mut [u8]) -> Progress {
     if (r.stop != 0) | (input.len() <= r.taken) {
         return r;
     }
-    let at = r.written;
     let left = std::num::wrapping_sub_usize(input.len(), r.taken);
-    let room = std::num::wrapping_sub_usize(replies.len(), at);
-    let after = judged_and_done(r, bytes::read(input, r.taken), left, room);
-    let reply = after.reply;
-    bytes::write(
-        replies,
-        at,
-        reply,
-        std::num::wrapping_sub_usize(after.written, at),
-    );
-    after
+    let room = std::num::wrapping_sub_usize(replies.len(), r.written);
+    let h = head_of(bytes::read(input, r.taken));
+    let stop = judged(h, left, room);
+    if stop != 0 {
+        return stopped(r, stop);
+    }
+    done(r, h, input, replies)
 }
 
 // What stops a run before its first record, or 0.

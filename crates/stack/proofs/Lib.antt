@@ -6,3 +6,4 @@ pub mod Layouts
 pub mod Moves
 pub mod Diagrams
 pub mod Several
+pub mod Round

@@ -86,7 +86,7 @@ pub length-handed : (n : ℕ) (s : List ℕ) → length (handedOut n s) ≡ n
 length-handed zero s = refl
 length-handed (suc n) s = ap suc (length-handed n (popped s))
 
-length-popped : (s : List ℕ) → length (popped s) ≡ length s
+pub length-popped : (s : List ℕ) → length (popped s) ≡ length s
 length-popped [] = refl
 length-popped (x ∷ s) = length-append s (x ∷ []) ∙ add-one (length s)
 
@@ -94,11 +94,11 @@ pub length-pops : (n : ℕ) (s : List ℕ) → length (poppedAll n s) ≡ length
 length-pops zero s = refl
 length-pops (suc n) s = length-pops n (popped s) ∙ length-popped s
 
-pops-after : (j k : ℕ) (s : List ℕ) → poppedAll (j + k) s ≡ poppedAll k (poppedAll j s)
+pub pops-after : (j k : ℕ) (s : List ℕ) → poppedAll (j + k) s ≡ poppedAll k (poppedAll j s)
 pops-after zero k s = ap (λ (n : ℕ). poppedAll n s) (zero-add k)
 pops-after (suc j) k s = ap (λ (n : ℕ). poppedAll n s) (suc-add j k) ∙ pops-after j k (popped s)
 
-handed-after : (j k : ℕ) (s : List ℕ) → handedOut (j + k) s ≡ handedOut j s ++ handedOut k (poppedAll j s)
+pub handed-after : (j k : ℕ) (s : List ℕ) → handedOut (j + k) s ≡ handedOut j s ++ handedOut k (poppedAll j s)
 handed-after zero k s = ap (λ (n : ℕ). handedOut n s) (zero-add k)
 handed-after (suc j) k s = ap (λ (n : ℕ). handedOut n s) (suc-add j k) ∙ ap (λ (l : List ℕ). topByte s ∷ l) (handed-after j k (popped s))
 

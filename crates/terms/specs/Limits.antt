@@ -19,11 +19,11 @@ mostInput = 12288
 
 -- the most bytes that one record pushes or pops
 abbrev pub mostPayload : ℕ
-mostPayload = 16
+mostPayload = 240
 
 -- the least and the most that a record's length may say: the kind alone, and the kind with the longest payload
 abbrev pub leastLength : ℕ
 leastLength = 2
 
 abbrev pub mostLength : ℕ
-mostLength = 18
+mostLength = 242

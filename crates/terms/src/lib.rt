@@ -14,11 +14,11 @@ pub const REPORT_BYTES: usize = 9;
 // The most bytes that an input may have.
 pub const MOST_INPUT: usize = 12288;
 // The most bytes that one record pushes or pops.
-pub const MOST_PAYLOAD: usize = 16;
+pub const MOST_PAYLOAD: usize = 240;
 // The least and the most that a record's length may say.
 pub const LEAST_LENGTH: usize = 2;
 
-pub const MOST_LENGTH: usize = 18;
+pub const MOST_LENGTH: usize = 242;
 
 // The errors, as bits 4 to 1 of the status say them: 0001, 0010, 0100, 1000.
 pub const OVERFLOW: u8 = 1;

@@ -1,12 +1,14 @@
 // Record files, drawn record by record from a seed, and states as bytes.
+ghost use Prim.Native.Nat.{_<_};
 use cases::bytes;
 use cases::words;
 
-// A payload of one to sixteen bytes, in three of four cases a word.
+// A payload: in three of four cases a word, else up to 16 bytes or up to 240.
 fn amount(n: u32) -> u8 {
-    match n % 4 {
-        0 => (1 + n / 4 % 16) as u8,
-        1 => 2,
+    match n % 8 {
+        0 => (1 + n / 8 % 16) as u8,
+        1 => (1 + n / 8 % 240) as u8,
+        2 | 3 => 2,
         _ => 4,
     }
 }
@@ -45,7 +47,7 @@ fn size(kind: u8, n: u32) -> u8 {
 fn payload(kind: u8, n: u32, seed: u32, i: usize) -> u8 {
     match kind {
         1 => bytes::byte_of(
-            words::any(std::num::wrapping_add_u32(seed, (i / 4 % 4) as u32)),
+            words::any(std::num::wrapping_add_u32(seed, (i / 4 % 64) as u32)),
             3 - i % 4,
         ),
         2 => amount(n),
@@ -59,22 +61,35 @@ fn put(s: &mut [u8], i: usize, b: u8) {
     }
 }
 
-// The first n bytes of a record, stored from a place on; the place after them.
-fn put_record(s: &mut [u8], at: usize, r: [u8; 24], n: usize) -> usize {
-    for i in 0..n {
-        put(s, std::num::wrapping_add_usize(at, i), r[i % 24]);
-    }
-    std::num::wrapping_add_usize(at, n)
+// A record's length and kind, stored from a place on.
+fn put_head(s: &mut [u8], at: usize, length: u32, kind: u32) {
+    put(s, at, (length % 256) as u8);
+    put(
+        s,
+        std::num::wrapping_add_usize(at, 1),
+        (length / 256 % 256) as u8,
+    );
+    put(s, std::num::wrapping_add_usize(at, 2), (kind % 256) as u8);
+    put(
+        s,
+        std::num::wrapping_add_usize(at, 3),
+        (kind / 256 % 256) as u8,
+    );
 }
 
-fn record(size: u8, kind: u8, n: u32, seed: u32) -> [u8; 24] {
-    let mut r = [0u8; 24];
-    r[0] = std::num::wrapping_add_u8(size, 2);
-    r[2] = kind;
-    for i in 0..size as usize {
-        r[4 + i % 16] = payload(kind, n, seed, i);
+// A record of a kind, stored from a place on; the place after it.
+fn put_record(s: &mut [u8], at: usize, kind: u8, n: u32, seed: u32) -> usize {
+    let bytes = size(kind, n) as usize;
+    put_head(s, at, bytes as u32 + 2, kind as u32);
+    let from = std::num::wrapping_add_usize(at, 4);
+    for i in 0..bytes {
+        put(
+            s,
+            std::num::wrapping_add_usize(from, i),
+            payload(kind, n, seed, i),
+        );
     }
-    r
+    std::num::wrapping_add_usize(from, bytes)
 }
 
 // So many records from the start; the place after them.
@@ -83,25 +98,37 @@ pub fn put_records(s: &mut [u8], seed: u32, records: u32) -> usize {
     for i in 0..records {
         let drawn = std::num::wrapping_add_u32(seed % 65536 * 4096, i);
         let n = words::drawn(drawn);
-        let k = kind(n);
-        let bytes = size(k, n / 16);
-        at = put_record(s, at, record(bytes, k, n / 16, drawn), bytes as usize + 4);
+        at = put_record(s, at, kind(n), n / 16, drawn);
     }
     at
 }
 
-// A single record with a length of 0 to 21, eight kinds and two that are not to be cut to a byte, eight
-// first bytes, in a file that is one byte short, whole or one byte over; how many bytes the file has.
+// A single record of 22 lengths, eight kinds and two that are not to be cut to a byte, eight first bytes,
+// in a file that is one byte short, whole or one byte over; how many bytes the file has.
 pub fn put_edge(s: &mut [u8], i: u32) -> usize {
-    let length = i % 22;
+    let length = edge_length(i);
     let kind = i / 22 % 10;
-    let mut r = [0u8; 24];
-    r[0] = length as u8;
-    r[2] = (kind % 8) as u8;
-    r[3] = (kind / 8) as u8;
-    r[4] = edge_byte(i / 220);
-    put_record(s, 0, r, 24);
+    put_head(s, 0, length, kind % 8 + kind / 8 * 256);
+    put(s, 4, edge_byte(i / 220));
     (length + 1 + i / 1760 % 3) as usize
+}
+
+// Lengths about the least, about that of 16 bytes, the most, and one that is not to be cut to a byte.
+fn edge_length(i: u32) -> u32
+    ensures { λ r. ⌜ r < 512 ⌝ }
+{
+    match i % 22 {
+        13 => 17,
+        14 => 18,
+        15 => 19,
+        16 => 20,
+        17 => 21,
+        18 => 241,
+        19 => 242,
+        20 => 243,
+        21 => 258,
+        n => n,
+    }
 }
 
 fn edge_byte(i: u32) -> u8 {
@@ -109,10 +136,10 @@ fn edge_byte(i: u32) -> u8 {
         0 => 0,
         1 => 1,
         2 => 2,
-        3 => 15,
-        4 => 16,
-        5 => 17,
-        6 => 0x90,
+        3 => 16,
+        4 => 17,
+        5 => 240,
+        6 => 241,
         _ => 0xFF,
     }
 }

@@ -7,30 +7,9 @@ use denote.Ref.{now}
 use Rattle.stored.proofs.Laid.{over, length-over, reported}
 use Rattle.stored.proofs.fill_report.Statement.{statement}
 use Rattle.stored.proofs.fill_report.Tie as tie
-use Rattle.stored.proofs.fill_report.Reads as reads
-use Rattle.stored.proofs.fill_report.Lts as lts
-use Rattle.little.proofs.put_word.Reads as put-word-reads
-
-slice-write-report : tie.Need-slice-write-report
-slice-write-report c = search needs
-
-sub-put-word : tie.Need-sub-put-word
-sub-put-word c = search needs
-
-part-put-word-start : tie.Need-part-put-word-start
-part-put-word-start c = search needs
 
 part-put-word-end : tie.Need-part-put-word-end
 part-put-word-end c = simp length-set (omega (arith, c .before .pre))
-
-put-word-requires : tie.Need-put-word-requires
-put-word-requires c κs = search needs
-
-sub-put-word-2 : tie.Need-sub-put-word-2
-sub-put-word-2 c = search needs
-
-part-put-word-start-2 : tie.Need-part-put-word-start-2
-part-put-word-start-2 c = search needs
 
 part-put-word-end-2 : tie.Need-part-put-word-end-2
 part-put-word-end-2 c =
@@ -40,9 +19,6 @@ part-put-word-end-2 c =
     let n : length l ≡ 9 = length-set (now (s .args .report)) 0 (s .args .refusal) ∙ s .pre in
     let m = length-over 1 l (k .last .0) (omega arith) (ap length (k .ensures)) in
     omega arith
-
-put-word-requires-2 : tie.Need-put-word-requires-2
-put-word-requires-2 c κs = search needs
 
 same-length : tie.Need-same-length
 same-length c =
@@ -66,14 +42,14 @@ pub fill-report-spec : {M : Type 1} → statement M
 fill-report-spec =
     tie.close
     (tie.spec
-    slice-write-report
-    sub-put-word
-    part-put-word-start
+    (λ c. search needs)
+    (λ c. search needs)
+    (λ c. search needs)
     part-put-word-end
-    put-word-requires
-    sub-put-word-2
-    part-put-word-start-2
+    (λ c κs. search needs)
+    (λ c. search needs)
+    (λ c. search needs)
     part-put-word-end-2
-    put-word-requires-2
+    (λ c κs. search needs)
     same-length
     returns)

@@ -1,6 +1,5 @@
 -- `chip::place::answer` meets its contract: what became of the command, as one number. Assumes nothing.
 use mathlib.Core.Path.{refl}
-use native.Mathlib.Omega.{arith}
 use denote.Ref.{now}
 use Rattle.chip.proofs.InPlace.{done-number, refused-number}
 use borrow.Author.Needs.{needs}

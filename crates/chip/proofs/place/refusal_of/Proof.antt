@@ -1,6 +1,5 @@
 -- `chip::place::refusal_of` meets its contract: at each arm the number is that of its refusal. Assumes nothing.
 use borrow.Author.Tests.{ne-eqb}
-use borrow.Author.Needs.{needs}
 use Rattle.chip.proofs.place.refusal_of.Statement.{statement}
 use Rattle.chip.proofs.place.refusal_of.Tie as tie
 

@@ -1,6 +1,5 @@
 -- `records::head::bare` meets its contract: the payload is empty, or not. Assumes nothing.
 use borrow.Author.Tests.{eq-eqb, ne-eqb}
-use borrow.Author.Needs.{needs}
 use Rattle.records.proofs.head.bare.Statement.{statement}
 use Rattle.records.proofs.head.bare.Tie as tie
 

@@ -1,6 +1,5 @@
 -- `records::head::pop_of` meets its contract: at each return the tests that led there say which case of the row holds. Assumes nothing.
 use borrow.Author.Tests.{lt-ltb, le-ltb}
-use borrow.Author.Needs.{needs}
 use Rattle.records.proofs.head.pop_of.Statement.{statement}
 use Rattle.records.proofs.head.pop_of.Tie as tie
 

@@ -2,14 +2,10 @@
 use borrow.Author.Tests.{lt-ltb, le-ltb}
 use Rattle.records.proofs.head.push_row.Statement.{statement}
 use Rattle.records.proofs.head.push_row.Tie as tie
-use Rattle.records.proofs.head.push_row.Reads as reads
-use Rattle.records.proofs.head.push_row.Lts as lts
 
--- src/head.rt:99:9
 returns : tie.Need-returns
 returns c = simp (lt-ltb _ _ (c .if1 .taken))
 
--- src/head.rt:95:1
 returns-2 : tie.Need-returns-2
 returns-2 c = simp (le-ltb _ _ (c .if1 .left))
 

@@ -1,42 +1,40 @@
--- `records::head::read_head` meets its contract: at each return the tests that led there say which case of `headOf` holds. Assumes nothing.
-use mathlib.Core.Path.{sym, _∙_}
+-- `records::head::read_head` meets its contract: the row of the kind where the frame holds, else the frame's refusal. Assumes nothing.
+use mathlib.Core.Path.{sym, ap, _∙_}
 use native.Mathlib.Omega.{arith}
 use denote.Ref.{now}
-use Rattle.records.proofs.Heads.{short, low, high, cut, whole}
+use Rattle.terms.specs.Limits.{mostPayload}
+use Rattle.records.specs.Record.{headIn}
+use Rattle.records.proofs.Heads.{fits}
 use borrow.Author.Needs.{needs}
 use Rattle.records.proofs.head.read_head.Statement.{statement}
 use Rattle.records.proofs.head.read_head.Tie as tie
 
+shared-slice-read-word : tie.Need-shared-slice-read-word
+shared-slice-read-word c = omega (arith, fits mostPayload (now (c .before .before .before .before .before .before .args .rest)) _ (sym (c .before .before .before .before .read-frame .ensures) ∙ c .before .before .n .given .1) .there)
+
+shared-slice-read-word-2 : tie.Need-shared-slice-read-word-2
+shared-slice-read-word-2 c = omega (arith, fits mostPayload (now (c .before .before .before .before .before .before .before .args .rest)) _ (sym (c .before .before .before .before .before .read-frame .ensures) ∙ c .before .before .before .n .given .1) .there)
+
+row-requires : tie.Need-row-requires
+row-requires c κs = fits mostPayload (now (c .before .before .before .before .before .before .before .before .args .rest)) _ (sym (c .before .before .before .before .before .before .read-frame .ensures) ∙ c .before .before .before .before .n .given .1) .there
+
 returns : tie.Need-returns
-returns c = sym (short (now (c .before .before .args .rest)) (omega arith))
+returns c =
+    c .row .ensures ∙ rw (c .before .word .ensures) (sym (ap (headIn mostPayload (now (c .before .before .before .before .before .before .before .before .before .args .rest))) (sym (c .before .before .before .before .before .before .before .read-frame .ensures) ∙ c .before .before .before .before .before .n .given .1)))
 
 returns-2 : tie.Need-returns-2
-returns-2 c = sym (low (now (c .before .before .before .before .before .before .args .rest)) (omega arith) (omega arith))
-
-returns-3 : tie.Need-returns-3
-returns-3 c = sym (high (now (c .before .before .before .before .before .before .before .args .rest)) (omega arith) (omega arith) (omega arith))
-
-returns-4 : tie.Need-returns-4
-returns-4 c = sym (cut (now (c .before .before .before .before .before .before .before .before .args .rest)) (omega arith) (omega arith) (omega arith) (omega arith))
-
-returns-5 : tie.Need-returns-5
-returns-5 c =
-    c .row .ensures ∙ rw (c .before .word2 .ensures, c .before .before .before .before .before .before .before .word .ensures) (sym (whole (now (c .before .before .before .before .before .before .before .before .before .before .before .before .args .rest)) (omega arith) (omega arith) (omega arith) (omega arith)))
+returns-2 c = sym (ap (headIn mostPayload (now (c .before .before .before .before .before .args .rest))) (sym (c .before .before .before .read-frame .ensures) ∙ c .before .refusal .given .1))
 
 pub read-head-spec : {M : Type 1} → statement M
 read-head-spec =
     tie.close
     (tie.spec
+    (λ c κs. search needs)
+    (λ c. search needs)
+    shared-slice-read-word
+    shared-slice-read-word-2
+    (λ c κs. search needs)
+    row-requires
+    (λ c. search needs)
     returns
-    (λ c. search needs)
-    (λ c. search needs)
-    (λ c κs. search needs)
-    (λ c. search needs)
-    returns-2
-    returns-3
-    returns-4
-    (λ c. search needs)
-    (λ c. search needs)
-    (λ c κs. search needs)
-    (λ c κs. search needs)
-    returns-5)
+    returns-2)

@@ -1,13 +1,11 @@
 -- `records::run::run_all` meets its contract: after each record the run stands where the definition's does. Assumes nothing.
 use mathlib.Core.Path.{_≡_, ap, _∙_}
-use mathlib.Core.List.{List, _++_}
-use Prim.Native.Nat.{ℕ, _+_, _-_}
+use Prim.Native.Nat.{_-_}
 use native.Mathlib.Omega.{arith}
-use lib.ListN.{length, take, drop, length-drop}
+use lib.ListN.{length, drop, length-drop}
 use denote.Ref.{now}
 use Rattle.chip.specs.declared.State.{State}
 use Rattle.chip.specs.Place.{held}
-use Rattle.files.specs.Run.{Turns}
 use Rattle.files.proofs.Running.{Going, starts, goes-on, stops, ends, all-length}
 use Rattle.records.specs.Record.{turnOf}
 use Rattle.records.specs.Pass.{stateAt, Passed}

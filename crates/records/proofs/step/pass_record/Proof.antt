@@ -2,7 +2,8 @@
 use mathlib.Core.Path.{sym, _∙_}
 use native.Mathlib.Omega.{arith}
 use denote.Ref.{now}
-use Rattle.records.specs.Record.{turnOf}
+use Rattle.terms.specs.Limits.{mostPayload}
+use Rattle.records.specs.Record.{turnUnder}
 use Rattle.records.proofs.Heads.{fine, stops}
 use Rattle.records.proofs.Turning.{stays}
 use borrow.Author.Needs.{needs}
@@ -15,17 +16,17 @@ pass-whole-requires c κs =
     (c .before .before .before .before .before .before .before .before .before .pre, q .0, q .1, q .2, q .3)
 
 returns : tie.Need-returns
-unfolding turnOf
+unfolding turnUnder
 returns c =
     rw (sym (c .before .before .before .before .before .before .before .before .before .before .read-head .ensures) ∙ c .before .before .before .before .before .before .before .before .event .given .1) (c .before .before .before .before .pass-whole .ensures)
 
 returns-2 : tie.Need-returns-2
-unfolding turnOf
+unfolding turnUnder
 returns-2 c =
     let a = c .before .before .before .before .before .before .before .before .args in
     let q = c .before .before .refusal .given in
     let e = sym (c .before .before .before .before .read-head .ensures) ∙ q .1 in
-    let n = stops (now (a .rest)) (q .0 .0) e .0 in
+    let n = stops mostPayload (now (a .rest)) (q .0 .0) e .0 in
     rw e (stays (now (a .stack)) (a .f) (q .0 .0) (now (a .rest)) (now (a .room)) (c .stop .ensures) (omega arith))
 
 pub pass-record-spec : {M : Type 1} → statement M

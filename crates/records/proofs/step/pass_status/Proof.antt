@@ -1,7 +1,7 @@
 -- `records::step::pass_status` meets its contract: no room, a busy state, or the status as the one byte of data. Assumes nothing.
 use mathlib.Core.Path.{refl, ap, _∙_}
 use native.Mathlib.Omega.{arith}
-use lib.Dec.{lit≤, lit<}
+use lib.Dec.{lit≤}
 use lib.ListN.{length, set, length-drop, length-set}
 use denote.Ref.{now}
 use Rattle.chip.specs.Step.{done}
@@ -20,7 +20,7 @@ returns-2 : tie.Need-returns-2
 returns-2 c = λ stack file there. away stack (c .before .before .before .before .before .before .before .before .args .f) Status file (now (c .before .before .before .before .before .before .before .before .args .room)) (c .before .before .before .before .if2 .taken) tt (c .before .before .turn-away .ensures .0) (c .before .before .turn-away .ensures .1) there (c .before .before .before .before .before .before .if1 .left)
 
 open-reply-requires : tie.Need-open-reply-requires
-open-reply-requires c κs = (lit≤ tt, simp length-set (omega (arith, c .before .before .before .if1 .left)), lit< tt)
+open-reply-requires c κs = (lit≤ tt, simp length-set (omega (arith, c .before .before .before .if1 .left)))
 
 same-length-2 : tie.Need-same-length-2
 same-length-2 c =

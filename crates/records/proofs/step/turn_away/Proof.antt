@@ -20,7 +20,7 @@ returns c =
     let left = c .before .before .before .before .before .before .before .blank .last .0 in (
       refl,
       c .before .before .open-reply .ensures
-          ∙ ap₂ (λ (m : ℕ) (l : List ℕ). le2 (3 + a .n) ++ (le2 (a .kind + 128) ++ (m ∷ l))) (c .before .before .before .number .ensures .0)
+          ∙ ap₂ (λ (m : ℕ) (l : List ℕ). le2 (3 + a .n) ++ (le2 (a .kind) ++ (m ∷ l))) (c .before .before .before .number .ensures .0)
           (ap (drop 5) (back room 5 left) ∙ behind room left (omega (arith, c .before .before .before .before .before .before .before .before .before .before .pre .1)) ∙ c .before .before .before .before .before .before .before .blank .ensures ∙ ap (λ (l : List ℕ). zeros (a .n) ++ drop (a .n) l) (all-rest room 5)),
     )
 

@@ -1,0 +1,30 @@
+-- 02, ask 2: "Files within the old limits keep their meaning and their replies." A run under the old limit, 16 bytes to a record, beside today's. Definitions
+-- and the statement only: proofs/OldLimits.antt proves it. Assumes nothing.
+use Prim.Native.Nat.{ℕ, _-_, _≤_}
+use mathlib.Core.Path.{_≡_}
+use mathlib.Core.Bool.{true}
+use mathlib.Core.List.{List}
+use lib.ListN.{length, drop}
+use Rattle.terms.specs.Limits.{mostInput, reportBytes}
+use Rattle.chip.specs.declared.State.{State}
+use Rattle.records.specs.Run.{Outcome, after, runUnder, runOf}
+use Rattle.stored.specs.Bytes.{isState, stateOf}
+use Rattle.pundaliket.specs.Calls.{ranOf, callOf}
+
+-- the run while a record pushed or popped at most 16 bytes and its length said at most 18
+abbrev pub oldRun : State → List ℕ → ℕ → Outcome
+oldRun s file room = runUnder 16 s file room
+
+-- ---- the statement, of every state, file and room
+pub record OldLimits : Type 0 where
+  -- a file that did not stop with 7 leaves the same state, replies, counts and refusal
+  pub same : (s : State) (file : List ℕ) (room : ℕ) → (oldRun s file room .refusal ≡ 7 → ⊥) → runOf s file room ≡ oldRun s file room
+  -- up to the record that stopped it every file does, and goes on from there
+  pub up-to : (s : State) (file : List ℕ) (room : ℕ)
+      → runOf s file room
+      ≡ after (oldRun s file room .taken) (oldRun s file room .written)
+      (runOf (oldRun s file room .state) (drop (oldRun s file room .taken) file) (room - length (oldRun s file room .written)))
+  -- and so does the call on lent bytes
+  pub call : (state input replies report : List ℕ) → length report ≡ reportBytes → isState state ≡ true → length input ≤ mostInput
+      → (oldRun (stateOf state) input (length replies) .refusal ≡ 7 → ⊥)
+      → callOf state input replies report ≡ ranOf (oldRun (stateOf state) input (length replies)) replies
