@@ -1,0 +1,160 @@
+-- The memory is what the history of statuses says: each event leaves both in step, and one command more is told at the end. Assumes nothing.
+use mathlib.Core.Path.{_≡_, refl, sym, ap, ap₂, subst, _∙_}
+use mathlib.Core.Bool.{Bool, true, false, cond}
+use mathlib.Core.List.{List, [], _∷_, _++_}
+use Prim.Native.Nat.{ℕ, _%_, _<_}
+use native.Mathlib.Omega.{arith}
+use lib.Bits.{bitOr}
+use lib.Dec.{eqb}
+use borrow.Author.Tests.{eq-eqb, ne-eqb, eqb-true, eqb-false}
+use Rattle.terms.specs.declared.Refusal.{Refusal}
+use Rattle.terms.specs.declared.Refusal.the-variants.{Done, UnknownCode, DerivedCode, HalfWord, Improper, NoSuchKind, CutShort, BadLength, NoRoom, InputTooLong, NotFinite, TooLarge, TooSmall, BadState, BadReport}
+use Rattle.terms.specs.Refusal.{numberOf}
+use Rattle.codes.specs.declared.Kind.{Kind}
+use Rattle.codes.specs.declared.Kind.the-variants.{Known, Derived, Unknown}
+use Rattle.codes.specs.declared.Command.the-variants.{Nop}
+use Rattle.codes.specs.Codes.{decoded}
+use Rattle.chip.specs.declared.State.{State}
+use Rattle.chip.specs.declared.Answer.{Answer}
+use Rattle.chip.specs.declared.Event.{Event as ChipEvent}
+use Rattle.chip.specs.declared.Event.the-variants.{Push, Pop, Command, Status, Reset, Acknowledge}
+use Rattle.chip.specs.State.{busy}
+use Rattle.chip.specs.Commands.{baseRule, outcomeOf}
+use Rattle.chip.specs.Step.{commandOf, eventOf}
+use Rattle.chip.proofs.Accepted.{accepted as accepted-by}
+use Rattle.memory.specs.declared.Memory.{Memory}
+use Rattle.memory.specs.declared.Event.{Event}
+use Rattle.memory.specs.declared.Event.the-variants.{Chip, Recall, Forget}
+use Rattle.memory.specs.Memory.{emptyMemory, errorsOf, firstCode, remembered, accepted, Core, CoreAnswer, keptAfter, eventIn}
+use Rattle.memory.specs.History.{Told, History, joinedBits, firstOf, memoryOf, from, told, chipTells, tells, afterAll, historyOf}
+
+-- ---- a command that leaves an error is not NOP, so that its code is not 0
+-- the refusal whose number is 0
+done-of : (r : Refusal) → numberOf r ≡ 0 → r ≡ Done
+done-of Done e = refl
+done-of UnknownCode e = let y : ⊥ = omega arith in absurd y
+done-of DerivedCode e = let y : ⊥ = omega arith in absurd y
+done-of HalfWord e = let y : ⊥ = omega arith in absurd y
+done-of Improper e = let y : ⊥ = omega arith in absurd y
+done-of NoSuchKind e = let y : ⊥ = omega arith in absurd y
+done-of CutShort e = let y : ⊥ = omega arith in absurd y
+done-of BadLength e = let y : ⊥ = omega arith in absurd y
+done-of NoRoom e = let y : ⊥ = omega arith in absurd y
+done-of InputTooLong e = let y : ⊥ = omega arith in absurd y
+done-of NotFinite e = let y : ⊥ = omega arith in absurd y
+done-of TooLarge e = let y : ⊥ = omega arith in absurd y
+done-of TooSmall e = let y : ⊥ = omega arith in absurd y
+done-of BadState e = let y : ⊥ = omega arith in absurd y
+done-of BadReport e = let y : ⊥ = omega arith in absurd y
+
+-- the status that a code's command leaves
+abbrev statusBy : Kind → List ℕ → ℕ
+statusBy (Known k) s = outcomeOf baseRule k s .status
+statusBy Derived s = 0
+statusBy Unknown s = 0
+
+code-0 : decoded 0 ≡ Known Nop
+unfolding decoded
+code-0 = refl
+
+nop-clear : (s : State) (code : ℕ) → commandOf s code .refusal ≡ Done → code % 128 ≡ 0 → commandOf s code .state .status ≡ 0
+nop-clear s code d z =
+    let a = accepted-by baseRule s code d in
+    ap (λ (x : Answer). x .state .status) (a .answer)
+    ∙ ap (λ (k : Kind). statusBy k (s .stack)) (sym (a .known) ∙ ap decoded z ∙ code-0)
+
+-- ---- histories whose commands that left an error have a code
+abbrev Coded : List Told → Type 0
+Coded [] = Unit
+Coded (t ∷ ts) = ((errorsOf (t .status) ≡ 0 → ⊥) → t .code % 128 ≡ 0 → ⊥) × Coded ts
+
+coded-more : (ts : List Told) (code status : ℕ) → Coded ts → ((errorsOf status ≡ 0 → ⊥) → code % 128 ≡ 0 → ⊥) → Coded (ts ++ (record { code = code; status = status } ∷ []))
+coded-more [] code status h g = (g, tt)
+coded-more (t ∷ ts) code status h g = (h .0, coded-more ts code status (h .1) g)
+
+-- one command more, told at the end
+bits-more : (b : ℕ) (ts : List Told) (code status : ℕ) → bitOr (joinedBits b ts) (errorsOf status) ≡ joinedBits b (ts ++ (record { code = code; status = status } ∷ []))
+bits-more b [] code status = refl
+bits-more b (t ∷ ts) code status = bits-more (bitOr b (errorsOf (t .status))) ts code status
+
+first-more : (ts : List Told) (code status : ℕ) → Coded ts → firstCode (firstOf ts) (errorsOf status) code ≡ firstOf (ts ++ (record { code = code; status = status } ∷ []))
+first-more [] code status h = refl
+first-more (t ∷ ts) code status h = by (first-more ts code status (h .1)) (eqb (errorsOf (t .status)) 0) refl
+  where
+    by : firstCode (firstOf ts) (errorsOf status) code ≡ firstOf (ts ++ (record { code = code; status = status } ∷ []))
+        → (x : Bool) → eqb (errorsOf (t .status)) 0 ≡ x
+        → firstCode (cond x (firstOf ts) (t .code % 128)) (errorsOf status) code ≡ cond x (firstOf (ts ++ (record { code = code; status = status } ∷ []))) (t .code % 128)
+    by more true e = more
+    by more false e = rw (ne-eqb (t .code % 128) 0 (h .0 (eqb-false (errorsOf (t .status)) 0 e)))
+
+code-more : (start : ℕ) (ts : List Told) (code status : ℕ) → Coded ts
+    → firstCode (cond (eqb start 0) (firstOf ts) start) (errorsOf status) code ≡ cond (eqb start 0) (firstOf (ts ++ (record { code = code; status = status } ∷ []))) start
+code-more start ts code status h = by (eqb start 0) refl
+  where
+    by : (x : Bool) → eqb start 0 ≡ x → firstCode (cond x (firstOf ts) start) (errorsOf status) code ≡ cond x (firstOf (ts ++ (record { code = code; status = status } ∷ []))) start
+    by true e = first-more ts code status h
+    by false e = rw e
+
+told-more : (h : History) (code status : ℕ) → Coded (h .since) → remembered (memoryOf h) code status ≡ memoryOf (told h code status)
+told-more h code status c =
+    ap₂ (λ (b k : ℕ). record { bits = b; code = k }) (bits-more (h .start .bits) (h .since) code status) (code-more (h .start .code) (h .since) code status c)
+
+-- ---- memory and history in step
+pub record Agrees (m : Memory) (h : History) : Type 0 where
+  pub says : m ≡ memoryOf h
+  pub coded : Coded (h .since)
+
+starts : (m : Memory) → Agrees m (from m)
+starts m = record { says = by (eqb (m .code) 0) refl; coded = tt }
+  where
+    by : (x : Bool) → eqb (m .code) 0 ≡ x → m ≡ memoryOf (from m)
+    by true e = let z : m .code ≡ 0 = eqb-true (m .code) 0 e in rw e (ap (λ (k : ℕ). record { bits = m .bits; code = k }) z)
+    by false e = rw e
+
+-- an accepted command
+command-agrees : (s : State) (code : ℕ) (m : Memory) (h : History) → Agrees m h → Agrees (keptAfter m (Command code) (commandOf s code)) (chipTells (Command code) (commandOf s code) h)
+command-agrees s code m h g = by (accepted (commandOf s code)) refl
+  where
+    by : (x : Bool) → accepted (commandOf s code) ≡ x → Agrees (cond x (remembered m code (commandOf s code .state .status)) m) (cond x (told h code (commandOf s code .state .status)) h)
+    by true e = record {
+      says = ap (λ (n : Memory). remembered n code (commandOf s code .state .status)) (g .says) ∙ told-more h code (commandOf s code .state .status) (g .coded);
+      coded = coded-more (h .since) code (commandOf s code .state .status) (g .coded)
+          (λ some z. some (ap errorsOf (nop-clear s code (done-of (commandOf s code .refusal) (eqb-true _ _ e)) z)));
+    }
+    by false e = g
+
+reset-agrees : (a : Answer) (m : Memory) (h : History) → Agrees m h → Agrees (keptAfter m Reset a) (chipTells Reset a h)
+reset-agrees a m h g = by (accepted a)
+  where
+    by : (x : Bool) → Agrees (cond x emptyMemory m) (cond x (from emptyMemory) h)
+    by true = starts emptyMemory
+    by false = g
+
+chip-agrees : (s : State) (e : ChipEvent) (m : Memory) (h : History) → Agrees m h → Agrees (keptAfter m e (eventOf s e)) (chipTells e (eventOf s e) h)
+chip-agrees s (Push b) m h g = g
+chip-agrees s Pop m h g = g
+chip-agrees s (Command code) m h g = command-agrees s code m h g
+chip-agrees s Status m h g = g
+chip-agrees s Reset m h g = reset-agrees (eventOf s Reset) m h g
+chip-agrees s Acknowledge m h g = g
+
+event-agrees : (c : Core) (e : Event) (h : History) → Agrees (c .memory) h → Agrees (eventIn c e .core .memory) (tells c e h)
+event-agrees c (Chip e) h g = chip-agrees (c .chip) e (c .memory) h g
+event-agrees c Recall h g = by (busy (c .chip))
+  where
+    by : (x : Bool) → Agrees (cond {A = CoreAnswer} x (record { refusal = BadState; byte = 0; core = c }) (record { refusal = Done; byte = c .memory .bits; core = c }) .core .memory) h
+    by true = g
+    by false = g
+event-agrees c Forget h g = by (busy (c .chip))
+  where
+    by : (x : Bool) → Agrees (cond {A = CoreAnswer} x (record { refusal = BadState; byte = 0; core = c }) (record { refusal = Done; byte = 0; core = record { chip = c .chip; memory = emptyMemory } }) .core .memory) (cond x h (from emptyMemory))
+    by true = g
+    by false = starts emptyMemory
+
+agrees : (c : Core) (es : List Event) (h : History) → Agrees (c .memory) h → Agrees (afterAll c es .memory) (historyOf c es h)
+agrees c [] h g = g
+agrees c (e ∷ es) h g = agrees (eventIn c e .core) es (tells c e h) (event-agrees c e h g)
+
+-- over every list of events, from every state and memory
+pub memory-is-history : (c : Core) (es : List Event) → afterAll c es .memory ≡ memoryOf (historyOf c es (from (c .memory)))
+memory-is-history c es = agrees c es (from (c .memory)) (starts (c .memory)) .says

@@ -1,0 +1,3 @@
+-- The laws of the error memory.
+pub mod History
+pub mod Placed

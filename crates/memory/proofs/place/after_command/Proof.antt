@@ -1,0 +1,19 @@
+-- `memory::place::after_command` meets its contract: refused, or remembered. Assumes nothing.
+use borrow.Author.Tests.{eq-eqb, ne-eqb}
+use borrow.Author.Needs.{needs}
+use Rattle.memory.proofs.place.after_command.Statement.{statement}
+use Rattle.memory.proofs.place.after_command.Tie as tie
+
+returns : tie.Need-returns
+returns c = simp (ne-eqb _ _ (c .if1 .taken))
+
+returns-2 : tie.Need-returns-2
+returns-2 c = rw (eq-eqb _ _ (c .before .if1 .left)) (c .remember .ensures)
+
+pub after-command-spec : {M : Type 1} → statement M
+after-command-spec =
+    tie.close
+    (tie.spec
+    returns
+    (λ c κs. search needs)
+    returns-2)
