@@ -1,13 +1,13 @@
 -- 02, ask 2: "Files within the old limits keep their meaning and their replies." A run under the old limit, 16 bytes to a record, beside today's. Definitions
 -- and the statement only: proofs/OldLimits.antt proves it. Assumes nothing.
-use Prim.Native.Nat.{ℕ, _-_, _≤_}
+use Prim.Native.Nat.{ℕ, _+_, _*_, _-_, _≤_, _<_}
 use mathlib.Core.Path.{_≡_}
 use mathlib.Core.Bool.{true}
-use mathlib.Core.List.{List}
+use mathlib.Core.List.{List, _∷_}
 use lib.ListN.{length, drop}
 use Rattle.terms.specs.Limits.{mostInput, reportBytes}
 use Rattle.chip.specs.declared.State.{State}
-use Rattle.records.specs.Run.{Outcome, after, runUnder, runOf}
+use Rattle.records.specs.Run.{Outcome, ended, after, runUnder, runOf}
 use Rattle.stored.specs.Bytes.{isState, stateOf}
 use Rattle.pundaliket.specs.Calls.{ranOf, callOf}
 
@@ -17,6 +17,9 @@ oldRun s file room = runUnder 16 s file room
 
 -- ---- the statement, of every state, file and room
 pub record OldLimits : Type 0 where
+  -- the old run is the one of 01: a length over 18 and a pop of more than 16 end it with 7, and nothing is done
+  pub old-length : (s : State) (room a b : ℕ) (rest : List ℕ) → 18 < a + b * 256 → oldRun s (a ∷ b ∷ rest) room ≡ ended 7 s
+  pub old-count : (s : State) (room n : ℕ) (rest : List ℕ) → 16 < n → oldRun s (3 ∷ 0 ∷ 2 ∷ 0 ∷ n ∷ rest) room ≡ ended 7 s
   -- a file that did not stop with 7 leaves the same state, replies, counts and refusal
   pub same : (s : State) (file : List ℕ) (room : ℕ) → (oldRun s file room .refusal ≡ 7 → ⊥) → runOf s file room ≡ oldRun s file room
   -- up to the record that stopped it every file does, and goes on from there
