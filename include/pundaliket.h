@@ -27,7 +27,7 @@ enum {
     PUNDALIKET_DERIVED_CODE = 2,   /* derived function, codes 02 to 0B hex (82 to 8B); the state stays */
     PUNDALIKET_HALF_WORD = 3,      /* a known command, NOP too, with a half word pending; the state stays */
     PUNDALIKET_IMPROPER = 4,       /* a float operand, or a word to be made an f32, is not proper; the state stays */
-    PUNDALIKET_NO_SUCH_KIND = 5,   /* kind of record or event not 1 to 6 */
+    PUNDALIKET_NO_SUCH_KIND = 5,   /* kind of record or event not 1 to 8 */
     PUNDALIKET_CUT_SHORT = 6,      /* the file ends inside a record */
     PUNDALIKET_BAD_LENGTH = 7,     /* length under 2 or over 242, payload wrong for the kind, pop count not 1 to 240 */
     PUNDALIKET_NO_ROOM = 8,        /* no room for this record's reply; or a conversion's slice is not 4 bytes */
@@ -35,30 +35,34 @@ enum {
     PUNDALIKET_NOT_FINITE = 10,    /* the f32 is infinite or not a number */
     PUNDALIKET_TOO_LARGE = 11,     /* finite f32 of magnitude 2^63 or more */
     PUNDALIKET_TOO_SMALL = 12,     /* f32 not zero, magnitude under 2^-65 */
-    PUNDALIKET_BAD_STATE = 13,     /* state not 19 bytes, a flag over 1, or busy set; only a report is written */
+    PUNDALIKET_BAD_STATE = 13,     /* state not 19 or 21 bytes, a flag over 1, busy set, bits of the error memory outside
+                                      4 to 1, its code without bits or bits without a code; only a report is written */
     PUNDALIKET_BAD_REPORT = 14     /* report not 9 bytes; nothing is written at all */
 };
 
 /* The kinds of a record and of a single event. */
 enum {
-    PUNDALIKET_PUSH = 1,       /* record: 1 to 240 bytes, pushed in order; event: the byte */
-    PUNDALIKET_POP = 2,        /* record: one byte n, 1 to 240, the reply holds n bytes; event: one byte */
-    PUNDALIKET_COMMAND = 3,    /* one command code */
-    PUNDALIKET_STATUS = 4,     /* nothing; the reply holds the status byte */
-    PUNDALIKET_RESET = 5,      /* nothing */
-    PUNDALIKET_ACKNOWLEDGE = 6 /* nothing */
+    PUNDALIKET_PUSH = 1,        /* record: 1 to 240 bytes, pushed in order; event: the byte */
+    PUNDALIKET_POP = 2,         /* record: one byte n, 1 to 240, the reply holds n bytes; event: one byte */
+    PUNDALIKET_COMMAND = 3,     /* one command code */
+    PUNDALIKET_STATUS = 4,      /* nothing; the reply holds the status byte */
+    PUNDALIKET_RESET = 5,       /* nothing */
+    PUNDALIKET_ACKNOWLEDGE = 6, /* nothing */
+    PUNDALIKET_RECALL = 7,      /* nothing; the reply holds the error memory, its bits and its code; event: the bits */
+    PUNDALIKET_FORGET = 8       /* nothing; the error memory is emptied */
 };
 
 /*
  * Sizes in bytes. With room for PUNDALIKET_MOST_REPLIES bytes of replies 8 cannot come from a run: a record of 5 bytes
- * is answered with at most 245 (a pop of 240), one of 4 with at most 6, so a file of n bytes needs 245 * (n / 5), and 6
+ * is answered with at most 245 (a pop of 240), one of 4 with at most 7, so a file of n bytes needs 245 * (n / 5), and 7
  * more where n % 5 is 4. With less room a run that ends with 8 has done the records before: lend the rest of the file,
- * from the report's bytes taken on, and fresh room, and it goes on. PUNDALIKET_STACK_BYTES is the stack that a call needs
- * below its caller's frame: more by half, at least, than the most that was measured, by calls of each kind on a painted
- * stack. tests/c/test.c measures it anew each time it runs.
+ * from the report's bytes taken on, and fresh room, and it goes on; with a state of 21 bytes the error memory does so too.
+ * PUNDALIKET_STACK_BYTES is the stack that a call needs below its caller's frame: more by half, at least, than the most
+ * that was measured, by calls of each kind on a painted stack. tests/c/test.c measures it anew each time it runs.
  */
 enum {
     PUNDALIKET_STATE_BYTES = 19,      /* stack, top first (16), pending 0 or 1, status, service 0 or 1; 19 zeros: reset */
+    PUNDALIKET_LONG_STATE_BYTES = 21, /* the same and the error memory: its bits, its code; 21 zeros: reset */
     PUNDALIKET_REPORT_BYTES = 9,      /* refusal, bytes of whole records taken, bytes of replies written */
     PUNDALIKET_FLOAT_BYTES = 4,       /* what a conversion writes */
     PUNDALIKET_MOST_INPUT = 12288,    /* the longest input */
@@ -71,7 +75,9 @@ enum {
     PUNDALIKET_AT_STACK = 0,    /* 16 bytes, top first; a word's most significant byte is nearest the top */
     PUNDALIKET_AT_PENDING = 16, /* 1 while a half word is pending: an odd number of bytes pushed and popped since reset */
     PUNDALIKET_AT_STATUS = 17,  /* the status byte, as below */
-    PUNDALIKET_AT_SERVICE = 18  /* the service line, SVREQ */
+    PUNDALIKET_AT_SERVICE = 18, /* the service line, SVREQ */
+    PUNDALIKET_AT_ERRORS = 19,  /* of 21 bytes: the error bits of every status since reset or FORGET, as in a status */
+    PUNDALIKET_AT_CODE = 20     /* of 21 bytes: the code of the first command that set any, without bit 7; 0 if none */
 };
 
 /* The status byte. Each accepted command sets it afresh; bit 7, busy, is always 0. */
@@ -136,7 +142,8 @@ enum {
 /*
  * Runs a file of bus records. Returns the refusal that ended the run, 0 at the file's end.
  *
- * state    19 bytes, read and written: the chip before the run and after the last record done.
+ * state    19 or 21 bytes, read and written: the chip before the run and after the last record done. Of 19 the error
+ *          memory is empty at the start, and what the run remembers goes when it ends.
  * input    the records: length (2 bytes, little-endian, counts what follows), kind (2 bytes,
  *          little-endian), payload. Read only.
  * replies  written from the front, one reply for each record done: length, kind + 128, laid out as
@@ -157,8 +164,8 @@ uint32_t pundaliket_run(uint8_t *state, size_t state_length,
  * One bus event on a state. Returns 256 times the refusal plus the byte read, which is 0 where
  * there is none and in every refusal.
  *
- * state    19 bytes, read and written. A refused event writes nothing.
- * kind     1 to 6 as above, the whole number (257 is no kind).
+ * state    19 or 21 bytes, read and written. A refused event writes nothing. Of 19 the error memory reads 0.
+ * kind     1 to 8 as above, the whole number (257 is no kind).
  * byte     the byte pushed or the command code, else ignored.
  *
  * Order: 13, 5, then 1, 2, 3, 4.

@@ -28,7 +28,8 @@ enum card_cycle {
 /*
  * What survives a power cut: the state's 19 bytes, in two places, and the number of the place that counts. A cycle
  * writes the other place and then that number, one byte: the power may go between two cycles and at any byte inside
- * one, and what counts is always the whole state after a cycle, never half of one joined to half of another.
+ * one, and what counts is always the whole state after a cycle, never half of one joined to half of another. No cycle
+ * reads the error memory; a card that is to show it keeps the state's 21 bytes instead.
  */
 struct card_memory {
     uint8_t state[2][PUNDALIKET_STATE_BYTES];
@@ -55,7 +56,7 @@ struct card_answer card_power_up(volatile struct card_memory *memory);
  *        waits for SVREQ waits in vain, as for a chip that is not there, so the lamp is worth its hole.
  * 3      a command inside a word: the same. The controller lost or doubled a byte; it has to send a reset.
  * 4      a float operand is not proper: the same. The controller sent no float word.
- * 5      cannot come: the six cycles are the six kinds.
+ * 5      cannot come: each of the six cycles has its kind.
  * 13     the memory was damaged since the last cycle. Nothing of it is used: the card stands as after a reset, the data
  *        byte is 0. The unit on the bench has to be measured anew.
  */

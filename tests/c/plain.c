@@ -1,8 +1,9 @@
-/* Document 01 in plain C, with the square root of 02. The state is worked on where it lies, as 19 bytes; fixed-point results are
- * formed in 64-bit integers, float results in 64 bits with what falls off kept as one low bit. */
+/* Document 01 in plain C, with requests 1 to 3 of 02. The state is worked on where it lies, as 19 bytes and two of error memory;
+ * fixed-point results are formed in 64-bit integers, float results in 64 bits with what falls off kept as one low bit. */
 #include "plain.h"
 
-enum { PENDING = 16, STATUS = 17, SERVICE = 18, STATE = 19, REPORT = 9, MOST_INPUT = 12288 };
+enum { PENDING = 16, STATUS = 17, SERVICE = 18, STATE = 19, MEMORY = 2, REPORT = 9, MOST_INPUT = 12288 };
+enum { BITS = 0, CODE = 1, ERROR_BITS = 0x1E };
 enum { OVERFLOW_ERROR = 1, UNDERFLOW_ERROR = 2, ROOT_ERROR = 4, DIVIDE_ERROR = 8 };
 
 /* a word of two or four bytes, most significant first */
@@ -322,7 +323,7 @@ static uint32_t known(uint32_t code)
     }
 }
 
-static uint32_t command(uint8_t *s, uint8_t byte)
+static uint32_t obey(uint8_t *s, uint8_t byte)
 {
     uint32_t code = byte & 0x7F, sr = byte >> 7, refusal = known(code);
     int n = code & 0x40 ? 2 : 4;
@@ -348,9 +349,29 @@ static uint32_t command(uint8_t *s, uint8_t byte)
     }
 }
 
+/* a command, and what the error memory keeps of it: the bits of each status, the code of the first that has any */
+static uint32_t command(uint8_t *s, uint8_t *memory, uint8_t byte)
+{
+    uint32_t refusal = obey(s, byte);
+    uint8_t bits = s[STATUS] & ERROR_BITS;
+    if (refusal == 0 && bits) {
+        if (memory[BITS] == 0)
+            memory[CODE] = byte & 0x7F;
+        memory[BITS] |= bits;
+    }
+    return refusal;
+}
+
+static int bad_memory(const uint8_t *memory)
+{
+    return (memory[BITS] & ~ERROR_BITS) != 0 || (memory[BITS] == 0) != (memory[CODE] == 0);
+}
+
 static int bad_state(const uint8_t *s, size_t n)
 {
-    return n != STATE || s[PENDING] > 1 || s[SERVICE] > 1 || s[STATUS] > 0x7F;
+    if (n != STATE && (n != STATE + MEMORY || bad_memory(s + STATE)))
+        return 1;
+    return s[PENDING] > 1 || s[SERVICE] > 1 || s[STATUS] > 0x7F;
 }
 
 uint32_t plain_event(uint8_t *state, size_t state_length, uint32_t kind, uint8_t byte)
@@ -360,10 +381,12 @@ uint32_t plain_event(uint8_t *state, size_t state_length, uint32_t kind, uint8_t
     switch (kind) {
     case 1: push(state, &byte, 1); return 0;
     case 2: pop(state, &byte, 1); return byte;
-    case 3: return 256 * command(state, byte);
+    case 3: return 256 * (state_length == STATE ? obey(state, byte) : command(state, state + STATE, byte));
     case 4: return state[STATUS];
-    case 5: CLEAR(state, STATE); return 0;
+    case 5: CLEAR(state, state_length); return 0;
     case 6: state[SERVICE] = 0; return 0;
+    case 7: return state_length == STATE ? 0 : state[STATE + BITS];
+    case 8: CLEAR(state + STATE, state_length - STATE); return 0;
     default: return 5 * 256;
     }
 }
@@ -390,7 +413,8 @@ static uint32_t look(const uint8_t *in, size_t left, uint32_t *kind, uint32_t *p
         return 0;
     case 3: return *payload == 1 ? 0 : 7;
     case 4: *data = 1; return *payload == 0 ? 0 : 7;
-    case 5: case 6: return *payload == 0 ? 0 : 7;
+    case 7: *data = 2; return *payload == 0 ? 0 : 7;
+    case 5: case 6: case 8: return *payload == 0 ? 0 : 7;
     default: return 5;
     }
 }
@@ -411,6 +435,8 @@ uint32_t plain_run(uint8_t *state, size_t state_length, const uint8_t *input, si
         return away(report, 13);
     if (input_length > MOST_INPUT)
         return away(report, 9);
+    /* a state of 19 bytes has a memory beside it, which goes when the run ends */
+    uint8_t beside[MEMORY] = { 0 }, *memory = state_length == STATE ? beside : state + STATE;
     size_t taken = 0, written = 0;
     uint32_t refusal = 0;
     while (taken < input_length) {
@@ -427,13 +453,18 @@ uint32_t plain_run(uint8_t *state, size_t state_length, const uint8_t *input, si
         } else if (kind == 2) {
             pop(state, out + 5, data);
         } else if (kind == 3) {
-            answer = command(state, in[4]);
+            answer = command(state, memory, in[4]);
         } else if (kind == 4) {
             out[5] = state[STATUS];
         } else if (kind == 5) {
             CLEAR(state, STATE);
-        } else {
+            CLEAR(memory, MEMORY);
+        } else if (kind == 6) {
             state[SERVICE] = 0;
+        } else if (kind == 7) {
+            MOVE(out + 5, memory, MEMORY);
+        } else {
+            CLEAR(memory, MEMORY);
         }
         out[0] = (uint8_t)(3 + data);
         out[1] = 0;

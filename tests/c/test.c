@@ -1,5 +1,5 @@
 /* A C program over include/pundaliket.h, linked with the library. It checks 01's example, each
- * refusal of 01's table, roots, that no byte beyond a lent slice is written, the room that replies
+ * refusal of 01's table, roots, the error memory, that no byte beyond a lent slice is written, the room that replies
  * need, the stack that a call needs, and, against the plain C of plain.c, events over all codes,
  * drawn, damaged and cut files, and conversions.
  * Prints what differs and the stack used, then 'N checks, M failed'; ends with 1 if M is not 0. */
@@ -105,6 +105,7 @@ static uint32_t drawn_word(void)
     }
 }
 
+/* 21 bytes: a state and an error memory, in one of four cases an empty one */
 static void draw_state(uint8_t *s)
 {
     for (int i = 0; i < 4; i++) {
@@ -119,7 +120,12 @@ static void draw_state(uint8_t *s)
     s[16] = below(8) == 0;
     s[17] = (uint8_t)below(128);
     s[18] = (uint8_t)below(2);
+    s[19] = below(4) ? (uint8_t)(2 + 2 * below(15)) : 0;
+    s[20] = s[19] ? (uint8_t)(1 + below(below(4) ? 127 : 255)) : 0;
 }
+
+/* the length of a state, in one of ten cases any */
+static size_t drawn_length(void) { return below(10) ? (below(2) ? 19 : 21) : below(24); }
 
 /* ---- one call of each, compared */
 
@@ -161,14 +167,14 @@ static int conversions_agree(unsigned alignment, uint32_t x, size_t n)
 
 /* ---- 01's example, and each refusal of 01's table: what must come is written out here */
 
-static const uint8_t zeros[PUNDALIKET_STATE_BYTES];
+static const uint8_t zeros[PUNDALIKET_LONG_STATE_BYTES];
 
-/* runs a file from a state in some room: the refusal, the counts, and the guards */
-static void expect_run(const char *what, const uint8_t *s, const uint8_t *file, size_t n, size_t room, uint32_t refusal, size_t taken,
-                       const uint8_t *written, size_t count, const uint8_t *left)
+/* runs a file from a state of sn bytes in some room: the refusal, the counts, and the guards */
+static void expect_run_on(const char *what, const uint8_t *s, size_t sn, const uint8_t *file, size_t n, size_t room, uint32_t refusal,
+                          size_t taken, const uint8_t *written, size_t count, const uint8_t *left)
 {
     for (unsigned alignment = 0; alignment < 8; alignment++) {
-        lend(&state, alignment, PUNDALIKET_STATE_BYTES, s);
+        lend(&state, alignment, sn, s);
         lend(&input, 7 - alignment, n, file);
         lend(&replies, alignment, room, NULL);
         lend(&report, 7 - alignment, PUNDALIKET_REPORT_BYTES, NULL);
@@ -185,6 +191,13 @@ static void expect_run(const char *what, const uint8_t *s, const uint8_t *file, 
         check(holds(&state, left), what, 4);
         check(guarded(&state) && guarded(&input) && guarded(&replies) && guarded(&report) && holds(&input, file), what, 5);
     }
+}
+
+/* the same from a state of 19 bytes */
+static void expect_run(const char *what, const uint8_t *s, const uint8_t *file, size_t n, size_t room, uint32_t refusal, size_t taken,
+                       const uint8_t *written, size_t count, const uint8_t *left)
+{
+    expect_run_on(what, s, PUNDALIKET_STATE_BYTES, file, n, room, refusal, taken, written, count, left);
 }
 
 static void example_of_01(void)
@@ -211,7 +224,7 @@ static void refusals_of_a_file(void)
     static const uint8_t derived[] = { 3, 0, 1, 0, 7, 3, 0, 3, 0, 0x82 }, derived_replies[] = { 3, 0, 129, 0, 0, 3, 0, 131, 0, 2 };
     static const uint8_t half[] = { 3, 0, 1, 0, 7, 3, 0, 3, 0, 0x00 }, half_replies[] = { 3, 0, 129, 0, 0, 3, 0, 131, 0, 3 };
     static const uint8_t not_proper[] = { 3, 0, 3, 0, 0x9E }, not_proper_replies[] = { 3, 0, 131, 0, 4 };
-    static const uint8_t kind[] = { 3, 0, 1, 0, 7, 2, 0, 7, 0 }, wide_kind[] = { 3, 0, 1, 0, 7, 2, 0, 4, 1 };
+    static const uint8_t kind[] = { 3, 0, 1, 0, 7, 2, 0, 9, 0 }, wide_kind[] = { 3, 0, 1, 0, 7, 2, 0, 4, 1 };
     static const uint8_t cut[] = { 3, 0, 1, 0, 7, 3, 0, 1, 0 }, cut_length[] = { 3, 0, 1, 0, 7, 3 };
     static const uint8_t low[] = { 3, 0, 1, 0, 7, 1, 0 }, high[] = { 3, 0, 1, 0, 7, 243, 0, 1, 0 };
     static const uint8_t no_count[] = { 3, 0, 1, 0, 7, 3, 0, 2, 0, 0 }, status_pay[] = { 3, 0, 1, 0, 7, 3, 0, 4, 0, 0 };
@@ -315,13 +328,18 @@ static void refusals_of_conversions(void)
     expect_conversion("refusal 12, subnormal", 1, 0x80000001, 4, 12, 0);
 }
 
-static void expect_event(const char *what, const uint8_t *s, uint32_t kind, uint8_t byte, uint32_t answer, const uint8_t *left)
+static void expect_event_on(const char *what, const uint8_t *s, size_t sn, uint32_t kind, uint8_t byte, uint32_t answer, const uint8_t *left)
 {
     for (unsigned alignment = 0; alignment < 8; alignment++) {
-        lend(&state, alignment, PUNDALIKET_STATE_BYTES, s);
-        uint32_t r = pundaliket_event(state.at, state.length, kind, byte);
+        lend(&state, alignment, sn, s);
+        uint32_t r = pundaliket_event(state.at, sn, kind, byte);
         check(r == answer && holds(&state, left) && guarded(&state), what, alignment);
     }
+}
+
+static void expect_event(const char *what, const uint8_t *s, uint32_t kind, uint8_t byte, uint32_t answer, const uint8_t *left)
+{
+    expect_event_on(what, s, PUNDALIKET_STATE_BYTES, kind, byte, answer, left);
 }
 
 static void events_of_each_kind(void)
@@ -343,7 +361,9 @@ static void events_of_each_kind(void)
     expect_event("event reset", s, PUNDALIKET_RESET, 0xEE, 0, zeros);
     expect_event("event acknowledge", s, PUNDALIKET_ACKNOWLEDGE, 0xEE, 0, acknowledged);
     expect_event("event of no kind", s, 0, 1, 5 * 256, s);
-    expect_event("event of kind 7", s, 7, 1, 5 * 256, s);
+    expect_event("event recall, no memory", s, PUNDALIKET_RECALL, 0xEE, 0, s);
+    expect_event("event forget, no memory", s, PUNDALIKET_FORGET, 0xEE, 0, s);
+    expect_event("event of kind 9", s, 9, 1, 5 * 256, s);
     expect_event("event of kind 257", s, 257, 1, 5 * 256, s);
     expect_event("event of kind 2^32 - 1", s, 0xFFFFFFFF, 1, 5 * 256, s);
 }
@@ -410,23 +430,184 @@ static void roots(void)
     expect_run("root in a file", zeros, file, sizeof file, 64, 0, sizeof file, written, sizeof written, left);
 }
 
+/* ---- the error memory, request 3 of 02: what must come is written out here */
+
+/* a state of 21 bytes: the words B, A on top and nothing below them, pending, status, service, bits, code */
+static void make_state(uint8_t *s, uint32_t b, uint32_t a, uint8_t pending, uint8_t status, uint8_t service, uint8_t bits, uint8_t code)
+{
+    memset(s, 0, PUNDALIKET_LONG_STATE_BYTES);
+    for (int i = 0; i < 4; i++) {
+        s[i] = (uint8_t)(a >> (24 - 8 * i));
+        s[4 + i] = (uint8_t)(b >> (24 - 8 * i));
+    }
+    s[16] = pending;
+    s[17] = status;
+    s[18] = service;
+    s[19] = bits;
+    s[20] = code;
+}
+
+/* a command that is accepted, from each of three memories: what it leaves has this top and word below, status and error bits */
+static void expect_error(const char *what, uint32_t b, uint32_t a, uint8_t code, uint32_t top, uint32_t next, uint8_t status, uint8_t error)
+{
+    static const struct {
+        uint8_t bits, code;
+    } stood[] = { { 0x00, 0x00 }, { 0x04, 0x12 }, { 0x1E, 0xFF } };
+    uint8_t s[PUNDALIKET_LONG_STATE_BYTES], left[PUNDALIKET_LONG_STATE_BYTES];
+    for (unsigned i = 0; i < 3; i++)
+        for (unsigned sr = 0; sr < 2; sr++) {
+            uint8_t first = stood[i].code ? stood[i].code : error ? code : 0;
+            make_state(s, b, a, 0, 0x1E, (uint8_t)!sr, stood[i].bits, stood[i].code);
+            make_state(left, next, top, 0, status, (uint8_t)sr, stood[i].bits | error, first);
+            expect_event_on(what, s, 21, PUNDALIKET_COMMAND, (uint8_t)(code | sr << 7), 0, left);
+            expect_event_on(what, s, 19, PUNDALIKET_COMMAND, (uint8_t)(code | sr << 7), 0, left);
+        }
+}
+
+/* the status of the states below holds every error bit; it was set before and counts for nothing */
+static void errors_remembered(void)
+{
+    static const uint32_t kinds[] = { PUNDALIKET_PUSH, PUNDALIKET_POP, PUNDALIKET_STATUS, PUNDALIKET_ACKNOWLEDGE };
+    uint8_t s[PUNDALIKET_LONG_STATE_BYTES], left[PUNDALIKET_LONG_STATE_BYTES];
+    expect_error("SMUL, overflow", 0, 0x01000100, 0x6E, 0, 0, 0x22, 0x02);
+    expect_error("DDIV by zero", 7, 0, 0x2F, 7, 0, 0x10, 0x10);
+    expect_error("FDIV by zero", 0x01800000, 0, 0x13, 0x01800000, 0, 0x10, 0x10);
+    expect_error("SQRT of -1", 0, 0x81800000, 0x01, 0x81800000, 0, 0x48, 0x08);
+    expect_error("FMUL, underflow", 0x40800000, 0x40800000, 0x12, 0x7F800000, 0, 0x04, 0x04);
+    expect_error("FMUL, overflow", 0x3FFFFFFF, 0x3FFFFFFF, 0x12, 0x7EFFFFFE, 0, 0x02, 0x02);
+    expect_error("FIXS, overflow", 0, 0x90800000, 0x1F, 0x90800000, 0, 0x42, 0x02);
+    expect_error("CHSD, overflow", 0, 0x80000000, 0x34, 0x80000000, 0, 0x42, 0x02);
+    expect_error("FMUL, no error", 0x01800000, 0x01800000, 0x12, 0x01800000, 0, 0x00, 0x00);
+    expect_error("NOP", 7, 7, 0x00, 7, 7, 0x00, 0x00);
+    for (unsigned pending = 0; pending < 2; pending++) {
+        /* a command refused with 1, 2, and 3 or 4; reads; clearing; reset */
+        make_state(s, 0x00400000, 0, (uint8_t)pending, 0x7F, 1, 0x12, 0x6F);
+        expect_event_on("a refused command, 1", s, 21, PUNDALIKET_COMMAND, 0x0C, 1 * 256, s);
+        expect_event_on("a refused command, 2", s, 21, PUNDALIKET_COMMAND, 0x02, 2 * 256, s);
+        expect_event_on("a refused command, 3 or 4", s, 21, PUNDALIKET_COMMAND, 0x13, pending ? 3 * 256 : 4 * 256, s);
+        expect_event_on("recall", s, 21, PUNDALIKET_RECALL, 0xEE, 0x12, s);
+        expect_event_on("recall on 19 bytes", s, 19, PUNDALIKET_RECALL, 0xEE, 0, s);
+        expect_event_on("forget on 19 bytes", s, 19, PUNDALIKET_FORGET, 0xEE, 0, s);
+        expect_event_on("kind 9 on 21 bytes", s, 21, 9, 0xEE, 5 * 256, s);
+        make_state(left, 0x00400000, 0, (uint8_t)pending, 0x7F, 1, 0, 0);
+        expect_event_on("forget", s, 21, PUNDALIKET_FORGET, 0xEE, 0, left);
+        expect_event_on("forget nothing", left, 21, PUNDALIKET_FORGET, 0xEE, 0, left);
+        expect_event_on("recall nothing", left, 21, PUNDALIKET_RECALL, 0xEE, 0, left);
+        expect_event_on("reset on 21 bytes", s, 21, PUNDALIKET_RESET, 0xEE, 0, zeros);
+        /* the others leave the memory, whatever they do to the 19 bytes before it */
+        for (unsigned k = 0; k < sizeof kinds / sizeof kinds[0]; k++) {
+            lend(&state, k, 21, s);
+            check(pundaliket_event(state.at, 21, kinds[k], 0xEE) < 256 && state.at[19] == 0x12 && state.at[20] == 0x6F, "memory kept by kind", kinds[k]);
+            check(guarded(&state), "memory kept, guards", kinds[k]);
+        }
+    }
+}
+
+/* a push of 0007 and 0000, SDIV by zero with the service bit (code EF): 10 and 6F are remembered; SADD of 7FFF and 0001 adds
+ * 02; status, recall, forget, recall */
+static void memory_in_a_file(void)
+{
+    static const uint8_t file[] = {
+        6, 0, 1, 0, 7, 0, 0, 0, 3, 0, 3, 0, 0xEF, 6, 0, 1, 0, 0xFF, 0x7F, 1, 0, 3, 0, 3, 0, 0x6C, 3, 0, 3, 0, 0x00,
+        2, 0, 4, 0, 2, 0, 7, 0, 2, 0, 8, 0, 2, 0, 7, 0,
+    };
+    static const uint8_t written[] = {
+        3, 0, 129, 0, 0, 3, 0, 131, 0, 0, 3, 0, 129, 0, 0, 3, 0, 131, 0, 0, 3, 0, 131, 0, 0,
+        4, 0, 132, 0, 0, 0x00, 5, 0, 135, 0, 0, 0x12, 0x6F, 3, 0, 136, 0, 0, 5, 0, 135, 0, 0, 0x00, 0x00,
+    };
+    /* the sum 8000, the quotient 0007 below it, and SADD's operand 0001 at the bottom */
+    static const uint8_t left[] = { 0x80, 0, 0, 7, 0, 0, 0, 0, 0, 0, 0, 0, 0, 0, 0, 1, 0, 0, 0, 0x12, 0x6F };
+    static const uint8_t emptied[] = { 0x80, 0, 0, 7, 0, 0, 0, 0, 0, 0, 0, 0, 0, 0, 0, 1, 0, 0, 0, 0, 0 };
+    static const uint8_t stood[] = { 0, 0, 0, 0, 0, 0, 0, 0, 0, 0, 0, 0, 0, 0, 0, 0, 0, 0, 0, 0x08, 0x01 };
+    static const uint8_t joined[] = { 0x80, 0, 0, 7, 0, 0, 0, 0, 0, 0, 0, 0, 0, 0, 0, 1, 0, 0, 0, 0x1A, 0x01 };
+    uint8_t written_joined[sizeof written];
+    memcpy(written_joined, written, sizeof written);
+    written_joined[36] = 0x1A;
+    written_joined[37] = 0x01;
+    for (size_t sn = 19; sn <= 21; sn += 2) {
+        expect_run_on("a memory in a file", zeros, sn, file, 39, 64, 0, 39, written, 38, left);
+        expect_run_on("a memory in a file, cleared", zeros, sn, file, sizeof file, 64, 0, sizeof file, written, sizeof written, emptied);
+        expect_run_on("recall, its room short by a byte", zeros, sn, file, 39, 37, 8, 35, written, 31, left);
+        expect_run_on("recall, just its room", zeros, sn, file, 39, 38, 0, 39, written, 38, left);
+    }
+    /* the memory that stood: of 21 bytes it is read, joined and kept, of 19 there is none */
+    expect_run_on("a memory that stood", stood, 21, file, 39, 64, 0, 39, written_joined, 38, joined);
+    expect_run_on("no memory that stood", stood, 19, file, 39, 64, 0, 39, written, 38, joined);
+}
+
+/* records of kinds 7 and 8 with a payload, kind 9, and kind 263, which is not to be cut to a byte; kind 7 in the half of a word */
+static void records_of_the_memory(void)
+{
+    static const uint8_t recall_pay[] = { 3, 0, 1, 0, 7, 3, 0, 7, 0, 0 }, forget_pay[] = { 3, 0, 1, 0, 7, 3, 0, 8, 0, 0 };
+    static const uint8_t kind_9[] = { 3, 0, 1, 0, 7, 2, 0, 9, 0 }, kind_263[] = { 3, 0, 1, 0, 7, 2, 0, 7, 1 };
+    static const uint8_t half[] = { 3, 0, 1, 0, 7, 2, 0, 7, 0, 3, 0, 3, 0, 0xEF, 2, 0, 8, 0, 2, 0, 7, 0, 2, 0, 5, 0 };
+    static const uint8_t reset[] = { 2, 0, 5, 0, 2, 0, 7, 0 }, reset_replies[] = { 3, 0, 133, 0, 0, 5, 0, 135, 0, 0, 0, 0 };
+    static const uint8_t one[] = { 3, 0, 129, 0, 0 };
+    static const uint8_t half_replies[] = {
+        3, 0, 129, 0, 0, 5, 0, 135, 0, 0, 0x14, 0x93, 3, 0, 131, 0, 3, 3, 0, 136, 0, 0, 5, 0, 135, 0, 0, 0, 0, 3, 0, 133, 0, 0,
+    };
+    static const uint8_t stood[] = { 0, 0, 0, 0, 0, 0, 0, 0, 0, 0, 0, 0, 0, 0, 0, 0, 0, 0x5E, 1, 0x14, 0x93 };
+    static const uint8_t pushed[] = { 7, 0, 0, 0, 0, 0, 0, 0, 0, 0, 0, 0, 0, 0, 0, 0, 1, 0x5E, 1, 0x14, 0x93 };
+    static const uint8_t emptied[] = { 7, 0, 0, 0, 0, 0, 0, 0, 0, 0, 0, 0, 0, 0, 0, 0, 1, 0x5E, 1, 0, 0 };
+    for (size_t sn = 19; sn <= 21; sn += 2) {
+        expect_run_on("recall with a payload", stood, sn, recall_pay, sizeof recall_pay, 64, 7, 5, one, 5, pushed);
+        expect_run_on("forget with a payload", stood, sn, forget_pay, sizeof forget_pay, 64, 7, 5, one, 5, pushed);
+        expect_run_on("kind 9", stood, sn, kind_9, sizeof kind_9, 64, 5, 5, one, 5, pushed);
+        expect_run_on("kind 263", stood, sn, kind_263, sizeof kind_263, 64, 5, 5, one, 5, pushed);
+    }
+    expect_run_on("recall in the half of a word", stood, 21, half, 9, 64, 0, 9, half_replies, 12, pushed);
+    expect_run_on("forget in the half of a word", stood, 21, half, 22, 64, 0, 22, half_replies, 29, emptied);
+    expect_run_on("reset in the half of a word", stood, 21, half, 26, 64, 0, 26, half_replies, 34, zeros);
+    expect_run_on("reset with a memory", stood, 21, reset, sizeof reset, 64, 0, sizeof reset, reset_replies, sizeof reset_replies, zeros);
+}
+
+/* 13 by the length, with a memory and without, and by each of the 65,536 pairs of bits and code: 02 takes no bits and no code, or
+ * some of bits 4 to 1 and any code that is not 0 */
+static void refusals_of_a_memory(void)
+{
+    static const uint8_t reads[] = { 2, 0, 4, 0 }, told[] = { 4, 0, 132, 0, 0, 0x05 };
+    uint8_t s[24];
+    memset(s, 0, sizeof s);
+    for (size_t k = 0; k < 50; k++) {
+        size_t sn = k / 2;
+        int good = sn == 19 || sn == 21;
+        make_state(s, 0x01020304, 0x05060708, 1, 0x05, 1, k % 2 ? 0x10 : 0, k % 2 ? 0x6F : 0);
+        expect_event_on("length of a state, event", s, sn, PUNDALIKET_STATUS, 0, good ? 0x05 : 13 * 256, s);
+        expect_run_on("length of a state, run", s, sn, reads, sizeof reads, 64, good ? 0 : 13, good ? 4 : 0, told, good ? 6 : 0, s);
+    }
+    for (unsigned bits = 0; bits < 256; bits++)
+        for (unsigned code = 0; code < 256; code++) {
+            int good = bits == 0 ? code == 0 : bits <= 30 && bits % 2 == 0 && code != 0;
+            s[19] = (uint8_t)bits;
+            s[20] = (uint8_t)code;
+            lend(&state, code & 7, 21, s);
+            uint32_t r = pundaliket_event(state.at, 21, PUNDALIKET_RECALL, 0);
+            check(r == (good ? bits : 13 * 256) && holds(&state, s) && guarded(&state), "memory of an event", bits << 8 | code);
+            lend(&replies, bits & 7, 6, NULL);
+            lend(&report, 0, 9, NULL);
+            r = pundaliket_run(state.at, 21, reads, sizeof reads, replies.at, 6, report.at, 9);
+            check(r == (good ? 0 : 13) && holds(&state, s) && guarded(&state) && report.at[0] == r && (replies.at[0] == UNTOUCHED) == !good,
+                  "memory of a run", bits << 8 | code);
+        }
+}
+
 /* ---- against plain.c */
 
 static void all_events(void)
 {
     uint8_t s[24];
-    static const uint32_t kinds[] = { 0, 1, 2, 3, 4, 5, 6, 7, 8, 255, 256, 257, 258, 259, 260, 261, 262, 65539, 0x80000003, 0xFFFFFFFF };
+    static const uint32_t kinds[] = { 0, 1, 2, 3, 4, 5, 6, 7, 8, 9, 255, 256, 257, 258, 259, 260, 261, 262, 263, 264, 65539, 0x80000003, 0xFFFFFFFF };
     for (unsigned code = 0; code < 256; code++)
         for (unsigned i = 0; i < 200; i++) {
             draw_state(s);
-            check(event_agrees(i & 7, s, 19, 3, (uint8_t)code), "command, code", code);
+            check(event_agrees(i & 7, s, i % 2 ? 21 : 19, 3, (uint8_t)code), "command, code", code);
         }
     for (unsigned k = 0; k < sizeof kinds / sizeof kinds[0]; k++)
         for (unsigned i = 0; i < 500; i++) {
             draw_state(s);
             if (below(4) == 0)
-                s[16 + below(3)] = (uint8_t)drawn();
-            check(event_agrees(i & 7, s, below(10) ? 19 : below(24), kinds[k], (uint8_t)drawn()), "event, kind", kinds[k]);
+                s[16 + below(5)] = (uint8_t)drawn();
+            check(event_agrees(i & 7, s, drawn_length(), kinds[k], (uint8_t)drawn()), "event, kind", kinds[k]);
         }
 }
 
@@ -437,7 +618,7 @@ static size_t draw_record(uint8_t *to)
         0x00, 0x01, 0x10, 0x11, 0x12, 0x13, 0x15, 0x17, 0x18, 0x19, 0x1A, 0x1C, 0x1D, 0x1E, 0x1F, 0x2C, 0x2D, 0x2E, 0x2F, 0x34,
         0x36, 0x37, 0x38, 0x39, 0x6C, 0x6D, 0x6E, 0x6F, 0x74, 0x76, 0x77, 0x78, 0x79,
     };
-    uint32_t draw = below(16), kind = draw < 6 ? 1 : draw < 8 ? 2 : draw < 13 ? 3 : draw - 9, n = 0;
+    uint32_t draw = below(18), kind = draw < 6 ? 1 : draw < 8 ? 2 : draw < 13 ? 3 : draw - 9, n = 0;
     if (kind == 1) {
         n = below(4) ? 4 : below(3) ? 2 : 1 + below(below(4) ? 16 : 240);
         uint32_t w = drawn_word();
@@ -469,35 +650,38 @@ static void drawn_files(void)
             room = 65536;
         draw_state(s);
         if (below(30) == 0)
-            s[16 + below(3)] = (uint8_t)drawn();
+            s[16 + below(5)] = (uint8_t)drawn();
         if (i % 4 == 1 && n > 0)
             for (unsigned k = 1 + below(3); k > 0; k--)
                 file[below((uint32_t)n)] = below(2) ? (uint8_t)below(20) : (uint8_t)drawn();
         if (i % 4 == 2)
             n = below((uint32_t)n + 1);
-        check(run_agrees(i, s, 19, file, n, room, 9), "drawn file", i);
+        check(run_agrees(i, s, i / 4 % 2 ? 21 : 19, file, n, room, 9), "drawn file", i);
     }
     /* one file cut after each of its bytes, and in every small room */
     size_t n = 0;
     for (size_t k = 0; k < 40; k++)
         n += draw_record(file + n);
-    for (size_t k = 0; k <= n; k++)
-        check(run_agrees((unsigned)k, zeros, 19, file, k, 2000, 9), "cut file", (unsigned)k);
-    for (size_t k = 0; k < 400; k++)
-        check(run_agrees((unsigned)k, zeros, 19, file, n, k, 9), "small room", (unsigned)k);
+    for (size_t sn = 19; sn <= 21; sn += 2) {
+        for (size_t k = 0; k <= n; k++)
+            check(run_agrees((unsigned)k, zeros, sn, file, k, 2000, 9), "cut file", (unsigned)k);
+        for (size_t k = 0; k < 400; k++)
+            check(run_agrees((unsigned)k, zeros, sn, file, n, k, 9), "small room", (unsigned)k);
+    }
     /* every small file of drawn bytes, slices of other lengths, the longest file and one byte more */
     for (unsigned i = 0; i < 4000; i++) {
         n = below(12);
         for (size_t k = 0; k < n; k++)
-            file[k] = below(3) ? (uint8_t)below(8) : (uint8_t)drawn();
-        check(run_agrees(i, zeros, below(10) ? 19 : below(24), file, n, below(40), below(10) ? 9 : below(16)), "small file", i);
+            file[k] = below(3) ? (uint8_t)below(10) : (uint8_t)drawn();
+        draw_state(s);
+        check(run_agrees(i, s, drawn_length(), file, n, below(40), below(10) ? 9 : below(16)), "small file", i);
     }
     for (n = 0; n + 244 < PUNDALIKET_MOST_INPUT;)
         n += draw_record(file + n);
     while (n < PUNDALIKET_MOST_INPUT + 2)
         file[n++] = 4;
     for (size_t k = PUNDALIKET_MOST_INPUT - 2; k <= PUNDALIKET_MOST_INPUT + 2; k++)
-        check(run_agrees((unsigned)k, zeros, 19, file, k, 65536, 9), "long file", (unsigned)k);
+        check(run_agrees((unsigned)k, zeros, k % 2 ? 19 : 21, file, k, 65536, 9), "long file", (unsigned)k);
 }
 
 static void all_conversions(void)
@@ -520,15 +704,15 @@ static void room_for_replies(void)
 {
     static uint8_t file[PUNDALIKET_MOST_INPUT];
     static uint32_t most[PUNDALIKET_MOST_INPUT + 1];
-    /* of the records of 4 bytes a status has the longest reply, 6, of those of 5 a pop of 240, 245; of those of 6 to 244, all pushes, any, 5 */
+    /* of the records of 4 bytes a recall has the longest reply, 7, of those of 5 a pop of 240, 245; of those of 6 to 244, all pushes, any, 5 */
     for (size_t n = 0; n <= PUNDALIKET_MOST_INPUT; n++) {
         if (n > 0)
             most[n] = most[n - 1];
-        if (n >= 4 && most[n - 4] + 6 > most[n])
-            most[n] = most[n - 4] + 6;
+        if (n >= 4 && most[n - 4] + 7 > most[n])
+            most[n] = most[n - 4] + 7;
         if (n >= 5 && most[n - 5] + 245 > most[n])
             most[n] = most[n - 5] + 245;
-        check(most[n] == 245 * (n / 5) + (n % 5 == 4 ? 6 : 0), "replies to a file of", (unsigned)n);
+        check(most[n] == 245 * (n / 5) + (n % 5 == 4 ? 7 : 0), "replies to a file of", (unsigned)n);
     }
     check(most[PUNDALIKET_MOST_INPUT] == PUNDALIKET_MOST_REPLIES, "replies to the longest file", most[PUNDALIKET_MOST_INPUT]);
     for (size_t n = PUNDALIKET_MOST_INPUT; n > PUNDALIKET_MOST_INPUT - 8; n--) {
@@ -536,7 +720,7 @@ static void room_for_replies(void)
         for (size_t i = 0; i < whole; i += 5)
             memcpy(file + i, "\3\0\2\0\360", 5);
         if (n % 5 == 4) {
-            memcpy(file + whole, "\2\0\4\0", 4);
+            memcpy(file + whole, "\2\0\7\0", 4);
             whole += 4;
         }
         lend(&state, 0, PUNDALIKET_STATE_BYTES, zeros);
@@ -556,16 +740,16 @@ static uint8_t painted[STACK] __attribute__((aligned(64)));
 static size_t deepest;
 
 /* what the next call is lent */
-static uint8_t lent_state[PUNDALIKET_STATE_BYTES], lent_file[2304], lent_replies[65536], lent_report[PUNDALIKET_REPORT_BYTES], lent_out[4];
-static size_t lent_length;
+static uint8_t lent_state[PUNDALIKET_LONG_STATE_BYTES], lent_file[2304], lent_replies[65536], lent_report[PUNDALIKET_REPORT_BYTES], lent_out[4];
+static size_t lent_length, lent_size;
 static uint32_t lent_number;
 static uint8_t lent_byte;
 
 static void call_run(void)
 {
-    pundaliket_run(lent_state, sizeof lent_state, lent_file, lent_length, lent_replies, sizeof lent_replies, lent_report, sizeof lent_report);
+    pundaliket_run(lent_state, lent_size, lent_file, lent_length, lent_replies, sizeof lent_replies, lent_report, sizeof lent_report);
 }
-static void call_event(void) { pundaliket_event(lent_state, sizeof lent_state, lent_number, lent_byte); }
+static void call_event(void) { pundaliket_event(lent_state, lent_size, lent_number, lent_byte); }
 static void call_word_to_f32(void) { pundaliket_word_to_f32(lent_number, lent_out, sizeof lent_out); }
 static void call_f32_to_word(void) { pundaliket_f32_to_word(lent_number, lent_out, sizeof lent_out); }
 
@@ -588,12 +772,14 @@ static void stack_of_a_call(void)
 {
     for (unsigned i = 0; i < 4096; i++) {
         draw_state(lent_state);
-        lent_number = i % 16 ? 3 : i / 16 % 8;
+        lent_size = i / 256 % 2 ? 19 : 21;
+        lent_number = i % 16 ? 3 : i / 16 % 10;
         lent_byte = (uint8_t)i;
         on_painted_stack(call_event);
     }
     for (unsigned i = 0; i < 512; i++) {
         draw_state(lent_state);
+        lent_size = i % 2 ? 19 : 21;
         for (lent_length = 0; lent_length < 2000;)
             lent_length += draw_record(lent_file + lent_length);
         on_painted_stack(call_run);
@@ -614,6 +800,10 @@ int main(void)
     refusals_of_conversions();
     events_of_each_kind();
     roots();
+    errors_remembered();
+    memory_in_a_file();
+    records_of_the_memory();
+    refusals_of_a_memory();
     all_events();
     drawn_files();
     all_conversions();

@@ -1,4 +1,4 @@
-// States as 19 bytes, and the bytes of words.
+// States as bytes, and the bytes of words.
 use crate::words;
 ghost use Rattle.io.specs.Counts.{Counts};
 
@@ -40,5 +40,25 @@ pub fn state(a: u32, b: u32, pending: u8, busy: u8, i: u32) -> [u8; 19] {
     s[16] = pending;
     s[17] = (more % 128) as u8 | busy;
     s[18] = (more / 128 % 2) as u8;
+    s
+}
+
+// Eight error memories: none, each error by itself, several; two of the codes are from 80 hex on.
+pub fn remembered_bits(i: u32) -> u8 {
+    at(b"\x00\x02\x04\x08\x10\x1E\x0A\x14", (i % 8) as usize)
+}
+
+pub fn remembered_code(i: u32) -> u8 {
+    at(b"\x00\x6C\x12\x01\x6F\x7F\x80\xFF", (i % 8) as usize)
+}
+
+// A state, the bits and the code of an error memory behind it, and three bytes past both.
+pub fn stored(state: [u8; 19], bits: u8, code: u8) -> [u8; 24] {
+    let mut s = [165u8; 24];
+    for i in 0..19usize {
+        s[i] = state[i];
+    }
+    s[19] = bits;
+    s[20] = code;
     s
 }

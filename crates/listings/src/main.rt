@@ -1,5 +1,5 @@
 // Listings of inputs beside 01's example: no bytes, the longest file and one byte more, files that
-// stop with 5, 6 and 7, and replies with each of 1 to 4. Each stands under a line that names it.
+// stop with 5, 6 and 7, replies with each of 1 to 4, and the error memory. Each stands under a line that names it.
 ghost use mathlib.Core.Path.{_≡_};
 ghost use lib.ListN.{length};
 ghost use Rattle.io.specs.Counts.{Counts};
@@ -39,9 +39,9 @@ fn main() {
     let file = longest();
     show(b"12,288 bytes\n", &file[..12288]);
     show(b"12,289 bytes\n", &file);
-    // push 0003, a record of kind 7, a status read that is not reached
-    let kind = [4, 0, 1, 0, 3, 0, 2, 0, 7, 0, 2, 0, 4, 0];
-    show(b"kind 7\n", &kind);
+    // push 0003, a record of kind 9, a status read that is not reached
+    let kind = [4, 0, 1, 0, 3, 0, 2, 0, 9, 0, 2, 0, 4, 0];
+    show(b"kind 9\n", &kind);
     // push 0003, a push of two bytes that is cut after the first
     let cut = [4, 0, 1, 0, 3, 0, 4, 0, 1, 0, 5];
     show(b"cut short\n", &cut);
@@ -80,4 +80,7 @@ fn main() {
     // push 00000001, no proper word; FIXD and FADD
     let improper = [6, 0, 1, 0, 1, 0, 0, 0, 3, 0, 3, 0, 30, 3, 0, 3, 0, 16];
     show(b"improper\n", &improper);
+    // SDIV of zero by zero, recall, forget, recall
+    let memory = [3, 0, 3, 0, 111, 2, 0, 7, 0, 2, 0, 8, 0, 2, 0, 7, 0];
+    show(b"error memory\n", &memory);
 }

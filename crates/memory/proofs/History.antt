@@ -1,12 +1,12 @@
 -- The memory is what the history of statuses says: each event leaves both in step, and one command more is told at the end. Assumes nothing.
-use mathlib.Core.Path.{_≡_, refl, sym, ap, ap₂, subst, _∙_}
+use mathlib.Core.Path.{_≡_, refl, sym, ap, ap₂, _∙_}
 use mathlib.Core.Bool.{Bool, true, false, cond}
 use mathlib.Core.List.{List, [], _∷_, _++_}
-use Prim.Native.Nat.{ℕ, _%_, _<_}
+use Prim.Native.Nat.{ℕ, _%_}
 use native.Mathlib.Omega.{arith}
 use lib.Bits.{bitOr}
 use lib.Dec.{eqb}
-use borrow.Author.Tests.{eq-eqb, ne-eqb, eqb-true, eqb-false}
+use borrow.Author.Tests.{ne-eqb, eqb-true, eqb-false}
 use Rattle.terms.specs.declared.Refusal.{Refusal}
 use Rattle.terms.specs.declared.Refusal.the-variants.{Done, UnknownCode, DerivedCode, HalfWord, Improper, NoSuchKind, CutShort, BadLength, NoRoom, InputTooLong, NotFinite, TooLarge, TooSmall, BadState, BadReport}
 use Rattle.terms.specs.Refusal.{numberOf}
@@ -25,12 +25,12 @@ use Rattle.chip.proofs.Accepted.{accepted as accepted-by}
 use Rattle.memory.specs.declared.Memory.{Memory}
 use Rattle.memory.specs.declared.Event.{Event}
 use Rattle.memory.specs.declared.Event.the-variants.{Chip, Recall, Forget}
-use Rattle.memory.specs.Memory.{emptyMemory, errorsOf, firstCode, remembered, accepted, Core, CoreAnswer, keptAfter, eventIn}
+use Rattle.memory.specs.Memory.{emptyMemory, errorsOf, firstCode, remembered, accepted, Card, CardAnswer, keptAfter, eventIn}
 use Rattle.memory.specs.History.{Told, History, joinedBits, firstOf, memoryOf, from, told, chipTells, tells, afterAll, historyOf}
 
 -- ---- a command that leaves an error is not NOP, so that its code is not 0
 -- the refusal whose number is 0
-done-of : (r : Refusal) → numberOf r ≡ 0 → r ≡ Done
+pub done-of : (r : Refusal) → numberOf r ≡ 0 → r ≡ Done
 done-of Done e = refl
 done-of UnknownCode e = let y : ⊥ = omega arith in absurd y
 done-of DerivedCode e = let y : ⊥ = omega arith in absurd y
@@ -57,7 +57,7 @@ code-0 : decoded 0 ≡ Known Nop
 unfolding decoded
 code-0 = refl
 
-nop-clear : (s : State) (code : ℕ) → commandOf s code .refusal ≡ Done → code % 128 ≡ 0 → commandOf s code .state .status ≡ 0
+pub nop-clear : (s : State) (code : ℕ) → commandOf s code .refusal ≡ Done → code % 128 ≡ 0 → commandOf s code .state .status ≡ 0
 nop-clear s code d z =
     let a = accepted-by baseRule s code d in
     ap (λ (x : Answer). x .state .status) (a .answer)
@@ -138,23 +138,23 @@ chip-agrees s Status m h g = g
 chip-agrees s Reset m h g = reset-agrees (eventOf s Reset) m h g
 chip-agrees s Acknowledge m h g = g
 
-event-agrees : (c : Core) (e : Event) (h : History) → Agrees (c .memory) h → Agrees (eventIn c e .core .memory) (tells c e h)
+event-agrees : (c : Card) (e : Event) (h : History) → Agrees (c .memory) h → Agrees (eventIn c e .card .memory) (tells c e h)
 event-agrees c (Chip e) h g = chip-agrees (c .chip) e (c .memory) h g
 event-agrees c Recall h g = by (busy (c .chip))
   where
-    by : (x : Bool) → Agrees (cond {A = CoreAnswer} x (record { refusal = BadState; byte = 0; core = c }) (record { refusal = Done; byte = c .memory .bits; core = c }) .core .memory) h
+    by : (x : Bool) → Agrees (cond {A = CardAnswer} x (record { refusal = BadState; byte = 0; card = c }) (record { refusal = Done; byte = c .memory .bits; card = c }) .card .memory) h
     by true = g
     by false = g
 event-agrees c Forget h g = by (busy (c .chip))
   where
-    by : (x : Bool) → Agrees (cond {A = CoreAnswer} x (record { refusal = BadState; byte = 0; core = c }) (record { refusal = Done; byte = 0; core = record { chip = c .chip; memory = emptyMemory } }) .core .memory) (cond x h (from emptyMemory))
+    by : (x : Bool) → Agrees (cond {A = CardAnswer} x (record { refusal = BadState; byte = 0; card = c }) (record { refusal = Done; byte = 0; card = record { chip = c .chip; memory = emptyMemory } }) .card .memory) (cond x h (from emptyMemory))
     by true = g
     by false = starts emptyMemory
 
-agrees : (c : Core) (es : List Event) (h : History) → Agrees (c .memory) h → Agrees (afterAll c es .memory) (historyOf c es h)
+agrees : (c : Card) (es : List Event) (h : History) → Agrees (c .memory) h → Agrees (afterAll c es .memory) (historyOf c es h)
 agrees c [] h g = g
-agrees c (e ∷ es) h g = agrees (eventIn c e .core) es (tells c e h) (event-agrees c e h g)
+agrees c (e ∷ es) h g = agrees (eventIn c e .card) es (tells c e h) (event-agrees c e h g)
 
 -- over every list of events, from every state and memory
-pub memory-is-history : (c : Core) (es : List Event) → afterAll c es .memory ≡ memoryOf (historyOf c es (from (c .memory)))
+pub memory-is-history : (c : Card) (es : List Event) → afterAll c es .memory ≡ memoryOf (historyOf c es (from (c .memory)))
 memory-is-history c es = agrees c es (from (c .memory)) (starts (c .memory)) .says

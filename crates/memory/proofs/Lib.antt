@@ -1,3 +1,5 @@
 -- The laws of the error memory.
 pub mod History
 pub mod Placed
+pub mod Kept
+pub mod Good

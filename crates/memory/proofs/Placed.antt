@@ -1,6 +1,5 @@
 -- The events of a chip with its memory where the stack lies: the chip's answer with what it leaves remembered, the memory read and cleared. Assumes nothing.
 use mathlib.Core.Path.{_≡_, ap, _∙_}
-use mathlib.Core.Bool.{Bool}
 use mathlib.Core.List.{List}
 use Prim.Native.Nat.{ℕ, _<_}
 use borrow.Author.Tests.{lt-leb}
@@ -12,26 +11,20 @@ use Rattle.chip.specs.Step.{eventOf}
 use Rattle.chip.specs.Place.{held, answerBy}
 use Rattle.memory.specs.declared.Memory.{Memory}
 use Rattle.memory.specs.declared.Event.the-variants.{Chip, Recall, Forget}
-use Rattle.memory.specs.Memory.{emptyMemory, keptBy, Core, CoreAnswer, answerWith, eventIn}
-use Rattle.memory.specs.Held.{coreOf}
+use Rattle.memory.specs.declared.place.Rest.{Rest}
+use Rattle.memory.specs.Memory.{keptBy, around, answerWith, eventIn}
+use Rattle.memory.specs.Held.{cardOf, cardAt}
 
--- an answer of the chip's with a memory beside it
-abbrev pub beside : ChipLeft → List ℕ → Memory → CoreAnswer
-beside l stack m = record {
-  refusal = l .refusal;
-  byte = l .byte;
-  core = record { chip = held stack (l .pending) (l .status) (l .service); memory = m };
-}
-
-module _ (stack : List ℕ) (p : Bool) (t : ℕ) (v : Bool) (m : Memory) where
-  pub chip-placed : (e : ChipEvent) (l : ChipLeft) (after : List ℕ) {k : Memory} {n : ℕ} → answerBy l after ≡ eventOf (held stack p t v) e → k ≡ keptBy m e n (l .status) → n ≡ numberOf (l .refusal)
-      → beside l after k ≡ eventIn (coreOf stack p t v (m .bits) (m .code)) (Chip e)
+module _ (stack : List ℕ) (f : Rest) where
+  pub chip-placed : (e : ChipEvent) (l : ChipLeft) (after : List ℕ) {k : Memory} {n : ℕ} → answerBy l after ≡ eventOf (held stack (f .pending) (f .status) (f .service)) e
+      → k ≡ keptBy (record { bits = f .bits; code = f .code }) e n (l .status) → n ≡ numberOf (l .refusal) → around k (answerBy l after) ≡ eventIn (cardAt stack f) (Chip e)
   chip-placed e l after a ek en =
-      ap (beside l after) (ek ∙ ap (λ (j : ℕ). keptBy m e j (l .status)) en) ∙ ap (answerWith m e) a
+      ap (λ (m : Memory). around m (answerBy l after)) (ek ∙ ap (λ (j : ℕ). keptBy (record { bits = f .bits; code = f .code }) e j (l .status)) en)
+      ∙ ap (answerWith (record { bits = f .bits; code = f .code }) e) a
 
-  module _ (h : t < 128) where
-    pub recalled : record { refusal = Done; byte = m .bits; core = coreOf stack p t v (m .bits) (m .code) } ≡ eventIn (coreOf stack p t v (m .bits) (m .code)) Recall
-    recalled = rw (lt-leb 128 t h)
+  module _ (h : f .status < 128) where
+    pub recalled : record { refusal = Done; byte = f .bits; card = cardAt stack f } ≡ eventIn (cardAt stack f) Recall
+    recalled = rw (lt-leb 128 (f .status) h)
 
-    pub forgotten : record { refusal = Done; byte = 0; core = coreOf stack p t v 0 0 } ≡ eventIn (coreOf stack p t v (m .bits) (m .code)) Forget
-    forgotten = rw (lt-leb 128 t h)
+    pub forgotten : record { refusal = Done; byte = 0; card = cardOf stack (f .pending) (f .status) (f .service) 0 0 } ≡ eventIn (cardAt stack f) Forget
+    forgotten = rw (lt-leb 128 (f .status) h)

@@ -2,23 +2,25 @@
 use Prim.Native.Nat.{ℕ}
 use mathlib.Core.Bool.{Bool}
 use mathlib.Core.List.{List}
-use Rattle.chip.specs.declared.place.Flags.{Flags}
 use Rattle.chip.specs.Place.{held}
-use Rattle.memory.specs.declared.Memory.{Memory}
+use Rattle.memory.specs.declared.place.Rest.{Rest}
 use Rattle.memory.specs.declared.place.Left.{Left}
-use Rattle.memory.specs.Memory.{Core, CoreAnswer}
+use Rattle.memory.specs.Memory.{Card, CardAnswer}
 
 -- both, of a stack and of what stands beside it
-abbrev pub coreOf : List ℕ → Bool → ℕ → Bool → ℕ → ℕ → Core
-coreOf stack pending status service bits code = record {
+abbrev pub cardOf : List ℕ → Bool → ℕ → Bool → ℕ → ℕ → Card
+cardOf stack pending status service bits code = record {
   chip = held stack pending status service;
   memory = record { bits = bits; code = code };
 }
 
+abbrev pub cardAt : List ℕ → Rest → Card
+cardAt stack f = cardOf stack (f .pending) (f .status) (f .service) (f .bits) (f .code)
+
 -- the answer that an event in place makes with the stack it leaves
-abbrev pub answerIn : Left → List ℕ → CoreAnswer
+abbrev pub answerIn : Left → List ℕ → CardAnswer
 answerIn l stack = record {
   refusal = l .refusal;
   byte = l .byte;
-  core = coreOf stack (l .pending) (l .status) (l .service) (l .bits) (l .code);
+  card = cardOf stack (l .pending) (l .status) (l .service) (l .bits) (l .code);
 }

@@ -12,7 +12,7 @@ use Rattle.chip.specs.Step.{eventOf}
 use Rattle.memory.specs.declared.Memory.{Memory}
 use Rattle.memory.specs.declared.Event.{Event}
 use Rattle.memory.specs.declared.Event.the-variants.{Chip, Recall, Forget}
-use Rattle.memory.specs.Memory.{emptyMemory, errorsOf, accepted, Core, eventIn}
+use Rattle.memory.specs.Memory.{emptyMemory, errorsOf, accepted, Card, eventIn}
 
 -- an accepted command: its code and the status that it left
 pub record Told : Type 0 where
@@ -59,15 +59,15 @@ chipTells Status a h = h
 chipTells Reset a h = cond (accepted a) (from emptyMemory) h
 chipTells Acknowledge a h = h
 
-abbrev pub tells : Core → Event → History → History
+abbrev pub tells : Card → Event → History → History
 tells c (Chip e) h = chipTells e (eventOf (c .chip) e) h
 tells c Recall h = h
 tells c Forget h = cond (busy (c .chip)) h (from emptyMemory)
 
-abbrev pub afterAll : Core → List Event → Core
+abbrev pub afterAll : Card → List Event → Card
 afterAll c [] = c
-afterAll c (e ∷ es) = afterAll (eventIn c e .core) es
+afterAll c (e ∷ es) = afterAll (eventIn c e .card) es
 
-abbrev pub historyOf : Core → List Event → History → History
+abbrev pub historyOf : Card → List Event → History → History
 historyOf c [] h = h
-historyOf c (e ∷ es) h = historyOf (eventIn c e .core) es (tells c e h)
+historyOf c (e ∷ es) h = historyOf (eventIn c e .card) es (tells c e h)

@@ -1,7 +1,6 @@
 -- 02, ask 3: the error memory, and the events of a chip that has one. Definitions only. Assumes nothing.
 use Prim.Native.Nat.{ℕ, _*_, _/_, _%_}
-use mathlib.Core.Bool.{Bool, true, false, cond, not}
-use mathlib.Core.List.{List, [], _∷_, _++_}
+use mathlib.Core.Bool.{Bool, false, cond, not}
 use lib.Bits.{bitOr}
 use lib.Dec.{eqb, ltb}
 use Rattle.terms.specs.declared.Refusal.{Refusal}
@@ -37,16 +36,19 @@ remembered m code status = record { bits = bitOr (m .bits) (errorsOf status); co
 abbrev pub isMemory : ℕ → ℕ → Bool
 isMemory bits code = cond (ltb 30 bits) false (cond (eqb (bits % 2) 1) false (cond (eqb bits 0) (eqb code 0) (not (eqb code 0))))
 
--- ---- a chip with its memory
-pub record Core : Type 0 where
+-- ---- a chip with its memory, as they stand on the card
+pub record Card : Type 0 where
   pub chip : State
   pub memory : Memory
 
+abbrev pub cardWith : State → Memory → Card
+cardWith s m = record { chip = s; memory = m }
+
 -- what an event answers: the refusal, the byte read, and both afterwards
-pub record CoreAnswer : Type 0 where
+pub record CardAnswer : Type 0 where
   pub refusal : Refusal
   pub byte : ℕ
-  pub core : Core
+  pub card : Card
 
 -- what an event of the chip leaves remembered, by the number of its refusal and the status that it left: an accepted command adds, an accepted reset empties, nothing else counts
 abbrev pub keptBy : Memory → ChipEvent → ℕ → ℕ → Memory
@@ -64,15 +66,19 @@ keptAfter m e a = keptBy m e (numberOf (a .refusal)) (a .state .status)
 abbrev pub accepted : Answer → Bool
 accepted a = eqb (numberOf (a .refusal)) 0
 
+-- an answer of the chip's, with what is remembered after it
+abbrev pub around : Memory → Answer → CardAnswer
+around m a = record { refusal = a .refusal; byte = a .byte; card = cardWith (a .state) m }
+
 -- an event of the chip, answered as by the chip alone
-abbrev pub answerWith : Memory → ChipEvent → Answer → CoreAnswer
-answerWith m e a = record { refusal = a .refusal; byte = a .byte; core = record { chip = a .state; memory = keptAfter m e a } }
+abbrev pub answerWith : Memory → ChipEvent → Answer → CardAnswer
+answerWith m e a = around (keptAfter m e a) a
 
 -- 13 first; the memory read hands out its bits, the memory cleared touches nothing else
-abbrev pub unlessBusy : Core → CoreAnswer → CoreAnswer
-unlessBusy c answer = cond (busy (c .chip)) (record { refusal = BadState; byte = 0; core = c }) answer
+abbrev pub unlessBusy : Card → CardAnswer → CardAnswer
+unlessBusy c answer = cond (busy (c .chip)) (record { refusal = BadState; byte = 0; card = c }) answer
 
-abbrev pub eventIn : Core → Event → CoreAnswer
+abbrev pub eventIn : Card → Event → CardAnswer
 eventIn c (Chip e) = answerWith (c .memory) e (eventOf (c .chip) e)
-eventIn c Recall = unlessBusy c (record { refusal = Done; byte = c .memory .bits; core = c })
-eventIn c Forget = unlessBusy c (record { refusal = Done; byte = 0; core = record { chip = c .chip; memory = emptyMemory } })
+eventIn c Recall = unlessBusy c (record { refusal = Done; byte = c .memory .bits; card = c })
+eventIn c Forget = unlessBusy c (record { refusal = Done; byte = 0; card = cardWith (c .chip) emptyMemory })

@@ -12,7 +12,16 @@ ghost use Prim.Native.Nat.{_<_};
 ghost use lib.ListN.{length};
 ghost use Rattle.chip.specs.declared.Event.the-variants.{Command, Reset};
 ghost use Rattle.memory.specs.Memory.{keptBy, eventIn};
-ghost use Rattle.memory.specs.Held.{coreOf, answerIn};
+ghost use Rattle.memory.specs.Held.{cardAt, answerIn};
+
+// What stands beside the stack: the chip's flags and the two bytes of the memory.
+pub struct Rest {
+    pub pending: bool,
+    pub status: u8,
+    pub service: bool,
+    pub bits: u8,
+    pub code: u8,
+}
 
 // What an event leaves beside the stack, with the refusal and the byte read.
 pub struct Left {
@@ -60,11 +69,20 @@ fn kept(m: Memory, event: chip::Event, refusal: u8, status: u8) -> Memory
 }
 
 // An event of the chip where its stack lies, and what it leaves remembered.
-fn chip_event(stack: &mut [u8], f: Flags, m: Memory, event: chip::Event) -> Left
+fn chip_event(stack: &mut [u8], f: Rest, event: chip::Event) -> Left
     requires { ⌜ (length (now stack) ≡ 16) × (f .status < 128) ⌝ }
-    ensures { λ r. ⌜ answerIn r (now (stack .exit)) ≡ eventIn (coreOf (now (stack .entry)) (f .pending) (f .status) (f .service) (m .bits) (m .code)) (Event.Chip event) ⌝ }
+    ensures { λ r. ⌜ answerIn r (now (stack .exit)) ≡ eventIn (cardAt (now (stack .entry)) f) (Event.Chip event) ⌝ }
 {
-    let left = chip::place::event(stack, f, event);
+    let flags = Flags {
+        pending: f.pending,
+        status: f.status,
+        service: f.service,
+    };
+    let m = Memory {
+        bits: f.bits,
+        code: f.code,
+    };
+    let left = chip::place::event(stack, flags, event);
     let refusal = left.refusal;
     let after = kept(m, event, number(refusal), left.status);
     Left {
@@ -79,20 +97,20 @@ fn chip_event(stack: &mut [u8], f: Flags, m: Memory, event: chip::Event) -> Left
 }
 
 // One event of a chip with its memory, on a state that is not busy, where its stack lies.
-pub fn event(stack: &mut [u8], f: Flags, m: Memory, event: Event) -> Left
+pub fn event(stack: &mut [u8], f: Rest, event: Event) -> Left
     requires { ⌜ (length (now stack) ≡ 16) × (f .status < 128) ⌝ }
-    ensures { λ r. ⌜ answerIn r (now (stack .exit)) ≡ eventIn (coreOf (now (stack .entry)) (f .pending) (f .status) (f .service) (m .bits) (m .code)) event ⌝ }
+    ensures { λ r. ⌜ answerIn r (now (stack .exit)) ≡ eventIn (cardAt (now (stack .entry)) f) event ⌝ }
 {
     match event {
-        Event::Chip(e) => chip_event(stack, f, m, e),
+        Event::Chip(e) => chip_event(stack, f, e),
         Event::Recall => Left {
             refusal: Refusal::Done,
-            byte: m.bits,
+            byte: f.bits,
             pending: f.pending,
             status: f.status,
             service: f.service,
-            bits: m.bits,
-            code: m.code,
+            bits: f.bits,
+            code: f.code,
         },
         Event::Forget => Left {
             refusal: Refusal::Done,

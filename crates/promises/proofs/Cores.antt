@@ -1,7 +1,7 @@
--- A core that meets the promises, driven event by event, is the chip by value: a good state's bytes are read back as that state, each event's contract gives
--- the chip's answer, and every answer leaves a good state. Assumes nothing.
+-- A core that meets the promises, driven event by event, is the card by value: a good state's bytes are read back as that card, each event's contract gives
+-- the card's answer, and every answer leaves a good card. Assumes nothing.
 use mathlib.Core.Path.{_≡_, refl, sym, ap, ap₂, _∙_, subst, subst₂}
-use mathlib.Core.Logic.{inl, inr}
+use mathlib.Core.Logic.{_⊎_, inl, inr, ⊎-elim}
 use mathlib.Core.Bool.{Bool, true, false, _&&_, cond}
 use mathlib.Core.List.{List, [], _∷_, _++_}
 use Prim.Native.Nat.{ℕ, zero, suc, _+_, _*_, _/_, _^_, _<_}
@@ -9,148 +9,194 @@ use native.Mathlib.Nat.{mod-lt}
 use native.Mathlib.Omega.{arith}
 use borrow.Author.Tests.{lt-leb, eq-eqb, eqb-true}
 use lib.Dec.{eqb, lit<}
-use lib.ListN.{take, getD}
-use lib.Seq.{take-at}
+use lib.ListN.{length, take, getD}
 use Rattle.terms.specs.declared.Refusal.{Refusal}
 use Rattle.terms.specs.declared.Refusal.the-variants.{BadState}
 use Rattle.terms.specs.Refusal.{numberOf}
 use Rattle.float.specs.Word.{FloatWord}
 use Rattle.float.specs.Order.{Le}
 use Rattle.stack.specs.Stack.{Bytes, numberFrom, bytesOf, pushed}
-use Rattle.stack.proofs.Words.{bytes-append, number-bytes}
+use Rattle.stack.proofs.Words.{number-bytes}
 use Rattle.chip.specs.declared.State.{State}
 use Rattle.chip.specs.declared.Answer.{Answer}
-use Rattle.chip.specs.declared.Event.{Event}
+use Rattle.chip.specs.declared.Event.{Event as ChipEvent}
 use Rattle.chip.specs.declared.Event.the-variants.{Push, Pop, Command, Status, Reset, Acknowledge}
 use Rattle.chip.specs.State.{busy, moved}
 use Rattle.chip.specs.Status.{errorOf}
 use Rattle.chip.specs.Commands.{baseRule}
 use Rattle.chip.specs.Step.{done, refused, pushOf, commandOf, answerTo}
 use Rattle.chip.specs.Events.{afterEvents, answered, pushesOf, leavesClear, quiet}
-use Rattle.chip.proofs.Kept.{Keeps, push-keeps, pop-keeps, command-keeps, read-keeps, reset-keeps, acknowledge-keeps}
 use Rattle.chip.proofs.Rows.{both-of}
-use Rattle.chip.proofs.Ready.{Ready, push-fair, pop-fair, read-fair, reset-fair, acknowledge-fair, command-fair}
-use Rattle.stored.specs.Bytes.{isState, stateOf, flagOf, stateBytesOf}
+use Rattle.files.proofs.Tests.{either-eq}
+use Rattle.memory.specs.declared.Event.{Event}
+use Rattle.memory.specs.declared.Event.the-variants.{Chip, Recall, Forget}
+use Rattle.memory.specs.Memory.{emptyMemory, Card, CardAnswer, cardWith, eventIn}
+use Rattle.memory.specs.History.{afterAll}
+use Rattle.memory.proofs.Kept.{chip-alone, event-alike, refused-leaves}
+use Rattle.memory.proofs.Good.{ReadyCard, event-fair, Sendable as Sends}
+use Rattle.stored.specs.Bytes.{isState, stateOf, cardIn, laidOut}
+use Rattle.stored.proofs.Cards.{behind, laid-is, card-returns, card-ready, laid-at, laid-length, card-short, card-long, laid-state, laid-bytes}
 use Rattle.pundaliket.specs.Calls.{Signal, signalBy, signalOf, answerToKind, joinedOf}
 use Rattle.promises.specs.Chains.{Step, Add, Subtract, Multiply, Divide, TakeFrom, Change, given, eventsOf, commandsIn, chainOf, Constants, wordAfter, Run, Starts, resultOf, Quiet, runEvents}
-use Rattle.promises.specs.Cores.{Core, Meets, kindNumber, byteOf, driven, returned, answersOf, Sendable, allZero, clearAfter, drivenQuietly, Begins, wordLeft, Cores}
-use Rattle.promises.proofs.Kept.{state-returns, command-byte, past, bytes-stand, state-ready}
+use Rattle.promises.specs.Cores.{Core, Meets, kindNumber, byteOf, onBus, driven, returned, answersOf, NoRecall, Keeps, Sendable, allZero, clearAfter, drivenQuietly, Begins, busRun, wordLeft, Cores}
+use Rattle.promises.proofs.Kept.{good-states, command-byte}
 use Rattle.promises.proofs.Chains.{demand-3, on-top}
 
--- ---- the bytes of a state are read back as that state
-flag-reads : (x : Bool) → eqb (flagOf x) 1 ≡ x
-flag-reads true = refl
-flag-reads false = refl
-
-flag-byte : (x : Bool) → flagOf x < 256
-flag-byte true = lit< tt
-flag-byte false = lit< tt
-
-module _ (s : State) (G : Ready s) where
-  abbrev flags : List ℕ
-  flags = flagOf (s .pending) ∷ s .status ∷ flagOf (s .service) ∷ []
-
-  pub reads-back : stateOf (stateBytesOf s) ≡ s
-  reads-back =
-      let p : eqb (getD (stateBytesOf s) 16 0) 1 ≡ s .pending = ap (λ (n : ℕ). eqb n 1) (past s G 0) ∙ flag-reads (s .pending) in
-      let v : eqb (getD (stateBytesOf s) 18 0) 1 ≡ s .service = ap (λ (n : ℕ). eqb n 1) (past s G 2) ∙ flag-reads (s .service) in
-      λ i. record {
-        stack = take-at (s .stack) flags 16 (G .stack .sixteen) i;
-        pending = p i;
-        status = past s G 1 i;
-        service = v i;
-      }
-
-  lent : Bytes (stateBytesOf s)
-  lent = let r = G .ready in bytes-append (s .stack) flags (G .stack .bytes) (flag-byte (s .pending), (omega arith, (flag-byte (s .service), tt)))
-
 -- ---- one event
--- what a core makes of an event that the chip answers with a, refused or not
-same-state : (s : State) (a : Answer) → Keeps s a → cond (eqb (numberOf (a .refusal)) 0) (stateBytesOf (a .state)) (stateBytesOf s) ≡ stateBytesOf (a .state)
-same-state s a (inl d) = ap (λ (r : Refusal). cond (eqb (numberOf r) 0) (stateBytesOf (a .state)) (stateBytesOf s)) d
-same-state s a (inr e) =
-    let z : a .state ≡ s = ap (λ (x : Answer). x .state) e in
-    ap (λ (x : State). cond (eqb (numberOf (a .refusal)) 0) (stateBytesOf (a .state)) (stateBytesOf x)) (sym z) ∙ alike (eqb (numberOf (a .refusal)) 0) (stateBytesOf (a .state))
+-- the event call's event is the card's
+answer-is : (k : Card) (e : Event) → answerToKind k (kindNumber e) (byteOf e) ≡ eventIn k e
+answer-is k (Chip (Push b)) = refl
+answer-is k (Chip Pop) = refl
+answer-is k (Chip (Command code)) = refl
+answer-is k (Chip Status) = refl
+answer-is k (Chip Reset) = refl
+answer-is k (Chip Acknowledge) = refl
+answer-is k Recall = refl
+answer-is k Forget = refl
+
+can-send : (e : Event) → byteOf e < 256 → Sends e
+can-send (Chip (Push b)) h = h
+can-send (Chip Pop) h = tt
+can-send (Chip (Command code)) h = tt
+can-send (Chip Status) h = tt
+can-send (Chip Reset) h = tt
+can-send (Chip Acknowledge) h = tt
+can-send Recall h = tt
+can-send Forget h = tt
+
+-- an event of the chip and the memory cleared are not the memory read
+not-recall : (e : ChipEvent) → Chip e ≡ Recall → ⊥
+not-recall e z = let y : _≡_ {A = ℕ} 1 0 = ap isChip z in omega arith
   where
-    alike : (t : Bool) (l : List ℕ) → cond t l l ≡ l
-    alike true l = refl
-    alike false l = refl
+    isChip : Event → ℕ
+    isChip (Chip x) = 1
+    isChip Recall = 0
+    isChip Forget = 1
 
-module _ (s : State) (G : Ready s) (kind byte : ℕ) where
-  signal-is : signalOf (stateBytesOf s) kind byte ≡ signalBy (stateBytesOf s) (answerToKind s kind byte)
-  unfolding signalOf
-  signal-is =
-      ap (λ (t : Bool). cond t (signalBy (stateBytesOf s) (answerToKind (stateOf (stateBytesOf s)) kind byte)) (record { result = joinedOf 13 0; state = stateBytesOf s })) (bytes-stand s G)
-      ∙ ap (λ (x : State). signalBy (stateBytesOf s) (answerToKind x kind byte)) (reads-back s G)
+forget-recall : Forget ≡ Recall → ⊥
+forget-recall z = let y : _≡_ {A = ℕ} 1 0 = ap isForget z in omega arith
+  where
+    isForget : Event → ℕ
+    isForget (Chip x) = 0
+    isForget Recall = 0
+    isForget Forget = 1
 
--- the event call's event is the chip's; it is done, or refused with the state as it came; and it leaves a good state
-answer-is : (s : State) (e : Event) → answerToKind s (kindNumber e) (byteOf e) ≡ answerTo baseRule s e
-answer-is s (Push b) = refl
-answer-is s Pop = refl
-answer-is s (Command k) = refl
-answer-is s Status = refl
-answer-is s Reset = refl
-answer-is s Acknowledge = refl
+-- it leaves a good card
+pub leaves-good : (k : Card) (e : Event) → ReadyCard k → byteOf e < 256 → ReadyCard ((eventIn k e) .card)
+leaves-good k e r h = event-fair k e r (can-send e h) .left
 
-keeps : (s : State) (e : Event) → Keeps s (answerTo baseRule s e)
-keeps s (Push b) = push-keeps s b
-keeps s Pop = pop-keeps s
-keeps s (Command k) = command-keeps baseRule s k
-keeps s Status = read-keeps s
-keeps s Reset = reset-keeps s
-keeps s Acknowledge = acknowledge-keeps s
-
-pub leaves-good : (s : State) (e : Event) → Ready s → byteOf e < 256 → Ready ((answerTo baseRule s e) .state)
-leaves-good s (Push b) G h = push-fair s G b h .left
-leaves-good s Pop G h = pop-fair s G .left
-leaves-good s (Command k) G h = command-fair s k G .left
-leaves-good s Status G h = read-fair s G .left
-leaves-good s Reset G h = reset-fair s G .left
-leaves-good s Acknowledge G h = acknowledge-fair s G .left
+pub all-good : (es : List Event) (k : Card) → ReadyCard k → Sendable es → ReadyCard (afterAll k es)
+all-good [] k r S = r
+all-good (e ∷ es) k r S = all-good es ((eventIn k e) .card) (leaves-good k e r (S .0)) (S .1)
 
 kind-small : (e : Event) → kindNumber e < 2 ^ 32
-kind-small (Push b) = lit< tt
-kind-small Pop = lit< tt
-kind-small (Command k) = lit< tt
-kind-small Status = lit< tt
-kind-small Reset = lit< tt
-kind-small Acknowledge = lit< tt
+kind-small (Chip (Push b)) = lit< tt
+kind-small (Chip Pop) = lit< tt
+kind-small (Chip (Command code)) = lit< tt
+kind-small (Chip Status) = lit< tt
+kind-small (Chip Reset) = lit< tt
+kind-small (Chip Acknowledge) = lit< tt
+kind-small Recall = lit< tt
+kind-small Forget = lit< tt
+
+-- what the call makes of an event that a card answers, refused or not
+abbrev signalFor : ℕ → CardAnswer → Signal
+signalFor n a = record { result = joinedOf (numberOf (a .refusal)) (a .byte); state = laidOut n (a .card) }
+
+-- the bytes of a card, read as x
+module _ (n : ℕ) (k x : Card) (good : isState (laidOut n k) ≡ true) (size : length (laidOut n k) ≡ n) (read : cardIn (laidOut n k) ≡ x) (same : laidOut n k ≡ laidOut n x) where
+  kept : (e : Event) → cond (eqb (numberOf (eventIn x e .refusal)) 0) (laidOut n (eventIn x e .card)) (laidOut n k) ≡ laidOut n (eventIn x e .card)
+  kept e =
+      either-eq (λ (l : List ℕ). l ≡ laidOut n (eventIn x e .card)) (numberOf (eventIn x e .refusal)) 0 _ _ (λ z. refl) (λ z. same ∙ ap (laidOut n) (sym (refused-leaves x e z)))
+
+  abbrev signalled : List ℕ → Event → Signal
+  signalled l e = record { result = joinedOf (numberOf (eventIn x e .refusal)) (eventIn x e .byte); state = l }
+
+  abbrev signalWith : ℕ → Event → Signal
+  signalWith m e = signalled (cond (eqb (numberOf (eventIn x e .refusal)) 0) (laidOut m (eventIn x e .card)) (laidOut n k)) e
+
+  signal-is : (e : Event) → signalOf (laidOut n k) (kindNumber e) (byteOf e) ≡ signalFor n (eventIn x e)
+  unfolding signalOf
+  signal-is e =
+      ap (λ (t : Bool). cond t (signalBy (laidOut n k) (answerToKind (cardIn (laidOut n k)) (kindNumber e) (byteOf e))) (record { result = joinedOf 13 0; state = laidOut n k })) good
+      ∙ ap (λ (y : Card). signalBy (laidOut n k) (answerToKind y (kindNumber e) (byteOf e))) read
+      ∙ ap (signalBy (laidOut n k)) (answer-is x e)
+      ∙ ap (λ (m : ℕ). signalWith m e) size
+      ∙ ap (λ (l : List ℕ). signalled l e) (kept e)
+
+-- with its memory it is the card's answer
+long-signal : (k : Card) → ReadyCard k → (e : Event) → signalOf (laidOut 21 k) (kindNumber e) (byteOf e) ≡ signalFor 21 (eventIn k e)
+long-signal k r e =
+    let S = r .chip .stack .sixteen in
+    signal-is 21 k k (laid-state k r 21 (inr refl)) (laid-length k S 21 (inr refl)) (card-long k S) refl e
+
+-- without, that of the card whose memory is empty, which leaves the same 19 bytes
+short-signal : (k : Card) → ReadyCard k → (e : Event) → signalOf (laidOut 19 k) (kindNumber e) (byteOf e) ≡ signalFor 19 (eventIn (cardWith (k .chip) emptyMemory) e)
+short-signal k r e =
+    let S = r .chip .stack .sixteen in
+    signal-is 19 k (cardWith (k .chip) emptyMemory) (laid-state k r 19 (inl refl)) (laid-length k S 19 (inl refl)) (card-short k S) refl e
 
 -- ---- events in turn
 module _ (c : Core) (M : Meets c) where
   -- the state and the number that its contract gives a core
-  state-told : (s : State) (e : Event) → Ready s → byteOf e < 256 → (c .event (stateBytesOf s) (kindNumber e) (byteOf e)) .state ≡ stateBytesOf ((answerTo baseRule s e) .state)
-  state-told s e G h =
-      M .event (stateBytesOf s) (kindNumber e) (byteOf e) (lent s G) (kind-small e) h .state-is
-      ∙ ap (λ (x : Signal). x .state) (signal-is s G (kindNumber e) (byteOf e))
-      ∙ ap (λ (a : Answer). (signalBy (stateBytesOf s) a) .state) (answer-is s e)
-      ∙ same-state s (answerTo baseRule s e) (keeps s e)
+  abbrev StateTold : ℕ → Card → Event → Type 0
+  StateTold n k e = (c .event (laidOut n k) (kindNumber e) (byteOf e)) .state ≡ laidOut n ((eventIn k e) .card)
 
-  number-told : (s : State) (e : Event) → Ready s → byteOf e < 256
-      → (c .event (stateBytesOf s) (kindNumber e) (byteOf e)) .result ≡ joinedOf (numberOf ((answerTo baseRule s e) .refusal)) ((answerTo baseRule s e) .byte)
-  number-told s e G h =
-      M .event (stateBytesOf s) (kindNumber e) (byteOf e) (lent s G) (kind-small e) h .result-is
-      ∙ ap (λ (x : Signal). x .result) (signal-is s G (kindNumber e) (byteOf e))
-      ∙ ap (λ (a : Answer). (signalBy (stateBytesOf s) a) .result) (answer-is s e)
+  abbrev NumberTold : ℕ → Card → Event → Type 0
+  NumberTold n k e = (c .event (laidOut n k) (kindNumber e) (byteOf e)) .result ≡ joinedOf (numberOf ((eventIn k e) .refusal)) ((eventIn k e) .byte)
 
-  states : (s : State) → Ready s → (es : List Event) → Sendable es → driven c (stateBytesOf s) es ≡ stateBytesOf (afterEvents baseRule s es)
-  states s G [] S = refl
-  states s G (e ∷ es) S =
-      ap (λ (l : List ℕ). driven c l es) (state-told s e G (S .0)) ∙ states ((answerTo baseRule s e) .state) (leaves-good s e G (S .0)) es (S .1)
+  pub state-told : (n : ℕ) → (n ≡ 19) ⊎ (n ≡ 21) → (k : Card) (e : Event) → ReadyCard k → byteOf e < 256 → StateTold n k e
+  state-told n h k e r b =
+      ⊎-elim
+      (λ a. subst (λ (m : ℕ). StateTold m k e) (sym a)
+      (M .event (laidOut 19 k) (kindNumber e) (byteOf e) (laid-bytes k r 19) (kind-small e) b .state-is
+      ∙ ap (λ (x : Signal). x .state) (short-signal k r e)
+      ∙ ap (λ (s : State). laidOut 19 (cardWith s emptyMemory)) (event-alike (cardWith (k .chip) emptyMemory) k e refl .chip-same)))
+      (λ a. subst (λ (m : ℕ). StateTold m k e) (sym a)
+      (M .event (laidOut 21 k) (kindNumber e) (byteOf e) (laid-bytes k r 21) (kind-small e) b .state-is ∙ ap (λ (x : Signal). x .state) (long-signal k r e)))
+      h
 
-  numbers : (s : State) → Ready s → (es : List Event) → Sendable es → returned c (stateBytesOf s) es ≡ answersOf s es
-  numbers s G [] S = refl
-  numbers s G (e ∷ es) S =
-      ap₂ (λ (n : ℕ) (l : List ℕ). n ∷ returned c l es) (number-told s e G (S .0)) (state-told s e G (S .0))
-      ∙ ap (λ (l : List ℕ). joinedOf (numberOf ((answerTo baseRule s e) .refusal)) ((answerTo baseRule s e) .byte) ∷ l)
-      (numbers ((answerTo baseRule s e) .state) (leaves-good s e G (S .0)) es (S .1))
+  pub number-long : (k : Card) (e : Event) → ReadyCard k → byteOf e < 256 → NumberTold 21 k e
+  number-long k e r b = M .event (laidOut 21 k) (kindNumber e) (byteOf e) (laid-bytes k r 21) (kind-small e) b .result-is ∙ ap (λ (x : Signal). x .result) (long-signal k r e)
+
+  number-short : (k : Card) (e : Event) → ReadyCard k → byteOf e < 256 → (e ≡ Recall → ⊥) → NumberTold 19 k e
+  number-short k e r b o =
+      let s = event-alike (cardWith (k .chip) emptyMemory) k e refl in
+      M .event (laidOut 19 k) (kindNumber e) (byteOf e) (laid-bytes k r 19) (kind-small e) b .result-is
+      ∙ ap (λ (x : Signal). x .result) (short-signal k r e)
+      ∙ ap₂ (λ (q : Refusal) (m : ℕ). joinedOf (numberOf q) m) (s .refusal-same) (s .byte-same o)
+
+  states : (n : ℕ) → (n ≡ 19) ⊎ (n ≡ 21) → (k : Card) → ReadyCard k → (es : List Event) → Sendable es → driven c (laidOut n k) es ≡ laidOut n (afterAll k es)
+  states n h k r [] S = refl
+  states n h k r (e ∷ es) S =
+      ap (λ (l : List ℕ). driven c l es) (state-told n h k e r (S .0)) ∙ states n h ((eventIn k e) .card) (leaves-good k e r (S .0)) es (S .1)
+
+  -- one answer more
+  more : (n : ℕ) (k : Card) (e : Event) (es : List Event) → NumberTold n k e → StateTold n k e → returned c (laidOut n ((eventIn k e) .card)) es ≡ answersOf ((eventIn k e) .card) es
+      → returned c (laidOut n k) (e ∷ es) ≡ answersOf k (e ∷ es)
+  more n k e es a b d =
+      ap₂ (λ (m : ℕ) (l : List ℕ). m ∷ returned c l es) a b
+      ∙ ap (λ (l : List ℕ). joinedOf (numberOf ((eventIn k e) .refusal)) ((eventIn k e) .byte) ∷ l) d
+
+  numbers-long : (k : Card) → ReadyCard k → (es : List Event) → Sendable es → returned c (laidOut 21 k) es ≡ answersOf k es
+  numbers-long k r [] S = refl
+  numbers-long k r (e ∷ es) S =
+      more 21 k e es (number-long k e r (S .0)) (state-told 21 (inr refl) k e r (S .0)) (numbers-long ((eventIn k e) .card) (leaves-good k e r (S .0)) es (S .1))
+
+  numbers-short : (k : Card) → ReadyCard k → (es : List Event) → Sendable es → NoRecall es → returned c (laidOut 19 k) es ≡ answersOf k es
+  numbers-short k r [] S o = refl
+  numbers-short k r (Chip e ∷ es) S o =
+      more 19 k (Chip e) es (number-short k (Chip e) r (S .0) (λ z. not-recall e z)) (state-told 19 (inl refl) k (Chip e) r (S .0)) (numbers-short ((eventIn k (Chip e)) .card) (leaves-good k (Chip e) r (S .0)) es (S .1) o)
+  numbers-short k r (Recall ∷ es) S o = absurd o
+  numbers-short k r (Forget ∷ es) S o =
+      more 19 k Forget es (number-short k Forget r (S .0) (λ z. forget-recall z)) (state-told 19 (inl refl) k Forget r (S .0)) (numbers-short ((eventIn k Forget) .card) (leaves-good k Forget r (S .0)) es (S .1) o)
 
 -- ---- chains
-sendable-append : (xs ys : List Event) → Sendable xs → Sendable ys → Sendable (xs ++ ys)
+sendable-append : (xs ys : List ChipEvent) → Sendable (onBus xs) → Sendable (onBus ys) → Sendable (onBus (xs ++ ys))
 sendable-append [] ys a b = b
 sendable-append (x ∷ xs) ys a b = (a .0, sendable-append xs ys (a .1) b)
 
-pushes-sendable : (n w : ℕ) → Sendable (pushesOf n w)
+pushes-sendable : (n w : ℕ) → Sendable (onBus (pushesOf n w))
 pushes-sendable zero w = tt
 pushes-sendable (suc n) w = (mod-lt w (lit< tt), pushes-sendable n (w / 256))
 
@@ -158,7 +204,7 @@ code-sendable : (sr : Bool) (code : ℕ) → code < 128 → cond sr (code + 128)
 code-sendable true code h = omega arith
 code-sendable false code h = omega arith
 
-step-sendable : (sr : ℕ → Bool) (k : Step) → Sendable (eventsOf sr k)
+step-sendable : (sr : ℕ → Bool) (k : Step) → Sendable (onBus (eventsOf sr k))
 step-sendable sr (Add c) = sendable-append (pushesOf 4 c) (given (sr 0) 0x10 ∷ []) (pushes-sendable 4 c) (code-sendable (sr 0) 0x10 (lit< tt), tt)
 step-sendable sr (Subtract c) = sendable-append (pushesOf 4 c) (given (sr 0) 0x11 ∷ []) (pushes-sendable 4 c) (code-sendable (sr 0) 0x11 (lit< tt), tt)
 step-sendable sr (Multiply c) = sendable-append (pushesOf 4 c) (given (sr 0) 0x12 ∷ []) (pushes-sendable 4 c) (code-sendable (sr 0) 0x12 (lit< tt), tt)
@@ -167,7 +213,7 @@ step-sendable sr (TakeFrom c) =
     sendable-append (pushesOf 4 c) (given (sr 0) 0x19 ∷ given (sr 1) 0x11 ∷ []) (pushes-sendable 4 c) (code-sendable (sr 0) 0x19 (lit< tt), (code-sendable (sr 1) 0x11 (lit< tt), tt))
 step-sendable sr Change = (code-sendable (sr 0) 0x15 (lit< tt), tt)
 
-chain-sendable : (sr : ℕ → Bool) (ks : List Step) → Sendable (chainOf sr ks)
+chain-sendable : (sr : ℕ → Bool) (ks : List Step) → Sendable (onBus (chainOf sr ks))
 chain-sendable sr [] = tt
 chain-sendable sr (k ∷ ks) =
     sendable-append (eventsOf sr k) (chainOf (λ (n : ℕ). sr (commandsIn k + n)) ks) (step-sendable sr k) (chain-sendable (λ (n : ℕ). sr (commandsIn k + n)) ks)
@@ -181,8 +227,17 @@ push-byte s b = go (busy s)
     go true = refl
     go false = refl
 
+-- the chip's answers as the calls give them
+abbrev chipAnswers : State → List ChipEvent → List ℕ
+chipAnswers s [] = []
+chipAnswers s (e ∷ es) = joinedOf (numberOf ((answerTo baseRule s e) .refusal)) ((answerTo baseRule s e) .byte) ∷ chipAnswers ((answerTo baseRule s e) .state) es
+
+card-answers : (k : Card) (es : List ChipEvent) → answersOf k (onBus es) ≡ chipAnswers (k .chip) es
+card-answers k [] = refl
+card-answers k (e ∷ es) = ap (λ (l : List ℕ). joinedOf (numberOf ((answerTo baseRule (k .chip) e) .refusal)) ((answerTo baseRule (k .chip) e) .byte) ∷ l) (card-answers ((eventIn k (Chip e)) .card) es)
+
 -- bytes pushed and commands alone: no event reads a byte
-abbrev ReadsNone : List Event → Type 0
+abbrev ReadsNone : List ChipEvent → Type 0
 ReadsNone [] = Unit
 ReadsNone (Push b ∷ es) = ReadsNone es
 ReadsNone (Command k ∷ es) = ReadsNone es
@@ -197,14 +252,14 @@ one-zero r byte rest all z h a =
     ap₂ _&&_ (eq-eqb (256 * r + byte) 0 (omega arith)) a
 
 -- the first returns 0, and the rest
-more-zero : (s : State) (e : Event) (es : List Event) → (answerTo baseRule s e) .byte ≡ 0 → answered baseRule s (e ∷ es) ≡ true
-    → (answered baseRule ((answerTo baseRule s e) .state) es ≡ true → allZero (answersOf ((answerTo baseRule s e) .state) es) ≡ true) → allZero (answersOf s (e ∷ es)) ≡ true
+more-zero : (s : State) (e : ChipEvent) (es : List ChipEvent) → (answerTo baseRule s e) .byte ≡ 0 → answered baseRule s (e ∷ es) ≡ true
+    → (answered baseRule ((answerTo baseRule s e) .state) es ≡ true → allZero (chipAnswers ((answerTo baseRule s e) .state) es) ≡ true) → allZero (chipAnswers s (e ∷ es)) ≡ true
 more-zero s e es z h f =
     let r = numberOf ((answerTo baseRule s e) .refusal) in
     let t = (answerTo baseRule s e) .state in
-    one-zero r ((answerTo baseRule s e) .byte) (answered baseRule t es) (allZero (answersOf t es)) z h (f (both-of (eqb r 0) (answered baseRule t es) h .1))
+    one-zero r ((answerTo baseRule s e) .byte) (answered baseRule t es) (allZero (chipAnswers t es)) z h (f (both-of (eqb r 0) (answered baseRule t es) h .1))
 
-all-zero : (s : State) (es : List Event) → ReadsNone es → answered baseRule s es ≡ true → allZero (answersOf s es) ≡ true
+all-zero : (s : State) (es : List ChipEvent) → ReadsNone es → answered baseRule s es ≡ true → allZero (chipAnswers s es) ≡ true
 all-zero s [] n h = refl
 all-zero s (Push b ∷ es) n h = more-zero s (Push b) es (push-byte s b) h (λ g. all-zero ((pushOf s b) .state) es n g)
 all-zero s (Command k ∷ es) n h = more-zero s (Command k) es (command-byte s k) h (λ g. all-zero ((commandOf s k) .state) es n g)
@@ -213,7 +268,7 @@ all-zero s (Status ∷ es) n h = absurd n
 all-zero s (Reset ∷ es) n h = absurd n
 all-zero s (Acknowledge ∷ es) n h = absurd n
 
-none-append : (xs ys : List Event) → ReadsNone xs → ReadsNone ys → ReadsNone (xs ++ ys)
+none-append : (xs ys : List ChipEvent) → ReadsNone xs → ReadsNone ys → ReadsNone (xs ++ ys)
 none-append [] ys a b = b
 none-append (Push x ∷ xs) ys a b = none-append xs ys a b
 none-append (Command k ∷ xs) ys a b = none-append xs ys a b
@@ -235,19 +290,19 @@ chain-none sr [] = tt
 chain-none sr (k ∷ ks) = none-append (eventsOf sr k) (chainOf (λ (n : ℕ). sr (commandsIn k + n)) ks) (step-none sr k) (chain-none (λ (n : ℕ). sr (commandsIn k + n)) ks)
 
 -- ---- error bits
-clear-told : (s : State) (e : Event) → Ready s → byteOf e < 256 → clearAfter e (stateBytesOf ((answerTo baseRule s e) .state)) ≡ leavesClear baseRule s e
-clear-told s (Command k) G h = ap (λ (u : ℕ). eqb (errorOf u) 0) (past ((commandOf s k) .state) (leaves-good s (Command k) G h) 1)
-clear-told s (Push b) G h = refl
-clear-told s Pop G h = refl
-clear-told s Status G h = refl
-clear-told s Reset G h = refl
-clear-told s Acknowledge G h = refl
+clear-told : (n : ℕ) (k : Card) (e : ChipEvent) → ReadyCard k → byteOf (Chip e) < 256 → clearAfter (Chip e) (laidOut n ((eventIn k (Chip e)) .card)) ≡ leavesClear baseRule (k .chip) e
+clear-told n k (Command code) r h = ap (λ (u : ℕ). eqb (errorOf u) 0) (laid-at ((eventIn k (Chip (Command code))) .card) (leaves-good k (Chip (Command code)) r h .chip .stack .sixteen) n 1)
+clear-told n k (Push b) r h = refl
+clear-told n k Pop r h = refl
+clear-told n k Status r h = refl
+clear-told n k Reset r h = refl
+clear-told n k Acknowledge r h = refl
 
-quietly : (c : Core) → Meets c → (s : State) → Ready s → (es : List Event) → Sendable es → drivenQuietly c (stateBytesOf s) es ≡ quiet baseRule s es
-quietly c M s G [] S = refl
-quietly c M s G (e ∷ es) S =
-    ap (λ (l : List ℕ). clearAfter e l && drivenQuietly c l es) (state-told c M s e G (S .0))
-    ∙ ap₂ _&&_ (clear-told s e G (S .0)) (quietly c M ((answerTo baseRule s e) .state) (leaves-good s e G (S .0)) es (S .1))
+quietly : (c : Core) → Meets c → (n : ℕ) → (n ≡ 19) ⊎ (n ≡ 21) → (k : Card) → ReadyCard k → (es : List ChipEvent) → Sendable (onBus es) → drivenQuietly c (laidOut n k) (onBus es) ≡ quiet baseRule (k .chip) es
+quietly c M n h k r [] S = refl
+quietly c M n h k r (e ∷ es) S =
+    ap (λ (l : List ℕ). clearAfter (Chip e) l && drivenQuietly c l (onBus es)) (state-told c M n h k (Chip e) r (S .0))
+    ∙ ap₂ _&&_ (clear-told n k e r (S .0)) (quietly c M n h ((eventIn k (Chip e)) .card) (leaves-good k (Chip e) r (S .0)) es (S .1))
 
 -- ---- a run from the bytes of a state
 abbrev runFrom : List ℕ → ℕ → (ℕ → Bool) → Run
@@ -255,58 +310,72 @@ runFrom state w sr = record { state = stateOf state; word = w; sr = sr }
 
 starts : (state : List ℕ) (w : ℕ) (sr : ℕ → Bool) → Begins state w → Starts (runFrom state w sr)
 starts state w sr B = record {
-  at-rest = record { taken = lt-leb 128 (getD state 17 0) (state-ready state (B .bytes) (B .good) .ready); whole = ap (λ (n : ℕ). eqb n 1) (B .whole) };
+  at-rest = record { taken = lt-leb 128 (getD state 17 0) (card-ready state (B .bytes) (B .good) .chip .ready); whole = ap (λ (n : ℕ). eqb n 1) (B .whole) };
   proper = B .proper;
 }
 
-pub sent : (w : ℕ) (sr : ℕ → Bool) (ks : List Step) → Sendable (runEvents w sr ks)
+pub sent : (w : ℕ) (sr : ℕ → Bool) (ks : List Step) → Sendable (busRun w sr ks)
 sent w sr ks = sendable-append (pushesOf 4 w) (chainOf sr ks) (pushes-sendable 4 w) (chain-sendable sr ks)
+
+-- the chip's own events do not read the memory
+pub bus-told : (es : List ChipEvent) → NoRecall (onBus es)
+bus-told [] = tt
+bus-told (e ∷ es) = bus-told es
 
 module _ (c : Core) (M : Meets c) where
   -- on the bytes of a good state
-  from-bytes : (P : List ℕ → Type 0) (state : List ℕ) → Bytes state → isState state ≡ true → P (stateBytesOf (stateOf state)) → P state
-  from-bytes P state B g p = subst P (state-returns state g) p
+  from-bytes : (P : List ℕ → Type 0) (state : List ℕ) → isState state ≡ true → P (laidOut (length state) (cardIn state)) → P state
+  from-bytes P state g p = subst P (card-returns state g) p
 
-  calls-states : (state : List ℕ) (es : List Event) → Bytes state → isState state ≡ true → Sendable es → driven c state es ≡ stateBytesOf (afterEvents baseRule (stateOf state) es)
+  calls-states : (state : List ℕ) (es : List Event) → Bytes state → isState state ≡ true → Sendable es → driven c state es ≡ laidOut (length state) (afterAll (cardIn state) es)
   calls-states state es B g S =
-      from-bytes (λ (l : List ℕ). driven c l es ≡ stateBytesOf (afterEvents baseRule (stateOf state) es)) state B g (states c M (stateOf state) (state-ready state B g) es S)
+      from-bytes (λ (l : List ℕ). driven c l es ≡ laidOut (length state) (afterAll (cardIn state) es)) state g
+      (states c M (length state) (good-states state .0 g .size) (cardIn state) (card-ready state B g) es S)
 
-  calls-return : (state : List ℕ) (es : List Event) → Bytes state → isState state ≡ true → Sendable es → returned c state es ≡ answersOf (stateOf state) es
-  calls-return state es B g S = from-bytes (λ (l : List ℕ). returned c l es ≡ answersOf (stateOf state) es) state B g (numbers c M (stateOf state) (state-ready state B g) es S)
+  calls-return : (state : List ℕ) (es : List Event) → Bytes state → isState state ≡ true → Sendable es → Keeps state es → returned c state es ≡ answersOf (cardIn state) es
+  calls-return state es B g S o =
+      let r = card-ready state B g in
+      let k = cardIn state in
+      from-bytes (λ (l : List ℕ). returned c l es ≡ answersOf k es) state g
+      (⊎-elim (λ a. ⊎-elim (λ b. absurd (let y : ⊥ = omega arith in y)) (λ b. subst (λ (m : ℕ). returned c (laidOut m k) es ≡ answersOf k es) (sym a) (numbers-short c M k r es S b)) o)
+      (λ a. subst (λ (m : ℕ). returned c (laidOut m k) es ≡ answersOf k es) (sym a) (numbers-long c M k r es S)) (good-states state .0 g .size))
 
-  calls-quiet : (state : List ℕ) (es : List Event) → Bytes state → isState state ≡ true → Sendable es → drivenQuietly c state es ≡ true → quiet baseRule (stateOf state) es ≡ true
+  calls-quiet : (state : List ℕ) (es : List ChipEvent) → Bytes state → isState state ≡ true → Sendable (onBus es) → drivenQuietly c state (onBus es) ≡ true → quiet baseRule (stateOf state) es ≡ true
   calls-quiet state es B g S q =
-      sym (from-bytes (λ (l : List ℕ). drivenQuietly c l es ≡ quiet baseRule (stateOf state) es) state B g (quietly c M (stateOf state) (state-ready state B g) es S)) ∙ q
+      sym (from-bytes (λ (l : List ℕ). drivenQuietly c l (onBus es) ≡ quiet baseRule (stateOf state) es) state g
+      (quietly c M (length state) (good-states state .0 g .size) (cardIn state) (card-ready state B g) es S)) ∙ q
 
   module _ (state : List ℕ) (w : ℕ) (sr : ℕ → Bool) (ks : List Step) (B : Begins state w) (C : Constants ks) where
-    answers : allZero (returned c state (runEvents w sr ks)) ≡ true
+    answers : allZero (returned c state (busRun w sr ks)) ≡ true
     answers =
-        ap allZero (calls-return state (runEvents w sr ks) (B .bytes) (B .good) (sent w sr ks))
+        ap allZero (calls-return state (busRun w sr ks) (B .bytes) (B .good) (sent w sr ks) (inr (bus-told (runEvents w sr ks))) ∙ card-answers (cardIn state) (runEvents w sr ks))
         ∙ all-zero (stateOf state) (runEvents w sr ks) (none-append (pushesOf 4 w) (chainOf sr ks) tt (chain-none sr ks)) (demand-3 .every-answered (runFrom state w sr) ks (starts state w sr B) C)
 
-    top-bytes : take 4 (driven c state (runEvents w sr ks)) ≡ bytesOf 4 (wordAfter baseRule w ks)
+    top-bytes : take 4 (driven c state (busRun w sr ks)) ≡ bytesOf 4 (wordAfter baseRule w ks)
     top-bytes =
-        ap (λ (l : List ℕ). take 4 l) (calls-states state (runEvents w sr ks) (B .bytes) (B .good) (sent w sr ks))
+        let k = afterAll (cardIn state) (busRun w sr ks) in
+        ap (λ (l : List ℕ). take 4 l) (calls-states state (busRun w sr ks) (B .bytes) (B .good) (sent w sr ks) ∙ laid-is (length state) k)
+        ∙ ap (λ (s : State). take 4 (s .stack ++ behind (length state) k)) (chip-alone (cardIn state) (runEvents w sr ks))
         ∙ on-top baseRule (runFrom state w sr) ks (starts state w sr B) C _
 
-    top-word : wordLeft c state (runEvents w sr ks) ≡ wordAfter baseRule w ks
+    top-word : wordLeft c state (busRun w sr ks) ≡ wordAfter baseRule w ks
     top-word =
         let r = demand-3 .by-word-alone (runFrom state w sr) ks (starts state w sr B) C in
         let p = subst (λ (x : ℕ). FloatWord x) r (demand-3 .proper-result (runFrom state w sr) ks (starts state w sr B) C) in
         ap (λ (l : List ℕ). numberFrom 0 l) top-bytes ∙ number-bytes 4 (wordAfter baseRule w ks) (p .fits)
 
     -- what the statement's result is at the calls
-    result-told : resultOf baseRule (runFrom state w sr) ks ≡ wordLeft c state (runEvents w sr ks)
+    result-told : resultOf baseRule (runFrom state w sr) ks ≡ wordLeft c state (busRun w sr ks)
     result-told = demand-3 .by-word-alone (runFrom state w sr) ks (starts state w sr B) C ∙ sym top-word
 
-    quiet-told : drivenQuietly c state (runEvents w sr ks) ≡ true → Quiet baseRule (runFrom state w sr) ks
+    quiet-told : drivenQuietly c state (busRun w sr ks) ≡ true → Quiet baseRule (runFrom state w sr) ks
     quiet-told q = calls-quiet state (runEvents w sr ks) (B .bytes) (B .good) (sent w sr ks) q
 
 -- ---- the statement
 pub cores : Cores
 cores c M = record {
   states = λ state es B g S. calls-states c M state es B g S;
-  returns = λ state es B g S. calls-return c M state es B g S;
+  returns = λ state es B g S o. calls-return c M state es B g S o;
   chain-answers = λ state w sr ks B C. answers c M state w sr ks B C;
   chain-bytes = λ state w sr ks B C. top-bytes c M state w sr ks B C;
   chain-word = λ state w sr ks B C. top-word c M state w sr ks B C;

@@ -1,46 +1,49 @@
 -- The file of events leaves what the events leave: each record does what its event does, the append law joins them, and the event call's contract gives the
 -- same states and answers. Assumes nothing.
 use mathlib.Core.Path.{_≡_, refl, sym, ap, ap₂, subst, subst₂, _∙_}
+use mathlib.Core.Logic.{inl, inr, ⊎-elim}
 use mathlib.Core.Bool.{Bool, true, false}
 use mathlib.Core.List.{List, [], _∷_, _++_}
 use Prim.Native.Nat.{ℕ, _-_, _/_, _%_, _≤_, _<_}
 use native.Mathlib.Omega.{arith}
 use borrow.Author.Tests.{lt-leb, eqb-true}
-use lib.Dec.{eqb, lit<}
-use lib.ListN.{length, take, drop, length-append}
+use lib.Dec.{eqb, lit<, lit≤}
+use lib.ListN.{length, take, drop, getD, length-append}
 use Rattle.terms.specs.Refusal.{numberOf}
 use Rattle.float.specs.Order.{Le}
 use Rattle.stack.specs.Stack.{Bytes, tos}
-use Rattle.stack.proofs.Words.{bytes-append}
+use Rattle.stack.proofs.Words.{byte-at, bytes-append}
 use Rattle.chip.specs.declared.State.{State}
 use Rattle.chip.specs.declared.Answer.{Answer}
-use Rattle.chip.specs.declared.Event.{Event}
+use Rattle.chip.specs.declared.Event.{Event as ChipEvent}
 use Rattle.chip.specs.declared.Event.the-variants.{Push, Pop, Command, Status, Reset, Acknowledge}
 use Rattle.chip.specs.State.{busy}
-use Rattle.chip.specs.Commands.{baseRule}
-use Rattle.chip.specs.Step.{pushOf, popOf, readOf, resetOf, acknowledgeOf, commandOf, answerTo}
-use Rattle.chip.specs.Events.{afterEvents}
+use Rattle.chip.specs.Step.{pushOf, popOf, readOf, resetOf, acknowledgeOf, commandOf}
 use Rattle.chip.proofs.InTurn.{pop-done}
 use Rattle.chip.proofs.Rows.{both-of}
-use Rattle.chip.proofs.Ready.{Ready}
-use Rattle.records.specs.Run.{Outcome, after as joinedTo, runOf as fileRun}
+use Rattle.memory.specs.declared.Memory.{Memory}
+use Rattle.memory.specs.declared.Event.{Event}
+use Rattle.memory.specs.declared.Event.the-variants.{Chip, Recall, Forget}
+use Rattle.memory.specs.Memory.{emptyMemory, Card, cardWith, CardAnswer, keptAfter, eventIn}
+use Rattle.memory.specs.History.{afterAll}
+use Rattle.memory.proofs.Good.{memory-cases, ReadyCard}
+use Rattle.records.specs.Record.{turnOf}
+use Rattle.records.specs.Run.{Outcome, took, after as joinedTo, runOf as fileRun}
 use Rattle.files.proofs.Append.{nothing, onward, appended}
-use Rattle.stored.specs.Bytes.{stateOf}
+use Rattle.records.proofs.Prefix.{lawful}
+use Rattle.stored.specs.Bytes.{isState, cardIn, laidOut}
+use Rattle.stored.proofs.Cards.{card-returns, card-ready, laid-at}
 use Rattle.pundaliket.specs.Calls.{Called, ranOf, callOf, joinedOf}
 use Rattle.pundaliket.proofs.Calling.{good}
 use Rattle.promises.specs.Records.{countAt}
-use Rattle.records.specs.Run.{took}
 use Rattle.promises.specs.Chains.{Step, runEvents}
-use Rattle.promises.specs.Cores.{Core, Meets, byteOf, Sendable, driven, returned, answersOf, allZero, kindNumber, wordLeft}
-use Rattle.promises.specs.EventFiles.{recordOf, fileOf, replyTo, repliesTo, FileOfEvents, Lent, EventFiles, chainFile, zerosFor, Demand3Files}
-use Rattle.stack.proofs.Words.{byte-at}
-use Rattle.promises.proofs.Records.{counts-exact, push-record, pop-record, command-record, status-record, reset-record, acknowledge-record}
+use Rattle.promises.specs.Cores.{Core, Meets, byteOf, Sendable, NoRecall, Keeps, driven, returned, answersOf, allZero, kindNumber, busRun, wordLeft}
+use Rattle.promises.specs.EventFiles.{recordOf, fileOf, codesBefore, replyTo, repliesTo, FileOfEvents, Lent, EventFiles, chainFile, zerosFor, Demand3Files}
+use Rattle.promises.proofs.Records.{counts-exact, push-record, pop-record, command-record, status-record, reset-record, acknowledge-record, recall-record, forget-record}
 use Rattle.promises.proofs.Refusals.{refusals}
-use Rattle.promises.proofs.Kept.{state-ready, command-byte}
+use Rattle.promises.proofs.Kept.{command-byte}
 use Rattle.promises.proofs.Pending.{bus-events}
-use Rattle.promises.proofs.Cores.{leaves-good, push-byte, sent, cores}
-use Rattle.records.proofs.Prefix.{lawful}
-use Rattle.records.specs.Record.{turnOf}
+use Rattle.promises.proofs.Cores.{leaves-good, push-byte, state-told, bus-told, sent, cores}
 
 -- ---- one event
 -- what its answer is joined to, by parts
@@ -50,96 +53,152 @@ refusal-in r b h = omega arith
 byte-in : (r b : ℕ) → b < 256 → joinedOf r b % 256 ≡ b
 byte-in r b h = omega arith
 
-abbrev numberFor : State → Event → ℕ
-numberFor s e = joinedOf (numberOf ((answerTo baseRule s e) .refusal)) ((answerTo baseRule s e) .byte)
+abbrev numberFor : Card → Event → ℕ
+numberFor k e = joinedOf (numberOf ((eventIn k e) .refusal)) ((eventIn k e) .byte)
 
 -- its record, run alone
-abbrev Alike : State → Event → ℕ → Type 0
-Alike s e room = fileRun s (recordOf e) room ≡ took ((answerTo baseRule s e) .state) (length (recordOf e)) (replyTo e (numberFor s e))
+abbrev Alike : Card → Event → ℕ → Type 0
+Alike k e room = fileRun k (recordOf e) room ≡ took ((eventIn k e) .card) (length (recordOf e)) (replyTo e (numberFor k e) (k .memory .code))
 
-module _ (s : State) (G : Ready s) (room : ℕ) where
+module _ (s : State) (m : Memory) (G : ReadyCard (cardWith s m)) (room : ℕ) where
   calm : busy s ≡ false
-  calm = lt-leb 128 (s .status) (G .ready)
+  calm = lt-leb 128 (s .status) (G .chip .ready)
 
-  pushes : (b : ℕ) → 5 ≤ room → Alike s (Push b) room
+  pushes : (b : ℕ) → 5 ≤ room → Alike (cardWith s m) (Chip (Push b)) room
   pushes b h =
       let z = refusals .push-done s b calm in
       let y = push-byte s b in
-      push-record s (b ∷ []) room calm (omega arith) (omega arith) h
-      ∙ ap (λ (n : ℕ). took ((pushOf s b) .state) 5 (3 ∷ 0 ∷ 129 ∷ 0 ∷ n ∷ [])) (sym (refusal-in (numberOf ((pushOf s b) .refusal)) ((pushOf s b) .byte) (omega arith) ∙ z))
+      push-record s m (b ∷ []) room calm (omega arith) (omega arith) h
+      ∙ ap (λ (n : ℕ). took (cardWith ((pushOf s b) .state) m) 5 (3 ∷ 0 ∷ 129 ∷ 0 ∷ n ∷ [])) (sym (refusal-in (numberOf ((pushOf s b) .refusal)) ((pushOf s b) .byte) (omega arith) ∙ z))
 
-  commands : (code : ℕ) → 5 ≤ room → Alike s (Command code) room
+  commands : (code : ℕ) → 5 ≤ room → Alike (cardWith s m) (Chip (Command code)) room
   commands code h =
       let y = command-byte s code in
-      command-record s code room h
-      ∙ ap (λ (n : ℕ). took ((commandOf s code) .state) 5 (3 ∷ 0 ∷ 131 ∷ 0 ∷ n ∷ [])) (sym (refusal-in (numberOf ((commandOf s code) .refusal)) ((commandOf s code) .byte) (omega arith)))
+      command-record s m code room h
+      ∙ ap (λ (n : ℕ). took (cardWith ((commandOf s code) .state) (keptAfter m (Command code) (commandOf s code))) 5 (3 ∷ 0 ∷ 131 ∷ 0 ∷ n ∷ [])) (sym (refusal-in (numberOf ((commandOf s code) .refusal)) ((commandOf s code) .byte) (omega arith)))
 
-  pops : 6 ≤ room → Alike s Pop room
+  pops : 6 ≤ room → Alike (cardWith s m) (Chip Pop) room
   pops h =
       let a = popOf s in
-      let e = pop-done s (G .ready) in
+      let e = pop-done s (G .chip .ready) in
       let z : numberOf (a .refusal) ≡ 0 = refusals .pop-done s calm in
-      let y : a .byte < 256 = subst (λ (n : ℕ). n < 256) (sym (ap (λ (x : Answer). x .byte) e)) (byte-at (s .stack) (G .stack .bytes) 0) in
-      pop-record s 1 room calm (omega arith) (omega arith) h
-      ∙ ap₂ (λ (n b : ℕ). took (a .state) 5 (4 ∷ 0 ∷ 130 ∷ 0 ∷ n ∷ b ∷ [])) (sym (refusal-in (numberOf (a .refusal)) (a .byte) y ∙ z)) (sym (byte-in (numberOf (a .refusal)) (a .byte) y))
+      let y : a .byte < 256 = subst (λ (n : ℕ). n < 256) (sym (ap (λ (x : Answer). x .byte) e)) (byte-at (s .stack) (G .chip .stack .bytes) 0) in
+      pop-record s m 1 room calm (omega arith) (omega arith) h
+      ∙ ap₂ (λ (n b : ℕ). took (cardWith (a .state) m) 5 (4 ∷ 0 ∷ 130 ∷ 0 ∷ n ∷ b ∷ [])) (sym (refusal-in (numberOf (a .refusal)) (a .byte) y ∙ z)) (sym (byte-in (numberOf (a .refusal)) (a .byte) y))
 
-  reads : 6 ≤ room → Alike s Status room
+  reads : 6 ≤ room → Alike (cardWith s m) (Chip Status) room
   reads h =
       let r = refusals .read-done s calm in
-      let low = G .ready in
+      let low = G .chip .ready in
       let y : (readOf s) .byte < 256 = subst (λ (n : ℕ). n < 256) (sym (r .1)) (omega arith) in
-      status-record s room calm h
-      ∙ ap (λ (t : State). took t 4 (4 ∷ 0 ∷ 132 ∷ 0 ∷ 0 ∷ s .status ∷ [])) (sym (r .2))
-      ∙ ap₂ (λ (n b : ℕ). took ((readOf s) .state) 4 (4 ∷ 0 ∷ 132 ∷ 0 ∷ n ∷ b ∷ []))
+      status-record s m room calm h
+      ∙ ap (λ (t : State). took (cardWith t m) 4 (4 ∷ 0 ∷ 132 ∷ 0 ∷ 0 ∷ s .status ∷ [])) (sym (r .2))
+      ∙ ap₂ (λ (n b : ℕ). took (cardWith ((readOf s) .state) m) 4 (4 ∷ 0 ∷ 132 ∷ 0 ∷ n ∷ b ∷ []))
       (sym (refusal-in (numberOf ((readOf s) .refusal)) ((readOf s) .byte) y ∙ r .0)) (sym (byte-in (numberOf ((readOf s) .refusal)) ((readOf s) .byte) y ∙ r .1))
 
-  resets : 5 ≤ room → Alike s Reset room
+  resets : 5 ≤ room → Alike (cardWith s m) (Chip Reset) room
   resets h =
-      let g = bus-events .reset-leaves (s .stack) (s .pending) (s .status) (s .service) (G .ready) in
+      let g = bus-events .reset-leaves (s .stack) (s .pending) (s .status) (s .service) (G .chip .ready) in
       let y = g .byte-read in
-      reset-record s room calm h
-      ∙ ap (λ (t : State). took t 4 (3 ∷ 0 ∷ 133 ∷ 0 ∷ 0 ∷ [])) (sym (g .state))
-      ∙ ap (λ (n : ℕ). took ((resetOf s) .state) 4 (3 ∷ 0 ∷ 133 ∷ 0 ∷ n ∷ [])) (sym (refusal-in (numberOf ((resetOf s) .refusal)) ((resetOf s) .byte) (omega arith) ∙ g .number))
+      let e : eventIn (cardWith s m) (Chip Reset) .card ≡ cardWith ((resetOf s) .state) emptyMemory = rw (g .number) in
+      reset-record s m room calm h
+      ∙ ap (λ (t : State). took (cardWith t emptyMemory) 4 (3 ∷ 0 ∷ 133 ∷ 0 ∷ 0 ∷ [])) (sym (g .state))
+      ∙ ap₂ (λ (k : Card) (n : ℕ). took k 4 (3 ∷ 0 ∷ 133 ∷ 0 ∷ n ∷ [])) (sym e) (sym (refusal-in (numberOf ((resetOf s) .refusal)) ((resetOf s) .byte) (omega arith) ∙ g .number))
 
-  acknowledges : 5 ≤ room → Alike s Acknowledge room
+  acknowledges : 5 ≤ room → Alike (cardWith s m) (Chip Acknowledge) room
   acknowledges h =
-      let g = bus-events .acknowledge-leaves (s .stack) (s .pending) (s .status) (s .service) (G .ready) in
+      let g = bus-events .acknowledge-leaves (s .stack) (s .pending) (s .status) (s .service) (G .chip .ready) in
       let y = g .byte-read in
-      acknowledge-record s room calm h
-      ∙ ap (λ (t : State). took t 4 (3 ∷ 0 ∷ 134 ∷ 0 ∷ 0 ∷ [])) (sym (g .state))
-      ∙ ap (λ (n : ℕ). took ((acknowledgeOf s) .state) 4 (3 ∷ 0 ∷ 134 ∷ 0 ∷ n ∷ [])) (sym (refusal-in (numberOf ((acknowledgeOf s) .refusal)) ((acknowledgeOf s) .byte) (omega arith) ∙ g .number))
+      acknowledge-record s m room calm h
+      ∙ ap (λ (t : State). took (cardWith t m) 4 (3 ∷ 0 ∷ 134 ∷ 0 ∷ 0 ∷ [])) (sym (g .state))
+      ∙ ap (λ (n : ℕ). took (cardWith ((acknowledgeOf s) .state) m) 4 (3 ∷ 0 ∷ 134 ∷ 0 ∷ n ∷ [])) (sym (refusal-in (numberOf ((acknowledgeOf s) .refusal)) ((acknowledgeOf s) .byte) (omega arith) ∙ g .number))
 
-  one : (e : Event) → length (replyTo e (numberFor s e)) ≤ room → Alike s e room
-  one (Push b) h = pushes b h
-  one Pop h = pops h
-  one (Command code) h = commands code h
-  one Status h = reads h
-  one Reset h = resets h
-  one Acknowledge h = acknowledges h
+  recalls : 7 ≤ room → Alike (cardWith s m) Recall room
+  recalls h =
+      let b : m .bits < 256 = ⊎-elim (λ z. omega (arith, z .0)) (λ z. omega (arith, z .in-places)) (memory-cases (m .bits) (m .code) (G .memory .stands)) in
+      recall-record s m room calm h
+      ∙ rw calm (ap₂ (λ (n i : ℕ). took (cardWith s m) 4 (5 ∷ 0 ∷ 135 ∷ 0 ∷ n ∷ i ∷ m .code ∷ [])) (sym (refusal-in 0 (m .bits) b)) (sym (byte-in 0 (m .bits) b)))
+
+  forgets : 5 ≤ room → Alike (cardWith s m) Forget room
+  forgets h = forget-record s m room calm h ∙ rw calm
+
+  one : (e : Event) → length (replyTo e (numberFor (cardWith s m) e) (m .code)) ≤ room → Alike (cardWith s m) e room
+  one (Chip (Push b)) h = pushes b h
+  one (Chip Pop) h = pops h
+  one (Chip (Command code)) h = commands code h
+  one (Chip Status) h = reads h
+  one (Chip Reset) h = resets h
+  one (Chip Acknowledge) h = acknowledges h
+  one Recall h = recalls h
+  one Forget h = forgets h
 
 -- ---- events in turn
-files : (es : List Event) (s : State) (room : ℕ) → Ready s → Sendable es → length (repliesTo es (answersOf s es)) ≤ room
-    → fileRun s (fileOf es) room ≡ took (afterEvents baseRule s es) (length (fileOf es)) (repliesTo es (answersOf s es))
-files [] s room G S h = nothing lawful s room
-files (e ∷ es) s room G S h =
-    let t = (answerTo baseRule s e) .state in
-    let w = replyTo e (numberFor s e) in
-    let ws = repliesTo es (answersOf t es) in
+-- the codes that stand on the card before each
+abbrev codesOf : Card → List Event → List ℕ
+codesOf k [] = []
+codesOf k (e ∷ es) = k .memory .code ∷ codesOf ((eventIn k e) .card) es
+
+abbrev answered : Card → List Event → List ℕ
+answered k es = repliesTo es (answersOf k es) (codesOf k es)
+
+files : (es : List Event) (k : Card) (room : ℕ) → ReadyCard k → Sendable es → length (answered k es) ≤ room
+    → fileRun k (fileOf es) room ≡ took (afterAll k es) (length (fileOf es)) (answered k es)
+files [] k room G S h = nothing lawful k room
+files (e ∷ es) k room G S h =
+    let t = (eventIn k e) .card in
+    let w = replyTo e (numberFor k e) (k .memory .code) in
+    let ws = answered t es in
     let n = length-append w ws in
-    let first : Alike s e room = one s G room e (omega arith) in
-    appended lawful s (recordOf e) (fileOf es) room (ap (λ (o : Outcome). o .refusal) first)
+    let first : Alike k e room = one (k .chip) (k .memory) G room e (omega arith) in
+    appended lawful k (recordOf e) (fileOf es) room (ap (λ (o : Outcome). o .refusal) first)
     ∙ ap (λ (o : Outcome). onward turnOf o (fileOf es) room) first
-    ∙ ap (joinedTo (length (recordOf e)) w) (files es t (room - length w) (leaves-good s e G (S .0)) (S .1) (omega arith))
-    ∙ ap (λ (k : ℕ). took (afterEvents baseRule t es) k (w ++ ws)) (sym (length-append (recordOf e) (fileOf es)))
+    ∙ ap (joinedTo (length (recordOf e)) w) (files es t (room - length w) (leaves-good k e G (S .0)) (S .1) (omega arith))
+    ∙ ap (λ (i : ℕ). took (afterAll t es) i (w ++ ws)) (sym (length-append (recordOf e) (fileOf es)))
+
+-- the codes are those of the state's byte 20 where there is one, and count only for the memory read
+module _ (c : Core) (M : Meets c) where
+  codes-long : (k : Card) → ReadyCard k → (es : List Event) → Sendable es → codesBefore c (laidOut 21 k) es ≡ codesOf k es
+  codes-long k r [] S = refl
+  codes-long k r (e ∷ es) S =
+      ap₂ (λ (b : ℕ) (l : List ℕ). b ∷ codesBefore c l es) (laid-at k (r .chip .stack .sixteen) 21 4) (state-told c M 21 (inr refl) k e r (S .0))
+      ∙ ap (λ (l : List ℕ). k .memory .code ∷ l) (codes-long ((eventIn k e) .card) (leaves-good k e r (S .0)) es (S .1))
+
+same-replies : (es : List Event) (ns ks ls : List ℕ) → NoRecall es → repliesTo es ns ks ≡ repliesTo es ns ls
+same-replies [] ns ks ls o = refl
+same-replies (Chip e ∷ es) ns ks ls o = ap₂ _++_ (alike e) (same-replies es (drop 1 ns) (drop 1 ks) (drop 1 ls) o)
+  where
+    alike : (x : ChipEvent) → replyTo (Chip x) (getD ns 0 0) (getD ks 0 0) ≡ replyTo (Chip x) (getD ns 0 0) (getD ls 0 0)
+    alike (Push b) = refl
+    alike Pop = refl
+    alike (Command code) = refl
+    alike Status = refl
+    alike Reset = refl
+    alike Acknowledge = refl
+same-replies (Recall ∷ es) ns ks ls o = absurd o
+same-replies (Forget ∷ es) ns ks ls o = ap (λ (l : List ℕ). replyTo Forget (getD ns 0 0) 0 ++ l) (same-replies es (drop 1 ns) (drop 1 ks) (drop 1 ls) o)
+
+replies-told : (c : Core) → Meets c → (state : List ℕ) (es : List Event) → Bytes state → isState state ≡ true → Sendable es → Keeps state es
+    → repliesTo es (returned c state es) (codesBefore c state es) ≡ answered (cardIn state) es
+replies-told c M state es B g S o =
+    let k = cardIn state in
+    let ns = cores c M .returns state es B g S o in
+    ⊎-elim
+    (λ long.
+    let back : laidOut 21 k ≡ state = ap (λ (n : ℕ). laidOut n k) (sym long) ∙ card-returns state g in
+    ap₂ (repliesTo es) ns (subst (λ (l : List ℕ). codesBefore c l es ≡ codesOf k es) back (codes-long c M k (card-ready state B g) es S)))
+    (λ none. ap (λ (l : List ℕ). repliesTo es l (codesBefore c state es)) ns ∙ same-replies es (answersOf k es) (codesBefore c state es) (codesOf k es) none)
+    o
 
 -- the records of events are bytes
 record-bytes : (e : Event) → byteOf e < 256 → Bytes (recordOf e)
-record-bytes (Push b) h = (lit< tt, (lit< tt, (lit< tt, (lit< tt, (h, tt)))))
-record-bytes Pop h = (lit< tt, (lit< tt, (lit< tt, (lit< tt, (lit< tt, tt)))))
-record-bytes (Command code) h = (lit< tt, (lit< tt, (lit< tt, (lit< tt, (h, tt)))))
-record-bytes Status h = (lit< tt, (lit< tt, (lit< tt, (lit< tt, tt))))
-record-bytes Reset h = (lit< tt, (lit< tt, (lit< tt, (lit< tt, tt))))
-record-bytes Acknowledge h = (lit< tt, (lit< tt, (lit< tt, (lit< tt, tt))))
+record-bytes (Chip (Push b)) h = (lit< tt, (lit< tt, (lit< tt, (lit< tt, (h, tt)))))
+record-bytes (Chip Pop) h = (lit< tt, (lit< tt, (lit< tt, (lit< tt, (lit< tt, tt)))))
+record-bytes (Chip (Command code)) h = (lit< tt, (lit< tt, (lit< tt, (lit< tt, (h, tt)))))
+record-bytes (Chip Status) h = (lit< tt, (lit< tt, (lit< tt, (lit< tt, tt))))
+record-bytes (Chip Reset) h = (lit< tt, (lit< tt, (lit< tt, (lit< tt, tt))))
+record-bytes (Chip Acknowledge) h = (lit< tt, (lit< tt, (lit< tt, (lit< tt, tt))))
+record-bytes Recall h = (lit< tt, (lit< tt, (lit< tt, (lit< tt, tt))))
+record-bytes Forget h = (lit< tt, (lit< tt, (lit< tt, (lit< tt, tt))))
 
 file-bytes : (es : List Event) → Sendable es → Bytes (fileOf es)
 file-bytes [] S = tt
@@ -147,24 +206,24 @@ file-bytes (e ∷ es) S = bytes-append (recordOf e) (fileOf es) (record-bytes e 
 
 pub event-files : EventFiles
 event-files c M state es replies report S L =
-    let s = stateOf state in
+    let k = cardIn state in
     let file = fileOf es in
-    let G = state-ready state (L .bytes .0) (L .good) in
+    let G = card-ready state (L .bytes .0) (L .good) in
     let told = M .run state file replies report (L .bytes .0) (file-bytes es S) (L .bytes .1) (L .bytes .2) in
-    let ns = cores c M .returns state es (L .bytes .0) (L .good) S in
-    let ws = repliesTo es (answersOf s es) in
-    let fits : length ws ≤ length replies = subst (λ (l : List ℕ). length (repliesTo es l) ≤ length replies) ns (L .room) in
-    let o = files es s (length replies) G S fits in
-    let call : callOf state file replies report ≡ ranOf (took (afterEvents baseRule s es) (length file) ws) replies =
-    good state file replies report (L .nine) (L .good) (L .short) ∙ ap (λ (x : Outcome). ranOf x replies) o in
+    let ws = repliesTo es (returned c state es) (codesBefore c state es) in
+    let same : ws ≡ answered k es = replies-told c M state es (L .bytes .0) (L .good) S (L .told) in
+    let o : fileRun k file (length replies) ≡ took (afterAll k es) (length file) ws =
+    files es k (length replies) G S (subst (λ (l : List ℕ). length l ≤ length replies) same (L .room)) ∙ ap (took (afterAll k es) (length file)) (sym same) in
+    let call : callOf state file replies report ≡ ranOf (length state) (took (afterAll k es) (length file) ws) replies =
+    good state file replies report (L .nine) (L .good) (L .short) ∙ ap (λ (x : Outcome). ranOf (length state) x replies) o in
     let counts = counts-exact state file replies report (L .nine) (L .good) (L .short) in
-    subst (λ (l : List ℕ). FileOfEvents (c .run state file replies report) es (driven c state es) l replies) (sym ns) (record {
+    record {
       result = told .result-is ∙ ap (λ (x : Called). x .result) call;
       state-is = told .state-is ∙ ap (λ (x : Called). x .state) call ∙ sym (cores c M .states state es (L .bytes .0) (L .good) S);
       replies-are = told .replies-is ∙ ap (λ (x : Called). x .replies) call;
       all-taken = ap (λ (l : List ℕ). countAt l 1) (told .report-is) ∙ counts .0 ∙ ap (λ (x : Outcome). x .taken) o;
       all-written = ap (λ (l : List ℕ). countAt l 5) (told .report-is) ∙ counts .1 ∙ ap (λ (x : Outcome). length (x .written)) o;
-    })
+    }
 
 -- ---- demand 3
 -- numbers that are all 0
@@ -176,18 +235,18 @@ all-zeros c (e ∷ es) state h =
     ap₂ (λ (n : ℕ) (l : List ℕ). n ∷ l) (eqb-true (x .result) 0 (p .0)) (all-zeros c es (x .state) (p .1))
 
 -- the word on top after the file is the word on top after the events
-on-top : (c : Core) → Meets c → (state : List ℕ) (w : ℕ) (sr : ℕ → Bool) (ks : List Step) (replies report : List ℕ) → Lent c state (runEvents w sr ks) replies report
-    → tos 4 ((c .run state (chainFile w sr ks) replies report) .state) ≡ wordLeft c state (runEvents w sr ks)
-on-top c M state w sr ks replies report L = ap (tos 4) (event-files c M state (runEvents w sr ks) replies report (sent w sr ks) L .state-is)
+on-top : (c : Core) → Meets c → (state : List ℕ) (w : ℕ) (sr : ℕ → Bool) (ks : List Step) (replies report : List ℕ) → Lent c state (busRun w sr ks) replies report
+    → tos 4 ((c .run state (chainFile w sr ks) replies report) .state) ≡ wordLeft c state (busRun w sr ks)
+on-top c M state w sr ks replies report L = ap (tos 4) (event-files c M state (busRun w sr ks) replies report (sent w sr ks) L .state-is)
 
 pub demand-3-files : Demand3Files
 demand-3-files c M = record {
   answers = λ state w sr ks replies report B C L.
-      let f = event-files c M state (runEvents w sr ks) replies report (sent w sr ks) L in
-      let z = all-zeros c (runEvents w sr ks) state (cores c M .chain-answers state w sr ks B C) in
-      (f .result, f .replies-are ∙ ap (λ (l : List ℕ). repliesTo (runEvents w sr ks) l ++ drop (length (repliesTo (runEvents w sr ks) l)) replies) z);
+      let f = event-files c M state (busRun w sr ks) replies report (sent w sr ks) L in
+      let z = all-zeros c (busRun w sr ks) state (cores c M .chain-answers state w sr ks B C) in
+      (f .result, f .replies-are ∙ ap (λ (l : List ℕ). l ++ drop (length l) replies) (ap (λ (m : List ℕ). repliesTo (busRun w sr ks) m (codesBefore c state (busRun w sr ks))) z ∙ same-replies (busRun w sr ks) (zerosFor (busRun w sr ks)) (codesBefore c state (busRun w sr ks)) (zerosFor (busRun w sr ks)) (bus-told (runEvents w sr ks))));
   bytes = λ state w sr ks replies report B C L.
-      ap (take 4) (event-files c M state (runEvents w sr ks) replies report (sent w sr ks) L .state-is) ∙ cores c M .chain-bytes state w sr ks B C;
+      ap (take 4) (event-files c M state (busRun w sr ks) replies report (sent w sr ks) L .state-is) ∙ cores c M .chain-bytes state w sr ks B C;
   even = λ state state' v w sr sr' ks replies replies' report report' B B' C L L' q q' l e.
       subst₂ Le (sym (on-top c M state v sr ks replies report L)) (sym (on-top c M state' w sr' ks replies' report' L'))
       (cores c M .chain-even state state' v w sr sr' ks B B' C q q' l e);

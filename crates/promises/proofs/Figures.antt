@@ -90,7 +90,7 @@ mantissa-is false k m M = omega arith
 -- ---- the statement
 pub figures : Figures
 figures = record {
-  limits = (refl, refl, refl, refl, refl, refl, refl);
+  limits = (refl, refl, refl, refl, refl, refl, refl, refl);
   widths = (refl, refl, refl, refl);
   refusals = refl;
   codes = codes;

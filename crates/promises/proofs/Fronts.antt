@@ -11,9 +11,9 @@ use Rattle.terms.specs.declared.Refusal.{Refusal}
 use Rattle.terms.specs.declared.Refusal.the-variants.{NoSuchKind, CutShort, BadLength, NoRoom}
 use Rattle.terms.specs.Refusal.{numberOf}
 use Rattle.terms.specs.Limits.{mostPayload}
-use Rattle.chip.specs.declared.State.{State}
+use Rattle.memory.specs.Memory.{Card}
 use Rattle.records.specs.declared.head.Event.{Event}
-use Rattle.records.specs.declared.head.Event.the-variants.{Push, Pop, Command, Status, Reset, Acknowledge}
+use Rattle.records.specs.declared.head.Event.the-variants.{Push, Pop, Command, Status, Reset, Acknowledge, Recall, Forget}
 use Rattle.records.specs.declared.head.Frame.the-variants.{Broken}
 use Rattle.records.specs.declared.head.Head.the-variants.{Stop}
 use Rattle.little.specs.Little.{wordAt}
@@ -27,7 +27,7 @@ use Rattle.promises.proofs.Records.{bad-head}
 use Rattle.records.proofs.Prefix.{lawful}
 
 -- a head that is a refusal ends the run with its number
-stops-with : (s : State) (l : List ℕ) (room : ℕ) (r : Refusal) → headOf l ≡ Stop r → 0 < length l → 0 < numberOf r → Stops s l room (numberOf r)
+stops-with : (s : Card) (l : List ℕ) (room : ℕ) (r : Refusal) → headOf l ≡ Stop r → 0 < length l → 0 < numberOf r → Stops s l room (numberOf r)
 stops-with s l room r e some n =
     let k : headNumber (headOf l) ≡ numberOf r = ap headNumber e in
     bad-head s l room some (λ z. omega (arith, z, k)) ∙ ap (λ (m : ℕ). ended m s) k
@@ -43,11 +43,11 @@ row-is l n k a b d e =
     ap (headIn mostPayload l) (whole mostPayload l (omega arith) (omega arith) (omega arith) (omega arith)) ∙ ap₂ (λ (i j : ℕ). rowUnder mostPayload i j (getD l 4 0)) b m
 
 -- ---- rows
--- a kind that is none is none of the six
-pub none : (k : ℕ) → (k ≡ 0) ⊎ (6 < k) → (i : ℕ) → 1 ≤ i → i ≤ 6 → k ≡ i → ⊥
+-- a kind that is none is none of the eight
+pub none : (k : ℕ) → (k ≡ 0) ⊎ (8 < k) → (i : ℕ) → 1 ≤ i → i ≤ 8 → k ≡ i → ⊥
 none k h i a b e = ⊎-elim (λ z. omega arith) (λ z. omega arith) h
 
-other-kind : (k n first : ℕ) → (k ≡ 0) ⊎ (6 < k) → rowUnder mostPayload k n first ≡ Stop NoSuchKind
+other-kind : (k n first : ℕ) → (k ≡ 0) ⊎ (8 < k) → rowUnder mostPayload k n first ≡ Stop NoSuchKind
 other-kind k n first h =
     rw (
       ne-eqb k 1 (none k h 1 (lit≤ tt) (lit≤ tt)),
@@ -56,6 +56,8 @@ other-kind k n first h =
       ne-eqb k 4 (none k h 4 (lit≤ tt) (lit≤ tt)),
       ne-eqb k 5 (none k h 5 (lit≤ tt) (lit≤ tt)),
       ne-eqb k 6 (none k h 6 (lit≤ tt) (lit≤ tt)),
+      ne-eqb k 7 (none k h 7 (lit≤ tt) (lit≤ tt)),
+      ne-eqb k 8 (none k h 8 (lit≤ tt) (lit≤ tt)),
     )
 
 not-one : (n first : ℕ) → (n ≡ 1 → ⊥) → (rowUnder mostPayload 2 n first ≡ Stop BadLength) × (rowUnder mostPayload 3 n first ≡ Stop BadLength)
@@ -67,19 +69,21 @@ pop-low first h = rw h
 pop-high : (first : ℕ) → 240 < first → rowUnder mostPayload 2 1 first ≡ Stop BadLength
 pop-high first h = rw (le-ltb first 1 (omega arith), lt-ltb 240 first h)
 
-some-bytes : (k n first : ℕ) → 1 ≤ n → 4 ≤ k → k ≤ 6 → rowUnder mostPayload k n first ≡ Stop BadLength
+some-bytes : (k n first : ℕ) → 1 ≤ n → 4 ≤ k → k ≤ 8 → rowUnder mostPayload k n first ≡ Stop BadLength
 some-bytes k n first h a b =
     let z = ne-eqb n 0 (λ e. omega arith) in
     either-eq (λ (x : ℕ). rowUnder mostPayload k n first ≡ Stop BadLength) k 4 0 0 (λ e. rw (e, z)) (λ e.
     either-eq (λ (x : ℕ). rowUnder mostPayload k n first ≡ Stop BadLength) k 5 0 0 (λ f. rw (f, z)) (λ f.
-    let g : k ≡ 6 = omega arith in rw (g, z)))
+    either-eq (λ (x : ℕ). rowUnder mostPayload k n first ≡ Stop BadLength) k 6 0 0 (λ g. rw (g, z)) (λ g.
+    either-eq (λ (x : ℕ). rowUnder mostPayload k n first ≡ Stop BadLength) k 7 0 0 (λ i. rw (i, z)) (λ i.
+    let j : k ≡ 8 = omega arith in rw (j, z)))))
 
 -- a whole record whose reply has no room
-no-turn : (s : State) (l : List ℕ) (room : ℕ) (e : Event) → Holds mostPayload l e → room < 5 + answeredOf e → turnOf s l room ≡ stopped NoRoom s
+no-turn : (s : Card) (l : List ℕ) (room : ℕ) (e : Event) → Holds mostPayload l e → room < 5 + answeredOf e → turnOf s l room ≡ stopped NoRoom s
 unfolding turnUnder
 no-turn s l room e h g = rw (head-is l e h, lt-ltb room (5 + answeredOf e) g)
 
-crowded : (s : State) (l : List ℕ) (room : ℕ) (e : Event) → Holds mostPayload l e → room < 5 + answeredOf e → Stops s l room 8
+crowded : (s : Card) (l : List ℕ) (room : ℕ) (e : Event) → Holds mostPayload l e → room < 5 + answeredOf e → Stops s l room 8
 crowded s l room e h g = first-stops lawful s l room (stopped NoRoom s) (no-turn s l room e h g) (omega (arith, h .there)) (λ y. omega arith)
 
 -- ---- the statement
@@ -118,4 +122,6 @@ fronts = record {
   status-room = λ s room rest h. crowded s (2 ∷ 0 ∷ 4 ∷ 0 ∷ rest) room Status (record { length-is = refl; kind-is = refl; there = omega arith; small = omega arith; carried = tt }) h;
   reset-room = λ s room rest h. crowded s (2 ∷ 0 ∷ 5 ∷ 0 ∷ rest) room Reset (record { length-is = refl; kind-is = refl; there = omega arith; small = omega arith; carried = tt }) h;
   acknowledge-room = λ s room rest h. crowded s (2 ∷ 0 ∷ 6 ∷ 0 ∷ rest) room Acknowledge (record { length-is = refl; kind-is = refl; there = omega arith; small = omega arith; carried = tt }) h;
+  recall-room = λ s room rest h. crowded s (2 ∷ 0 ∷ 7 ∷ 0 ∷ rest) room Recall (record { length-is = refl; kind-is = refl; there = omega arith; small = omega arith; carried = tt }) h;
+  forget-room = λ s room rest h. crowded s (2 ∷ 0 ∷ 8 ∷ 0 ∷ rest) room Forget (record { length-is = refl; kind-is = refl; there = omega arith; small = omega arith; carried = tt }) h;
 }

@@ -1,13 +1,14 @@
 -- What a call that is turned away leaves, by the way through its definition; what a bad or cut file leaves, by the runs of its whole records; and what a front of
 -- a file takes that ends with 0 the longer front takes too, by the append law. Assumes nothing.
 use mathlib.Core.Path.{_≡_, refl, sym, ap, _∙_}
+use mathlib.Core.Logic.{⊎-elim}
 use mathlib.Core.Bool.{Bool, true, false, cond}
 use mathlib.Core.List.{List, [], _∷_, _++_}
 use Prim.Native.Nat.{ℕ, _+_, _-_, _%_, _≤_, _<_}
 use native.Mathlib.Omega.{arith}
-use lib.Dec.{eqb, lit≤}
-use lib.ListN.{length, take, drop, getD, length-append, length-drop, take-append-drop, drop-of-length-le}
-use lib.Seq.{length-take-le, drop-cons, getD-drop, getD-append-add, take-take}
+use lib.Dec.{eqb, lit<}
+use lib.ListN.{length, take, drop, getD, length-append, length-drop, take-append-drop}
+use lib.Seq.{length-take-le, getD-drop, getD-append-add, take-take}
 use borrow.Author.Tests.{ne-eqb}
 use Rattle.little.proofs.Exact.{le4-exact}
 use Rattle.terms.specs.Refusal.{numberOf}
@@ -16,7 +17,12 @@ use Rattle.chip.specs.declared.Answer.{Answer}
 use Rattle.chip.specs.State.{busy}
 use Rattle.chip.specs.Commands.{baseRule, properOperands}
 use Rattle.chip.specs.Step.{refused, unlessBusy, pushOf, popOf, readOf, resetOf, acknowledgeOf, carried, answerByKind, commandUnder, commandOf}
-use Rattle.chip.proofs.Ready.{Ready, push-fair, pop-fair, read-fair, reset-fair, acknowledge-fair, command-fair, picked}
+use Rattle.chip.specs.declared.Event.the-variants.{Push, Pop, Command, Status, Reset, Acknowledge}
+use Rattle.chip.proofs.Ready.{picked}
+use Rattle.memory.specs.declared.Event.the-variants.{Chip, Recall, Forget}
+use Rattle.memory.specs.declared.Memory.{Memory}
+use Rattle.memory.specs.Memory.{emptyMemory, isMemory, Card, CardAnswer, unlessBusy as unlessCardBusy}
+use Rattle.memory.proofs.Good.{memory-cases, marked-memory, ReadyCard, event-fair}
 use Rattle.terms.specs.declared.Refusal.the-variants.{BadState}
 use Rattle.stack.specs.Stack.{Bytes, topByte}
 use Rattle.stack.proofs.Words.{bytes-take, byte-at}
@@ -30,12 +36,13 @@ use Rattle.files.proofs.Cut.{cut-anywhere}
 use Rattle.records.specs.Run.{Outcome, runOf}
 use Rattle.records.proofs.Prefix.{lawful}
 use Rattle.records.proofs.Ready.{run-ready}
-use Rattle.stored.specs.Bytes.{isState, stateOf, flagOf, stateBytesOf}
-use Rattle.stored.proofs.States.{is-good}
+use Rattle.stored.specs.Bytes.{isState, cardIn, laidOut}
+use Rattle.stored.proofs.States.{state-stands, stands-state}
+use Rattle.stored.proofs.Cards.{card-returns, card-ready, laid-length, laid-state}
 use Rattle.pundaliket.specs.Calls.{Called, ranOf, callOf, signalOf, signalBy, answerToKind, joinedOf, Sent, sentOf}
 use Rattle.pundaliket.proofs.Calling.{false-true, bad-state, too-long, good}
 use Rattle.promises.specs.Records.{countAt}
-use Rattle.promises.specs.Kept.{NoReport, NoState, LongInput, Stands, GoodStates, StateReturns, EmptyInput, EventKept, OutKept, StateStays, StateStaysEvent, RepliesStay, StopsThere, BadFile, CutCall, CutFile, LastEnd}
+use Rattle.promises.specs.Kept.{NoReport, NoState, LongInput, Remembers, Stands, GoodStates, StateReturns, EmptyInput, EventKept, OutKept, StateStays, StateStaysEvent, RepliesStay, StopsThere, BadFile, CutCall, CutFile, LastEnd}
 use Rattle.promises.proofs.Records.{counts-exact}
 
 -- ---- a call that is turned away
@@ -50,42 +57,41 @@ no-state state input replies report a b = bad-state state input replies report a
 pub long-input : LongInput
 long-input state input replies report a b d = too-long state input replies report a b d
 
+-- the two bytes of a memory, test by test
+pub remembers : (bits code : ℕ) → isMemory bits code ≡ true → Remembers bits code
+remembers bits code h =
+    ⊎-elim
+    (λ z. let b = z .0 in record { in-places = omega arith; even = omega arith; no-code = λ e. z .1; no-bits = λ e. z .0 })
+    (λ m. record { in-places = m .in-places; even = m .even; no-code = λ e. absurd (m .some e); no-bits = λ e. absurd (m .coded e) })
+    (memory-cases bits code h)
+
+is-memory : (bits code : ℕ) → Remembers bits code → isMemory bits code ≡ true
+is-memory bits code h =
+    either-eq (λ (x : ℕ). isMemory bits code ≡ true) bits 0 0 0 (λ e. rw (e, h .no-code e))
+    (λ n. marked-memory bits code (record { in-places = h .in-places; even = h .even; some = n; coded = λ e. n (h .no-bits e) }))
+
 -- the tests of a state, passed
 stands : (l : List ℕ) → isState l ≡ true → Stands l
-unfolding isState
-stands l =
-    either-eq (λ (b : Bool). b ≡ true → Stands l) (length l) 19 _ _
-    (λ n.
-    either-lt (λ (b : Bool). b ≡ true → Stands l) 1 (getD l 16 0) _ _ (λ p z. absurd (false-true z)) (λ p.
-    either-lt (λ (b : Bool). b ≡ true → Stands l) 127 (getD l 17 0) _ _ (λ q z. absurd (false-true z)) (λ q.
-    either-lt (λ (b : Bool). b ≡ true → Stands l) 1 (getD l 18 0) _ _ (λ v z. absurd (false-true z))
-    (λ v z. record { size = n; pending = p; ready = omega arith; service = v }))))
-    (λ n z. absurd (false-true z))
+stands l h =
+    let g = state-stands l h in
+    record { size = g .size; pending = g .chip .pending; ready = g .chip .ready; service = g .chip .service; memory = λ n. remembers (getD l 19 0) (getD l 20 0) (g .memory n) }
 
 pub good-states : GoodStates
-good-states l = (stands l, λ h. sym (is-good l (h .size) (h .pending) (omega (arith, h .ready)) (h .service)))
-
--- a flag's byte is the flag
-pub flag-back : (x : ℕ) → x ≤ 1 → flagOf (eqb x 1) ≡ x
-flag-back x h =
-    either-eq (λ (n : ℕ). n ≡ x) x 1 1 0 (λ e. sym e) (λ n. omega arith)
-
--- the last three bytes of 19
-last-three : (l : List ℕ) → length l ≡ 19 → drop 16 l ≡ getD l 16 0 ∷ getD l 17 0 ∷ getD l 18 0 ∷ []
-last-three l h =
-    drop-cons l 16 0 (omega arith)
-    ∙ ap (λ (t : List ℕ). getD l 16 0 ∷ t) (drop-cons l 17 0 (omega arith)
-    ∙ ap (λ (t : List ℕ). getD l 17 0 ∷ t) (drop-cons l 18 0 (omega arith)
-    ∙ ap (λ (t : List ℕ). getD l 18 0 ∷ t) (drop-of-length-le l {i = 19} (omega arith))))
+good-states l = (
+  stands l,
+  λ h. stands-state l (record {
+    size = h .size;
+    chip = record { pending = h .pending; ready = h .ready; service = h .service };
+    memory = λ n. is-memory (getD l 19 0) (getD l 20 0) (h .memory n);
+  }),
+)
 
 pub state-returns : StateReturns
-state-returns l h =
-    let g = stands l h in
-    rw (flag-back (getD l 16 0) (g .pending), flag-back (getD l 18 0) (g .service), ← last-three l (g .size)) (take-append-drop 16 l)
+state-returns = card-returns
 
 pub empty-input : EmptyInput
 empty-input state replies report a b =
-    good state [] replies report a b (omega arith) ∙ rw (nothing lawful (stateOf state) (length replies), state-returns state b)
+    good state [] replies report a b (omega arith) ∙ rw (nothing lawful (cardIn state) (length replies), state-returns state b)
 
 pub out-kept : OutKept
 unfolding sentOf
@@ -101,7 +107,7 @@ module _ (state input replies report : List ℕ) where
   Away c = (0 < c .result) × (c .state ≡ state) × (c .replies ≡ replies)
 
   pub calls : (P : Called → Type 0) → ((c : Called) → Away c → P c)
-      → (length report ≡ 9 → isState state ≡ true → length input ≤ 12288 → P (ranOf (runOf (stateOf state) input (length replies)) replies))
+      → (length report ≡ 9 → isState state ≡ true → length input ≤ 12288 → P (ranOf (length state) (runOf (cardIn state) input (length replies)) replies))
       → P (callOf state input replies report)
   unfolding callOf
   calls P away ran =
@@ -121,8 +127,8 @@ replies-stay state input replies report =
     (λ c. (length (c .replies) ≡ length replies) × ((i : ℕ) → countAt (c .report) 5 ≤ i → getD (c .replies) i 0 ≡ getD replies i 0))
     (λ c a. (ap length (a .2), λ i h. ap (λ (l : List ℕ). getD l i 0) (a .2)))
     (λ n b d.
-    let o = runOf (stateOf state) input (length replies) in
-    let t = tally lawful (stateOf state) input (length replies) in
+    let o = runOf (cardIn state) input (length replies) in
+    let t = tally lawful (cardIn state) input (length replies) in
     let w = o .written in
     let f = t .in-file in
     let few = t .few in
@@ -148,7 +154,7 @@ stops-at s l room z =
 
 pub bad-file : BadFile
 bad-file state input replies report a b d =
-    let s = stateOf state in
+    let s = cardIn state in
     let room = length replies in
     let o = runOf s input room in
     let t = tally lawful s input room in
@@ -156,7 +162,7 @@ bad-file state input replies report a b d =
     let n = length-take-le (o .taken) input f in
     let exact = le4-exact (o .taken) (omega arith) in
     rw (good state input replies report a b d, exact)
-    (good state (take (o .taken) input) replies report a b (omega arith) ∙ ap (λ (p : Outcome). ranOf p replies) (up-to-stop lawful s input room))
+    (good state (take (o .taken) input) replies report a b (omega arith) ∙ ap (λ (p : Outcome). ranOf (length state) p replies) (up-to-stop lawful s input room))
 
 -- ---- a file cut after any byte
 
@@ -166,7 +172,7 @@ cut-file state input replies report =
     (λ c. c .result ≡ 0 → (k : ℕ) → k ≤ length input → (n : ℕ) × CutCall (callOf state (take k input) replies report) (callOf state (take n input) replies report) k n)
     (λ c a z. let y : ⊥ = omega (arith, a .0) in absurd y)
     (λ a b d z k most.
-    let s = stateOf state in
+    let s = cardIn state in
     let room = length replies in
     let r = cut-anywhere lawful s input room z k most in
     let n = r .0 in
@@ -180,7 +186,7 @@ cut-file state input replies report =
         upto = up;
         whole-done = c .whole-done;
         whole-taken = exact ∙ c .whole-taken;
-        state-is = ap stateBytesOf (c .state-is);
+        state-is = ap (laidOut (length state)) (c .state-is);
         replies-is = rw (c .written-is);
         counts-are = rw (c .taken-is ∙ sym (c .whole-taken), c .written-is);
         at-end = c .at-end;
@@ -189,7 +195,7 @@ cut-file state input replies report =
     ))
 
 -- a file takes at least what a front of it takes that ends with 0
-takes-more : (s : State) (l : List ℕ) (room m : ℕ) → m ≤ length l → runOf s (take m l) room .refusal ≡ 0 → m ≤ runOf s l room .taken
+takes-more : (s : Card) (l : List ℕ) (room m : ℕ) → m ≤ length l → runOf s (take m l) room .refusal ≡ 0 → m ≤ runOf s l room .taken
 takes-more s l room m h z =
     let o = runOf s (take m l) room in
     let n : length (take m l) ≡ m = length-take-le m l h in
@@ -206,7 +212,7 @@ count-after (x ∷ l) = refl
 
 pub last-end : LastEnd
 last-end state input replies report z k n most c m up w =
-    let s = stateOf state in
+    let s = cardIn state in
     let room = length replies in
     let is = calls state input replies report (λ (x : Called). x .result ≡ 0 → (length report ≡ 9) × (isState state ≡ true) × (length input ≤ 12288))
     (λ x a y. let q : ⊥ = omega (arith, a .0) in absurd q) (λ a b d y. (a, b, d)) z in
@@ -236,96 +242,92 @@ command-byte s code =
     by-kind Derived = refl
     by-kind Unknown = refl
 
--- what an event hands out is a byte where the top and the status are bytes
-event-byte : (s : State) (kind byte : ℕ) → topByte (s .stack) < 256 → s .status < 256 → answerToKind s kind byte .byte < 256
+-- what an event hands out is a byte where the top, the status and the memory's bits are bytes
+event-byte : (c : Card) (kind byte : ℕ) → topByte (c .chip .stack) < 256 → c .chip .status < 256 → c .memory .bits < 256 → answerToKind c kind byte .byte < 256
 unfolding pushOf popOf readOf resetOf acknowledgeOf
-event-byte s kind byte top status =
+event-byte c kind byte top status bits =
     either-eq Small kind 1 _ _ (λ e. ready _ (omega arith)) (λ a.
     either-eq Small kind 2 _ _ (λ e. ready _ top) (λ b.
-    either-eq Small kind 3 _ _ (λ e. let z = command-byte s byte in omega arith) (λ c.
-    either-eq Small kind 4 _ _ (λ e. ready _ status) (λ d.
-    either-eq Small kind 5 _ _ (λ e. ready _ (omega arith)) (λ f.
-    either-eq Small kind 6 _ _ (λ e. ready _ (omega arith)) (λ g. omega arith))))))
+    either-eq Small kind 3 _ _ (λ e. let z = command-byte (c .chip) byte in omega arith) (λ d.
+    either-eq Small kind 4 _ _ (λ e. ready _ status) (λ f.
+    either-eq Small kind 5 _ _ (λ e. ready _ (omega arith)) (λ g.
+    either-eq Small kind 6 _ _ (λ e. ready _ (omega arith)) (λ h.
+    either-eq Small kind 7 _ _ (λ e. ready-card _ bits) (λ i.
+    either-eq Small kind 8 _ _ (λ e. ready-card _ (omega arith)) (λ j. omega arith))))))))
   where
-    Small : Answer → Type 0
+    Small : CardAnswer → Type 0
     Small a = a .byte < 256
 
-    ready : (a : Answer) → a .byte < 256 → unlessBusy s a .byte < 256
-    ready a h = pick (busy s)
+    ready : (a : Answer) → a .byte < 256 → unlessBusy (c .chip) a .byte < 256
+    ready a h = pick (busy (c .chip))
       where
-        pick : (b : Bool) → (cond b (refused BadState s) a) .byte < 256
+        pick : (b : Bool) → (cond b (refused BadState (c .chip)) a) .byte < 256
         pick true = omega arith
         pick false = h
+
+    ready-card : (a : CardAnswer) → a .byte < 256 → unlessCardBusy c a .byte < 256
+    ready-card a h = pick (busy (c .chip))
+      where
+        pick : (b : Bool) → (cond {A = CardAnswer} b (record { refusal = BadState; byte = 0; card = c }) a) .byte < 256
+        pick true = omega arith
+        pick false = h
+
+-- the bits that bytes are read as
+bits-byte : (l : List ℕ) → Bytes l → cardIn l .memory .bits < 256
+bits-byte l h = by (eqb (length l) 19)
+  where
+    by : (x : Bool) → (cond {A = Memory} x emptyMemory (record { bits = getD l 19 0; code = getD l 20 0 })) .bits < 256
+    by true = lit< tt
+    by false = byte-at l h 19
 
 pub event-kept : EventKept
 unfolding signalOf
 event-kept state kind byte bytes = by (isState state)
   where
-    a : Answer
-    a = answerToKind (stateOf state) kind byte
+    a : CardAnswer
+    a = answerToKind (cardIn state) kind byte
 
     small : a .byte < 256
-    small = event-byte (stateOf state) kind byte (byte-at (take 16 state) (bytes-take 16 state bytes) 0) (byte-at state bytes 17)
+    small = event-byte (cardIn state) kind byte (byte-at (take 16 state) (bytes-take 16 state bytes) 0) (byte-at state bytes 17) (bits-byte state bytes)
 
     by : (b : Bool) → 256 ≤ (cond b (signalBy state a) (record { result = joinedOf 13 0; state = state })) .result
         → (cond b (signalBy state a) (record { result = joinedOf 13 0; state = state })) .state ≡ state
     by true h =
-        either-eq (λ (l : List ℕ). l ≡ state) (numberOf (a .refusal)) 0 (stateBytesOf (a .state)) state
+        either-eq (λ (l : List ℕ). l ≡ state) (numberOf (a .refusal)) 0 (laidOut (length state) (a .card)) state
         (λ z. let y : ⊥ = omega (arith, small) in absurd y) (λ z. refl)
     by false h = refl
 
 -- ---- a state stays a state
 
--- the byte of a state at a place past the 16 of the stack
-pub past : (s : State) → Ready s → (i : ℕ) → getD (stateBytesOf s) (16 + i) 0 ≡ getD (flagOf (s .pending) ∷ s .status ∷ flagOf (s .service) ∷ []) i 0
-past s r i =
-    ap (λ (k : ℕ). getD (stateBytesOf s) (k + i) 0) (sym (r .stack .sixteen))
-    ∙ getD-append-add (s .stack) (flagOf (s .pending) ∷ s .status ∷ flagOf (s .service) ∷ []) i 0
-
--- the bytes of a state that is not busy stand for a state
-pub bytes-stand : (s : State) → Ready s → isState (stateBytesOf s) ≡ true
-bytes-stand s r =
-    let n = r .stack .sixteen in
-    let len = length-append (s .stack) (flagOf (s .pending) ∷ s .status ∷ flagOf (s .service) ∷ []) in
-    good-states (stateBytesOf s) .1 (record {
-      size = omega arith;
-      pending = rw (past s r 0) (flag-small (s .pending));
-      ready = rw (past s r 1) (r .ready);
-      service = rw (past s r 2) (flag-small (s .service));
-    })
-  where
-    flag-small : (b : Bool) → flagOf b ≤ 1
-    flag-small true = lit≤ tt
-    flag-small false = lit≤ tt
-
--- and the other way round
-pub state-ready : (l : List ℕ) → Bytes l → isState l ≡ true → Ready (stateOf l)
-state-ready l h b =
-    let g = stands l b in
-    let n = g .size in
-    record { stack = record { sixteen = length-take-le 16 l (omega arith); bytes = bytes-take 16 l h }; ready = g .ready }
-
 pub state-stays : StateStays
 state-stays state input replies report h g b =
-    calls state input replies report (λ c. isState (c .state) ≡ true) (λ c a. ap isState (a .1) ∙ b)
-    (λ n d m. bytes-stand _ (run-ready (stateOf state) input (length replies) (state-ready state h b) g))
+    calls state input replies report (λ c. (isState (c .state) ≡ true) × (length (c .state) ≡ length state)) (λ c a. (ap isState (a .1) ∙ b, ap length (a .1)))
+    (λ n d m.
+    let k = runOf (cardIn state) input (length replies) .state in
+    let r = run-ready (cardIn state) input (length replies) (card-ready state h b) g in
+    let z = stands state b .size in
+    (laid-state k r (length state) z, laid-length k (r .chip .stack .sixteen) (length state) z))
 
 -- a single event
-event-ready : (s : State) (kind byte : ℕ) → byte < 256 → Ready s → Ready (answerToKind s kind byte .state)
-event-ready s kind byte h r =
-    either-eq Left kind 1 _ _ (λ e. push-fair s r byte h .left) (λ a.
-    either-eq Left kind 2 _ _ (λ e. pop-fair s r .left) (λ b.
-    either-eq Left kind 3 _ _ (λ e. command-fair s byte r .left) (λ c.
-    either-eq Left kind 4 _ _ (λ e. read-fair s r .left) (λ d.
-    either-eq Left kind 5 _ _ (λ e. reset-fair s r .left) (λ f.
-    either-eq Left kind 6 _ _ (λ e. acknowledge-fair s r .left) (λ g. r))))))
+pub event-ready : (c : Card) (kind byte : ℕ) → byte < 256 → ReadyCard c → ReadyCard (answerToKind c kind byte .card)
+event-ready c kind byte h r =
+    either-eq Left kind 1 _ _ (λ e. event-fair c (Chip (Push byte)) r h .left) (λ a.
+    either-eq Left kind 2 _ _ (λ e. event-fair c (Chip Pop) r tt .left) (λ b.
+    either-eq Left kind 3 _ _ (λ e. event-fair c (Chip (Command byte)) r tt .left) (λ d.
+    either-eq Left kind 4 _ _ (λ e. event-fair c (Chip Status) r tt .left) (λ f.
+    either-eq Left kind 5 _ _ (λ e. event-fair c (Chip Reset) r tt .left) (λ g.
+    either-eq Left kind 6 _ _ (λ e. event-fair c (Chip Acknowledge) r tt .left) (λ i.
+    either-eq Left kind 7 _ _ (λ e. event-fair c Recall r tt .left) (λ j.
+    either-eq Left kind 8 _ _ (λ e. event-fair c Forget r tt .left) (λ k. r))))))))
   where
-    Left : Answer → Type 0
-    Left a = Ready (a .state)
+    Left : CardAnswer → Type 0
+    Left a = ReadyCard (a .card)
 
 pub state-stays-event : StateStaysEvent
 unfolding signalOf
 state-stays-event state kind byte h g b =
-    let a = answerToKind (stateOf state) kind byte in
-    rw b (either-eq (λ (l : List ℕ). isState l ≡ true) (numberOf (a .refusal)) 0 (stateBytesOf (a .state)) state
-    (λ z. bytes-stand (a .state) (event-ready (stateOf state) kind byte g (state-ready state h b))) (λ z. b))
+    let a = answerToKind (cardIn state) kind byte in
+    let r = event-ready (cardIn state) kind byte g (card-ready state h b) in
+    let z = stands state b .size in
+    rw b (either-eq (λ (l : List ℕ). (isState l ≡ true) × (length l ≡ length state)) (numberOf (a .refusal)) 0 (laidOut (length state) (a .card)) state
+    (λ y. (laid-state (a .card) r (length state) z, laid-length (a .card) (r .chip .stack .sixteen) (length state) z)) (λ y. (b, refl)))

@@ -22,3 +22,4 @@ pub mod Figures
 pub mod WrongCores
 pub mod OldLimits
 pub mod LongBlocks
+pub mod ErrorMemory

@@ -11,8 +11,7 @@ use lib.Dec.{ltb, lit<}
 use lib.ListN.{length, take, drop, getD, replicate, length-replicate}
 use lib.Seq.{take-append-seam}
 use Rattle.terms.specs.Refusal.{numberOf}
-use Rattle.chip.specs.declared.State.{State}
-use Rattle.chip.specs.State.{resetState}
+use Rattle.memory.specs.Memory.{Card}
 use Rattle.records.specs.Record.{kindOf, answerOf, dataOf, replyOf}
 use Rattle.records.specs.Run.{Outcome, runOf}
 use Rattle.files.proofs.Through.{tally}
@@ -25,7 +24,7 @@ use Rattle.little.proofs.Exact.{two-bytes}
 use Rattle.listing.proofs.Listed.{reply-listed}
 use Rattle.printout.specs.Printout.{callFor, printoutOf}
 use Rattle.promises.specs.Records.{joined, EachTaken, repliesOf, total, lengths}
-use Rattle.promises.specs.Listings.{valueOf, Digits, Decimal, hexText, recordLine, linesFor, lastLine, Listings}
+use Rattle.promises.specs.Listings.{valueOf, Digits, Decimal, hexText, recordLine, linesFor, lastLine, fresh, Listings}
 use Rattle.promises.proofs.Records.{record-run}
 use Rattle.little.proofs.Exact.{le4-exact}
 use Rattle.records.proofs.Prefix.{lawful}
@@ -35,7 +34,7 @@ data-same : (bytes : List ℕ) → dataText bytes ≡ hexText bytes
 data-same [] = refl
 data-same (b ∷ bs) = ap (λ (t : List ℕ). 32 ∷ digit (b / 16) ∷ digit (b % 16) ∷ t) (data-same bs)
 
-lines-are : (rs : List (List ℕ)) (s : State) (room number : ℕ) → EachTaken s rs room → linesOf number (joined (repliesOf s rs room)) ≡ linesFor number s rs room
+lines-are : (rs : List (List ℕ)) (s : Card) (room number : ℕ) → EachTaken s rs room → linesOf number (joined (repliesOf s rs room)) ≡ linesFor number s rs room
 unfolding linesUpTo
 lines-are [] s room number h = refl
 lines-are (r ∷ rs) s room number h =
@@ -63,15 +62,15 @@ unfolding isState
 fresh-good = refl
 
 module _ (input : List ℕ) where
-  call-is : length input ≤ 12288 → callFor input ≡ ranOf (runOf resetState input 65536) (replicate 65536 0)
+  call-is : length input ≤ 12288 → callFor input ≡ ranOf 19 (runOf fresh input 65536) (replicate 65536 0)
   call-is h =
       good (replicate 19 0) input (replicate 65536 0) (replicate 9 0) refl fresh-good h
-      ∙ ap (λ (n : ℕ). ranOf (runOf resetState input n) (replicate 65536 0)) (length-replicate {A = ℕ} 65536 0)
+      ∙ ap (λ (n : ℕ). ranOf 19 (runOf fresh input n) (replicate 65536 0)) (length-replicate {A = ℕ} 65536 0)
 
-  text-is : length input ≤ 12288 → printoutOf input ≡ linesOf 1 (runOf resetState input 65536 .written) ++ endOf (runOf resetState input 65536 .refusal) (runOf resetState input 65536 .taken)
+  text-is : length input ≤ 12288 → printoutOf input ≡ linesOf 1 (runOf fresh input 65536 .written) ++ endOf (runOf fresh input 65536 .refusal) (runOf fresh input 65536 .taken)
   text-is h =
-      let o = runOf resetState input 65536 in
-      let t = tally lawful resetState input 65536 in
+      let o = runOf fresh input 65536 in
+      let t = tally lawful fresh input 65536 in
       let i = t .in-file in
       let f = t .few in
       let w = o .written in
@@ -139,8 +138,8 @@ pub listings : Listings
 listings = record {
   printed = λ input h p.
       text-is input h
-      ∙ ap₂ (λ (l : List ℕ) (n : ℕ). linesOf 1 l ++ endOf (runOf resetState input 65536 .refusal) n) (p .replies) (p .taken)
-      ∙ ap (λ (l : List ℕ). l ++ lastLine (runOf resetState input 65536 .refusal) (total (lengths (p .records)))) (lines-are (p .records) resetState 65536 1 (p .each));
+      ∙ ap₂ (λ (l : List ℕ) (n : ℕ). linesOf 1 l ++ endOf (runOf fresh input 65536 .refusal) n) (p .replies) (p .taken)
+      ∙ ap (λ (l : List ℕ). l ++ lastLine (runOf fresh input 65536 .refusal) (total (lengths (p .records)))) (lines-are (p .records) fresh 65536 1 (p .each));
   long = λ input h. long-is input h;
   read-back = λ kind refusal bytes rest. read-back kind refusal bytes rest;
   characters = record { decimals = λ n h. spells 20 n h; hex-digits = refl };

@@ -17,6 +17,7 @@ use Rattle.chip.specs.InTurn.{afterPushes, afterPops, bytesPopped}
 use Rattle.chip.specs.Place.{held}
 use Rattle.chip.proofs.InTurn.{turned, pushes-state, pops-state, pops-bytes}
 use Rattle.chip.proofs.InPlace.{flips}
+use Rattle.memory.specs.Memory.{cardWith}
 use Rattle.records.specs.Run.{took, runOf}
 use Rattle.records.proofs.Single.{push-alone, pop-alone}
 use Rattle.promises.specs.LongBlocks.{timesOver, LongBlocks}
@@ -58,13 +59,13 @@ module _ (s : State) (b : busy s ≡ false) (h : length (s .stack) ≡ 16) where
 -- ---- the statement
 pub long-blocks : LongBlocks
 long-blocks = record {
-  push-240 = λ s p room b h n m.
-      sym (ap (λ (k : ℕ). runOf s ((2 + k) ∷ 0 ∷ 1 ∷ 0 ∷ p) room) n)
-      ∙ push-alone s p room b (omega arith) (omega arith) m
-      ∙ ap₂ (λ (t : State) (k : ℕ). took t (4 + k) (3 ∷ 0 ∷ 129 ∷ 0 ∷ 0 ∷ [])) (after-pushes s b h p n) n;
-  pop-240 = λ s room b h m.
-      pop-alone s 240 room b (lit≤ tt) (lit≤ tt) m
-      ∙ ap₂ (λ (t : State) (l : List ℕ). took t 5 (243 ∷ 0 ∷ 130 ∷ 0 ∷ 0 ∷ l)) (after-pops s b h) (pops-bytes 240 s (ready s b) ∙ rounds 15 (s .stack) h .0);
+  push-240 = λ s m p room b h n i.
+      sym (ap (λ (k : ℕ). runOf (cardWith s m) ((2 + k) ∷ 0 ∷ 1 ∷ 0 ∷ p) room) n)
+      ∙ push-alone s m p room b (omega arith) (omega arith) i
+      ∙ ap₂ (λ (t : State) (k : ℕ). took (cardWith t m) (4 + k) (3 ∷ 0 ∷ 129 ∷ 0 ∷ 0 ∷ [])) (after-pushes s b h p n) n;
+  pop-240 = λ s m room b h i.
+      pop-alone s m 240 room b (lit≤ tt) (lit≤ tt) i
+      ∙ ap₂ (λ (t : State) (l : List ℕ). took (cardWith t m) 5 (243 ∷ 0 ∷ 130 ∷ 0 ∷ 0 ∷ l)) (after-pops s b h) (pops-bytes 240 s (ready s b) ∙ rounds 15 (s .stack) h .0);
   in-turn = in-turn;
   round = λ s n i b h l. ap (λ (k : List ℕ). getD k i 0) (pops-bytes n s (ready s b)) ∙ byte-round n i (s .stack) h l;
 }

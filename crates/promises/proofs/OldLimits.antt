@@ -7,7 +7,7 @@ use borrow.Author.Tests.{lt-ltb, le-ltb}
 use lib.Dec.{lit≤}
 use lib.ListN.{length}
 use Rattle.terms.specs.declared.Refusal.the-variants.{BadLength}
-use Rattle.chip.specs.declared.State.{State}
+use Rattle.memory.specs.Memory.{Card}
 use Rattle.files.proofs.Append.{first-stops}
 use Rattle.records.specs.declared.head.Head.the-variants.{Stop}
 use Rattle.records.specs.Record.{headIn, headUnder, stopped, turnUnder}
@@ -15,17 +15,17 @@ use Rattle.records.specs.Run.{Outcome, ended, runUnder}
 use Rattle.records.proofs.Heads.{high, whole}
 use Rattle.records.proofs.Prefix.{lawful-under}
 use Rattle.records.proofs.Wider.{same-run, same-up-to}
-use Rattle.stored.specs.Bytes.{stateOf}
+use Rattle.stored.specs.Bytes.{cardIn}
 use Rattle.pundaliket.specs.Calls.{ranOf}
 use Rattle.pundaliket.proofs.Calling.{good}
 use Rattle.promises.specs.OldLimits.{OldLimits}
 
 -- a head that is 7 ends a run at once
-seven-turn : (s : State) (l : List ℕ) (room : ℕ) → headUnder 16 l ≡ Stop BadLength → turnUnder 16 s l room ≡ stopped BadLength s
+seven-turn : (s : Card) (l : List ℕ) (room : ℕ) → headUnder 16 l ≡ Stop BadLength → turnUnder 16 s l room ≡ stopped BadLength s
 unfolding turnUnder
 seven-turn s l room e = rw e
 
-seven : (s : State) (l : List ℕ) (room : ℕ) → headUnder 16 l ≡ Stop BadLength → 0 < length l → runUnder 16 s l room ≡ ended 7 s
+seven : (s : Card) (l : List ℕ) (room : ℕ) → headUnder 16 l ≡ Stop BadLength → 0 < length l → runUnder 16 s l room ≡ ended 7 s
 seven s l room e some = first-stops (lawful-under 16 (lit≤ tt)) s l room (stopped BadLength s) (seven-turn s l room e) some (λ z. omega arith)
 
 long-pop : (n : ℕ) (rest : List ℕ) → 16 < n → headUnder 16 (3 ∷ 0 ∷ 2 ∷ 0 ∷ n ∷ rest) ≡ Stop BadLength
@@ -42,5 +42,5 @@ old-limits = record {
   same = same-run 16 240 (lit≤ tt) (lit≤ tt);
   up-to = same-up-to 16 240 (lit≤ tt) (lit≤ tt);
   call = λ state input replies report a b d no.
-      good state input replies report a b d ∙ ap (λ (o : Outcome). ranOf o replies) (same-run 16 240 (lit≤ tt) (lit≤ tt) (stateOf state) input (length replies) no);
+      good state input replies report a b d ∙ ap (λ (o : Outcome). ranOf (length state) o replies) (same-run 16 240 (lit≤ tt) (lit≤ tt) (cardIn state) input (length replies) no);
 }

@@ -7,7 +7,7 @@ use Prim.Native.Nat.{ℕ, suc, _%_, _≤_, _<_}
 use native.Mathlib.Omega.{arith}
 use borrow.Author.Tests.{lt-leb, le-leb, eqb-true, eqb-false}
 use lib.Dec.{eqb}
-use lib.ListN.{take, getD}
+use lib.ListN.{length, take, getD}
 use Rattle.terms.specs.declared.Rule.{Rule}
 use Rattle.stack.specs.Stack.{IsStack}
 use Rattle.chip.specs.declared.State.{State}
@@ -22,13 +22,16 @@ use Rattle.chip.proofs.Accepted.{leaves}
 use Rattle.chip.proofs.InTurn.{pop-done}
 use Rattle.chip.proofs.Ready.{Ready, push-fair, pop-fair, read-fair, reset-fair, acknowledge-fair}
 use Rattle.files.proofs.Tests.{either-eq}
-use Rattle.stored.specs.Bytes.{stateOf, flagOf}
+use Rattle.memory.specs.History.{afterAll}
+use Rattle.memory.proofs.Kept.{chip-alone}
+use Rattle.stored.specs.Bytes.{stateOf, cardIn, flagOf}
+use Rattle.stored.proofs.Cards.{card-ready, laid-at}
 use Rattle.pundaliket.proofs.Calling.{false-true}
-use Rattle.promises.specs.Cores.{Sendable}
+use Rattle.promises.specs.Cores.{Sendable, onBus}
 use Rattle.promises.specs.Pending.{Answers, stateWith, movedSince, Odd, Bus, PendingByte, BusEvents}
 use Rattle.promises.proofs.Refusals.{numbers}
-use Rattle.promises.proofs.Kept.{good-states, past, state-ready}
-use Rattle.promises.proofs.Cores.{leaves-good, cores}
+use Rattle.promises.proofs.Kept.{good-states}
+use Rattle.promises.proofs.Cores.{all-good, cores}
 
 module _ (l : List ℕ) (p : Bool) (u : ℕ) (v : Bool) (h : u < 128) where
   pushes : (b : ℕ) → Answers (pushOf (stateWith l p u v) b) 0 0 (b ∷ take 15 l) (not p) u v
@@ -77,7 +80,7 @@ command-good rule s code r =
     ⊎-elim (λ d. let l = leaves rule s code (r .stack) d in record { stack = l .stack; ready = l .not-busy }) (λ e. subst (λ (a : Answer). Ready (a .state)) (sym e) r) (command-keeps rule s code)
 
 module _ (rule : Rule) where
-  parity : (es : List Event) (s : State) (n : ℕ) → Ready s → Sendable es → Odd (s .pending) n → Odd ((afterEvents rule s es) .pending) (movedSince n es)
+  parity : (es : List Event) (s : State) (n : ℕ) → Ready s → Sendable (onBus es) → Odd (s .pending) n → Odd ((afterEvents rule s es) .pending) (movedSince n es)
   parity [] s n r S o = o
   parity (Push b ∷ es) s n r S o =
       let a = pushes (s .stack) (s .pending) (s .status) (s .service) (r .ready) b in
@@ -118,11 +121,6 @@ bus rule = record {
 pub bus-events : BusEvents
 bus-events = bus baseRule
 
--- every event leaves a good state
-all-good : (es : List Event) (s : State) → Ready s → Sendable es → Ready (afterEvents baseRule s es)
-all-good [] s r S = r
-all-good (e ∷ es) s r S = all-good es ((answerTo baseRule s e) .state) (leaves-good s e r (S .0)) (S .1)
-
 -- byte 16 of a state's bytes is the flag
 flag-odd : (x : ℕ) → x ≤ 1 → Odd (eqb x 1) x
 flag-odd x h = by (eqb x 1) refl
@@ -137,9 +135,10 @@ odd-flag false n o = either-eq (λ (x : ℕ). 0 ≡ n % 2) (n % 2) 0 0 0 (λ e. 
 
 pub pending-byte : PendingByte
 pending-byte c M state es B g S =
-    let r = state-ready state B g in
-    let st = good-states state .0 g in
-    let o = parity baseRule es (stateOf state) (getD state 16 0) r S (flag-odd (getD state 16 0) (st .pending)) in
-    ap (λ (l : List ℕ). getD l 16 0) (cores c M .states state es B g S)
-    ∙ past (afterEvents baseRule (stateOf state) es) (all-good es (stateOf state) r S) 0
+    let r = card-ready state B g in
+    let k = afterAll (cardIn state) (onBus es) in
+    let o = parity baseRule es (stateOf state) (getD state 16 0) (r .chip) S (flag-odd (getD state 16 0) (good-states state .0 g .pending)) in
+    ap (λ (l : List ℕ). getD l 16 0) (cores c M .states state (onBus es) B g S)
+    ∙ laid-at k (all-good (onBus es) (cardIn state) r S .chip .stack .sixteen) (length state) 0
+    ∙ ap (λ (s : State). flagOf (s .pending)) (chip-alone (cardIn state) es)
     ∙ odd-flag ((afterEvents baseRule (stateOf state) es) .pending) (movedSince (getD state 16 0) es) o

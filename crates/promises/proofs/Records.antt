@@ -11,8 +11,8 @@ use Rattle.little.proofs.Exact.{le4-exact}
 use Rattle.terms.specs.Refusal.{numberOf}
 use Rattle.stack.specs.Stack.{Bytes}
 use Rattle.stack.proofs.Words.{bytes-drop}
-use Rattle.chip.specs.declared.State.{State}
-use Rattle.chip.proofs.Ready.{Ready}
+use Rattle.memory.specs.Memory.{Card}
+use Rattle.memory.proofs.Good.{ReadyCard}
 use Rattle.files.proofs.Tests.{either-lt}
 use Rattle.files.proofs.Append.{room-after, first-stops, alone, appended}
 use Rattle.files.proofs.Through.{through, tally}
@@ -24,11 +24,11 @@ use Rattle.records.specs.Run.{Outcome, ended, took, after, runOf}
 use Rattle.terms.specs.Limits.{mostPayload}
 use Rattle.records.proofs.Steps.{steps}
 use Rattle.records.proofs.Prefix.{holds-too, within, lawful}
-use Rattle.records.proofs.Single.{one-turn, no-turn, stopped-by, push-alone, pop-alone, command-alone, status-alone, reset-alone, acknowledge-alone}
+use Rattle.records.proofs.Single.{one-turn, no-turn, stopped-by, push-alone, pop-alone, command-alone, status-alone, reset-alone, acknowledge-alone, recall-alone, forget-alone}
 use Rattle.records.proofs.Ready.{event-fair, run-ready}
-use Rattle.stored.specs.Bytes.{stateOf}
+use Rattle.stored.specs.Bytes.{cardIn}
 use Rattle.pundaliket.proofs.Calling.{good}
-use Rattle.promises.specs.Records.{IsRecord, joined, EachTaken, repliesOf, InTurn, EachSmall, InReply, Split, Counted, CountsExact, PushRecord, PopRecord, CommandRecord, StatusRecord, ResetRecord, AcknowledgeRecord, NoRoomRecord, BadHead}
+use Rattle.promises.specs.Records.{IsRecord, joined, EachTaken, repliesOf, InTurn, EachSmall, InReply, Split, Counted, CountsExact, PushRecord, PopRecord, CommandRecord, StatusRecord, ResetRecord, AcknowledgeRecord, RecallRecord, ForgetRecord, NoRoomRecord, BadHead}
 
 -- ---- records in turn
 
@@ -45,7 +45,7 @@ in-turn s (r ∷ rs) rest room h =
 -- ---- every file is split
 
 -- the bytes of a record that is taken are a record
-is-record : (s : State) (l : List ℕ) (room : ℕ) → turnOf s l room .refusal ≡ 0 → IsRecord (take (turnOf s l room .size) l)
+is-record : (s : Card) (l : List ℕ) (room : ℕ) → turnOf s l room .refusal ≡ 0 → IsRecord (take (turnOf s l room .size) l)
 is-record s l room =
     steps (λ t. t .refusal ≡ 0 → IsRecord (take (t .size) l)) s l room (λ r a b z. let y : ⊥ = omega arith in absurd y)
     (λ e h g z.
@@ -104,8 +104,8 @@ counted =
 
 pub counts-exact : CountsExact
 counts-exact state input replies report a b d =
-    let o = runOf (stateOf state) input (length replies) in
-    let t = tally lawful (stateOf state) input (length replies) in
+    let o = runOf (cardIn state) input (length replies) in
+    let t = tally lawful (cardIn state) input (length replies) in
     let i = t .in-file in
     let f = t .few in
     rw (good state input replies report a b d) (le4-exact (o .taken) (omega arith), le4-exact (length (o .written)) (omega arith))
@@ -134,22 +134,28 @@ pub command-record : CommandRecord
 command-record = command-alone
 
 pub status-record : StatusRecord
-status-record = status-alone
+status-record s m room calm h = status-alone s m room calm h
 
 pub reset-record : ResetRecord
-reset-record = reset-alone
+reset-record s m room calm h = reset-alone s m room calm h
 
 pub acknowledge-record : AcknowledgeRecord
-acknowledge-record = acknowledge-alone
+acknowledge-record s m room calm h = acknowledge-alone s m room calm h
+
+pub recall-record : RecallRecord
+recall-record s m room calm h = recall-alone s m room calm h
+
+pub forget-record : ForgetRecord
+forget-record s m room calm h = forget-alone s m room calm h
 
 -- ---- refusals in replies
 
 -- what a record of an event leaves, taken alone
-abbrev pub recorded : State → List ℕ → Event → Outcome
+abbrev pub recorded : Card → List ℕ → Event → Outcome
 recorded s r e =
-    took (answerOf s (drop 4 r) e .state) (4 + payloadOf e) (replyOf (kindOf e) (numberOf (answerOf s (drop 4 r) e .refusal)) (dataOf s e))
+    took (answerOf s (drop 4 r) e .card) (4 + payloadOf e) (replyOf (kindOf e) (numberOf (answerOf s (drop 4 r) e .refusal)) (dataOf s e))
 
-pub record-run : (s : State) (r : List ℕ) (room : ℕ) (one : IsRecord r) → runOf s r room .refusal ≡ 0 → runOf s r room ≡ recorded s r (one .event)
+pub record-run : (s : Card) (r : List ℕ) (room : ℕ) (one : IsRecord r) → runOf s r room .refusal ≡ 0 → runOf s r room ≡ recorded s r (one .event)
 record-run s r room one z =
     either-lt (λ (n : ℕ). runOf s r room ≡ recorded s r (one .event)) room (5 + answeredOf (one .event)) 0 0
     (λ g.
@@ -158,11 +164,11 @@ record-run s r room one z =
     absurd x)
     (λ g. one-turn s r room (one .event) (one .held) (one .size) g)
 
-bytes-parts : (k l : List ℕ) → Bytes (k ++ l) → Bytes k × Bytes l
+pub bytes-parts : (k l : List ℕ) → Bytes (k ++ l) → Bytes k × Bytes l
 bytes-parts [] l h = (tt, h)
 bytes-parts (x ∷ k) l h = let p = bytes-parts k l (h .1) in ((h .0, p .0), p .1)
 
-each-small : (s : State) (rs : List (List ℕ)) (room : ℕ) → Ready s → Bytes (joined rs) → EachTaken s rs room → EachSmall (repliesOf s rs room)
+each-small : (s : Card) (rs : List (List ℕ)) (room : ℕ) → ReadyCard s → Bytes (joined rs) → EachTaken s rs room → EachSmall (repliesOf s rs room)
 each-small s [] room a h e = tt
 each-small s (r ∷ rs) room a h e =
     let b = bytes-parts r (joined rs) h in
@@ -171,4 +177,8 @@ each-small s (r ∷ rs) room a h e =
     (rw (record-run s r room one (e .1)) (f .small), each-small (runOf s r room .state) rs (room - length (runOf s r room .written)) (run-ready s r room a (b .0)) (b .1) (e .2))
 
 pub in-reply : InReply
-in-reply s rs room stack calm h e = each-small s rs room (record { stack = stack; ready = leb-false 128 (s .status) calm }) h e
+in-reply s rs room a h e =
+    each-small s rs room (record {
+      chip = record { stack = a .stack; ready = leb-false 128 (s .chip .status) (a .calm) };
+      memory = record { stands = a .memory; code-byte = a .code };
+    }) h e

@@ -1,5 +1,6 @@
 -- The exported run is the run of the file, laid out: a good call's definition, and the rest of a split file, which stops at once. Assumes nothing.
 use mathlib.Core.Path.{_≡_, refl, sym, ap, ap₂, subst, _∙_}
+use mathlib.Core.Logic.{⊎-elim}
 use mathlib.Core.Bool.{Bool, true, false, cond}
 use mathlib.Core.List.{List, [], _∷_, _++_, append-assoc}
 use Prim.Native.Nat.{ℕ, _+_, _-_, _<_}
@@ -7,51 +8,52 @@ use native.Mathlib.Omega.{arith}
 use borrow.Author.Tests.{eq-eqb}
 use lib.Dec.{ltb}
 use lib.ListN.{length, take, drop, getD, length-drop}
-use lib.Seq.{take-at, getD-append-add, drop-append-add}
-use Rattle.terms.specs.declared.Refusal.the-variants.{InputTooLong, BadState}
+use lib.Seq.{drop-append-add}
+use Rattle.terms.specs.declared.Refusal.the-variants.{NoRoom, InputTooLong, BadState}
 use Rattle.stack.specs.Stack.{Bytes}
-use Rattle.stack.proofs.Words.{bytes-take}
-use Rattle.chip.specs.declared.State.{State}
-use Rattle.chip.proofs.Ready.{Ready}
+use Rattle.memory.specs.Memory.{Card, cardWith}
+use Rattle.memory.proofs.Good.{ReadyCard}
+use Rattle.records.specs.declared.head.Head.{Head}
+use Rattle.records.specs.declared.head.Head.the-variants.{Whole, Stop}
+use Rattle.records.specs.Record.{payloadOf, answeredOf, answerOf, worked, headOf, turnBy, turnUnder, turnOf, stopped}
 use Rattle.records.specs.Run.{Outcome, ended, runOf}
-use Rattle.files.proofs.Through.{tally}
-use Rattle.stored.specs.Bytes.{isState, stateOf, flagOf, stateBytesOf}
+use Rattle.files.specs.Run.{Turned, idle}
+use Rattle.files.proofs.Append.{nothing, first-stops}
+use Rattle.files.proofs.Through.{tally, stops-there}
+use Rattle.stored.specs.Bytes.{isState, cardIn, laidOut}
+use Rattle.stored.proofs.Cards.{laid-is, card-returns, card-ready, card-short, card-long, laid-state}
 use Rattle.pundaliket.specs.Calls.{Called, ranOf, away, callOf}
 use Rattle.pundaliket.proofs.Calling.{good}
 use Rattle.promises.specs.Records.{joined, total, lengths}
-use Rattle.promises.specs.RunCall.{StandsFor, Reports, RunCall, ReportsResult, StopsAgain}
+use Rattle.promises.specs.RunCall.{Laid, StandsFor, Reports, RunCall, ReportsResult, StopsAgain}
 use Rattle.promises.proofs.Records.{counted, counts-exact}
 use Rattle.records.proofs.Ready.{run-ready}
-use Rattle.promises.proofs.Kept.{state-ready, bytes-stand}
-use Rattle.promises.proofs.Cores.{reads-back}
+use Rattle.promises.proofs.Kept.{good-states}
 use Rattle.records.proofs.Prefix.{lawful}
 
--- the state that good bytes stand for is good, and it is the one that is read
-module _ (state : List ℕ) (s : State) (B : Bytes state) (g : isState state ≡ true) (f : StandsFor state s) where
-  abbrev flags : List ℕ
-  flags = flagOf (s .pending) ∷ s .status ∷ flagOf (s .service) ∷ []
+-- the card that good bytes stand for is the one that is read
+stands-read : (state : List ℕ) (c : Card) → isState state ≡ true → StandsFor state c → cardIn state ≡ c
+stands-read state c g f =
+    let n = f .laid .sixteen in
+    ⊎-elim
+    (λ a. ap cardIn (f .laid .short a ∙ sym (laid-is 19 c)) ∙ card-short c n ∙ ap (cardWith (c .chip)) (sym (f .empty a)))
+    (λ b. ap cardIn (f .laid .long b ∙ sym (laid-is 21 c)) ∙ card-long c n)
+    (good-states state .0 g .size)
 
-  pub stands-good : Ready s
-  stands-good =
-      let top = take-at (s .stack) flags 16 (f .sixteen) in
-      let status : getD state 17 0 ≡ s .status =
-      ap (λ (l : List ℕ). getD l 17 0) (f .laid) ∙ ap (λ (n : ℕ). getD (s .stack ++ flags) (n + 1) 0) (sym (f .sixteen)) ∙ getD-append-add (s .stack) flags 1 0 in
-      record {
-        stack = record { sixteen = f .sixteen; bytes = subst (λ (l : List ℕ). Bytes l) (ap (take 16) (f .laid) ∙ top) (bytes-take 16 state B) };
-        ready = subst (λ (n : ℕ). n < 128) status (state-ready state B g .ready);
-      }
-
-  pub stands-read : stateOf state ≡ s
-  stands-read = ap stateOf (f .laid) ∙ reads-back s stands-good
+-- the bytes that a card is laid out in
+laid-so : (n : ℕ) (c : Card) → length (c .chip .stack) ≡ 16 → Laid n (laidOut n c) c
+laid-so n c h = record { sixteen = h; short = λ a. ap (λ (m : ℕ). laidOut m c) a ∙ laid-is 19 c; long = λ b. ap (λ (m : ℕ). laidOut m c) b ∙ laid-is 21 c }
 
 pub run-call : RunCall
-run-call s state input replies report B I g f n d =
-    let o = runOf s input (length replies) in
-    let e : callOf state input replies report ≡ ranOf o replies =
-    good state input replies report n g d ∙ ap (λ (x : State). ranOf (runOf x input (length replies)) replies) (stands-read state s B g f) in
-    subst (λ (c : Called). Reports c o replies) (sym e) (record {
+run-call c state input replies report B I g f n d =
+    let o = runOf c input (length replies) in
+    let is = stands-read state c g f in
+    let r = run-ready c input (length replies) (subst ReadyCard is (card-ready state B g)) I in
+    let e : callOf state input replies report ≡ ranOf (length state) o replies =
+    good state input replies report n g d ∙ ap (λ (x : Card). ranOf (length state) (runOf x input (length replies)) replies) is in
+    subst (λ (x : Called). Reports (length state) x o replies) (sym e) (record {
       result = refl;
-      state = record { laid = refl; sixteen = run-ready s input (length replies) (stands-good state s B g f) I .stack .sixteen };
+      state = laid-so (length state) (o .state) (r .chip .stack .sixteen);
       replies-are = refl;
       report = refl;
     })
@@ -64,7 +66,7 @@ reports-result state input replies report n = rw (eq-eqb (length report) 9 n) (b
     Says : Called → Type 0
     Says c = getD (c .report) 0 0 ≡ c .result
 
-    by : (x y : Bool) → Says (cond x (cond y (away InputTooLong state replies) (ranOf (runOf (stateOf state) input (length replies)) replies)) (away BadState state replies))
+    by : (x y : Bool) → Says (cond x (cond y (away InputTooLong state replies) (ranOf (length state) (runOf (cardIn state) input (length replies)) replies)) (away BadState state replies))
     by true true = refl
     by true false = refl
     by false y = refl
@@ -75,27 +77,65 @@ after-joined [] rest = refl
 after-joined (r ∷ rs) rest =
     ap (drop (length r + total (lengths rs))) (append-assoc r (joined rs) rest) ∙ drop-append-add r (joined rs ++ rest) (total (lengths rs)) ∙ after-joined rs rest
 
--- the bytes after those taken stop at once
-rest-stops : (s : State) (l : List ℕ) (room : ℕ) → (runOf s l room .refusal ≡ 0 → ⊥)
-    → runOf (runOf s l room .state) (drop (runOf s l room .taken) l) (room - length (runOf s l room .written)) ≡ ended (runOf s l room .refusal) (runOf s l room .state)
-rest-stops s l room z =
-    let o = runOf s l room in
-    let p = counted s l room in
-    let rest-is : drop (o .taken) l ≡ p .rest = ap₂ (λ (n : ℕ) (k : List ℕ). drop n k) (p .taken) (p .parts) ∙ after-joined (p .records) (p .rest) in
-    ap (λ (k : List ℕ). runOf (o .state) k (room - length (o .written))) rest-is ∙ p .stopped z
+-- what stops a record stops it whatever stands on the card
+other-card : (c d : Card) (l : List ℕ) (room : ℕ) (h : Head) → (turnBy c l room h .refusal ≡ 0 → ⊥) → turnBy d l room h ≡ idle (turnBy c l room h .refusal) d
+other-card c d l room (Stop r) z = refl
+other-card c d l room (Whole e) z = by (worked c e (answerOf c (take (payloadOf e) (drop 4 l)) e)) (worked d e (answerOf d (take (payloadOf e) (drop 4 l)) e)) (ltb room (5 + answeredOf e)) refl z
+  where
+    by : (p q : Turned Card) (x : Bool) → p .refusal ≡ 0 → (cond {A = Turned Card} x (stopped NoRoom c) p .refusal ≡ 0 → ⊥) → cond x (stopped NoRoom d) q ≡ idle (cond x (stopped NoRoom c) p .refusal) d
+    by p q true w y = refl
+    by p q false w y = absurd (y w)
+
+stops-too : (c d : Card) (l : List ℕ) (room : ℕ) → (turnOf c l room .refusal ≡ 0 → ⊥) → turnOf d l room ≡ idle (turnOf c l room .refusal) d
+unfolding turnUnder
+stops-too c d l room z = other-card c d l room (headOf l) z
+
+-- the bytes after those taken stop at once, on any card
+module _ (s : Card) (l : List ℕ) (room : ℕ) (z : runOf s l room .refusal ≡ 0 → ⊥) where
+  abbrev left : List ℕ
+  left = drop (runOf s l room .taken) l
+
+  abbrev room-left : ℕ
+  room-left = room - length (runOf s l room .written)
+
+  rest-stops : runOf (runOf s l room .state) left room-left ≡ ended (runOf s l room .refusal) (runOf s l room .state)
+  rest-stops =
+      let o = runOf s l room in
+      let p = counted s l room in
+      let rest-is : drop (o .taken) l ≡ p .rest = ap₂ (λ (n : ℕ) (k : List ℕ). drop n k) (p .taken) (p .parts) ∙ after-joined (p .records) (p .rest) in
+      ap (λ (k : List ℕ). runOf (o .state) k (room - length (o .written))) rest-is ∙ p .stopped z
+
+  some-left : 0 < length left
+  some-left = by left (λ y. z (sym (ap (λ (o : Outcome). o .refusal) rest-stops) ∙ y))
+    where
+      by : (k : List ℕ) → (runOf (runOf s l room .state) k room-left .refusal ≡ 0 → ⊥) → 0 < length k
+      by [] y = absurd (y (ap (λ (o : Outcome). o .refusal) (nothing lawful (runOf s l room .state) room-left)))
+      by (x ∷ k) y = omega arith
+
+  pub stops-on : (d : Card) → runOf d left room-left ≡ ended (runOf s l room .refusal) d
+  stops-on d =
+      let q : turnOf (runOf s l room .state) left room-left .refusal ≡ runOf s l room .refusal = stops-there lawful s l room z in
+      let t : turnOf d left room-left ≡ idle (runOf s l room .refusal) d = stops-too (runOf s l room .state) d left room-left (λ y. z (sym q ∙ y)) ∙ ap (λ (r : ℕ). idle r d) q in
+      first-stops lawful d left room-left (idle (runOf s l room .refusal) d) t some-left z
 
 pub stops-again : StopsAgain
 stops-again state input replies report B I g n d z =
-    let s = stateOf state in
+    let s = cardIn state in
+    let size = good-states state .0 g .size in
     let o = runOf s input (length replies) in
     let e = good state input replies report n g d in
     let c = counts-exact state input replies report n g d in
     let y : o .refusal ≡ 0 → ⊥ = λ x. z (ap (λ (q : Called). q .result) e ∙ x) in
     let r = tally lawful s input (length replies) .range y in
-    let G = run-ready s input (length replies) (state-ready state B g) I in
+    let G = run-ready s input (length replies) (card-ready state B g) I in
     let m = length-drop (o .taken) input in
-    let again : callOf (stateBytesOf (o .state)) (drop (o .taken) input) (drop (length (o .written)) replies) report ≡ ranOf (ended (o .refusal) (o .state)) (drop (length (o .written)) replies) =
-    good (stateBytesOf (o .state)) (drop (o .taken) input) (drop (length (o .written)) replies) report n (bytes-stand (o .state) G) (omega arith)
-    ∙ ap₂ (λ (x : State) (k : ℕ). ranOf (runOf x (drop (o .taken) input) k) (drop (length (o .written)) replies)) (reads-back (o .state) G) (length-drop (length (o .written)) replies)
-    ∙ ap (λ (p : Outcome). ranOf p (drop (length (o .written)) replies)) (rest-stops s input (length replies) y) in
+    let bytes = laidOut (length state) (o .state) in
+    let stand = laid-state (o .state) G (length state) size in
+    let k = cardIn bytes in
+    let room = drop (length (o .written)) replies in
+    let again : callOf bytes (drop (o .taken) input) room report ≡ record { result = o .refusal; state = bytes; replies = room; report = o .refusal ∷ 0 ∷ 0 ∷ 0 ∷ 0 ∷ 0 ∷ 0 ∷ 0 ∷ 0 ∷ [] } =
+    good bytes (drop (o .taken) input) room report n stand (omega arith)
+    ∙ ap (λ (x : ℕ). ranOf (length bytes) (runOf k (drop (o .taken) input) x) room) (length-drop (length (o .written)) replies)
+    ∙ ap (λ (p : Outcome). ranOf (length bytes) p room) (stops-on s input (length replies) y k)
+    ∙ ap (λ (l : List ℕ). record { result = o .refusal; state = l; replies = room; report = o .refusal ∷ 0 ∷ 0 ∷ 0 ∷ 0 ∷ 0 ∷ 0 ∷ 0 ∷ 0 ∷ [] }) (card-returns bytes stand) in
     rw (c .0, c .1, e) (r .0, r .1, again)

@@ -1,9 +1,9 @@
 -- The event call and the conversions: each test of the call's definition goes the way that the premise says. Assumes nothing.
 use mathlib.Core.Path.{_≡_, refl, sym, ap, ap₂, _∙_}
-use mathlib.Core.Logic.{_⊎_}
-use mathlib.Core.Bool.{Bool, true, false, not}
+use mathlib.Core.Logic.{_⊎_, inl, inr, ⊎-elim}
+use mathlib.Core.Bool.{Bool, true, false, not, cond}
 use mathlib.Core.List.{List, [], _∷_, _++_}
-use Prim.Native.Nat.{ℕ, _+_, _-_, _≤_, _<_}
+use Prim.Native.Nat.{ℕ, _+_, _*_, _-_, _≤_, _<_}
 use native.Mathlib.Omega.{arith}
 use borrow.Author.Tests.{lt-leb, eq-eqb, ne-eqb, eqb-true, eqb-false}
 use lib.Dec.{eqb, leb, lit≤}
@@ -11,21 +11,28 @@ use lib.ListN.{length, take, getD, length-append}
 use lib.Seq.{take-at, getD-append-add}
 use Rattle.stack.specs.Stack.{zeros}
 use Rattle.chip.specs.declared.State.{State}
+use Rattle.chip.specs.declared.Event.the-variants.{Reset}
 use Rattle.chip.specs.Step.{done, pushOf, popOf, readOf, resetOf, acknowledgeOf}
+use Rattle.memory.specs.declared.Memory.{Memory}
+use Rattle.memory.specs.Memory.{emptyMemory, Card, cardWith, around, answerWith}
 use Rattle.host.specs.declared.Reply.{Reply}
-use Rattle.stored.specs.Bytes.{isState, stateOf, flagOf, stateBytesOf}
-use Rattle.pundaliket.specs.Calls.{signalOf, answerToKind, sentOf}
+use Rattle.terms.specs.declared.Refusal.the-variants.{Done}
+use Rattle.stored.specs.Bytes.{isState, stateOf, memoryIn, cardIn, flagOf, laidOut}
+use Rattle.stored.proofs.States.{short-memory, long-memory}
+use Rattle.stored.proofs.Cards.{flag-back, laid-is}
+use Rattle.pundaliket.specs.Calls.{signalBy, signalOf, answerToKind, sentOf}
 use Rattle.promises.specs.Host.{number, outward, inward}
-use Rattle.promises.specs.SmallCalls.{signalled, Parts, EventCall, Converts, ConversionCalls}
+use Rattle.promises.specs.Kept.{Remembers}
+use Rattle.promises.specs.SmallCalls.{signalled, Tail, none as no-tail, two, Parts, EventCall, Converts, ConversionCalls}
 use Rattle.promises.proofs.Fronts.{none}
-use Rattle.promises.proofs.Kept.{good-states, flag-back}
+use Rattle.promises.proofs.Kept.{good-states}
 
 -- ---- turned away
 bad-state : (state : List ℕ) (kind byte : ℕ) → isState state ≡ false → signalOf state kind byte ≡ signalled 3328 state
 unfolding signalOf
 bad-state state kind byte h = rw h
 
-bad-kind : (state : List ℕ) (kind byte : ℕ) → isState state ≡ true → (kind ≡ 0) ⊎ (6 < kind) → signalOf state kind byte ≡ signalled 1280 state
+bad-kind : (state : List ℕ) (kind byte : ℕ) → isState state ≡ true → (kind ≡ 0) ⊎ (8 < kind) → signalOf state kind byte ≡ signalled 1280 state
 unfolding signalOf
 bad-kind state kind byte g h =
     rw (
@@ -36,6 +43,8 @@ bad-kind state kind byte g h =
       ne-eqb kind 4 (none kind h 4 (lit≤ tt) (lit≤ tt)),
       ne-eqb kind 5 (none kind h 5 (lit≤ tt) (lit≤ tt)),
       ne-eqb kind 6 (none kind h 6 (lit≤ tt) (lit≤ tt)),
+      ne-eqb kind 7 (none kind h 7 (lit≤ tt) (lit≤ tt)),
+      ne-eqb kind 8 (none kind h 8 (lit≤ tt) (lit≤ tt)),
     )
 
 -- neither a push nor a command
@@ -52,34 +61,94 @@ flag-turned x h = by (eqb x 1) refl
     by true e = let i = eqb-true x 1 e in omega arith
     by false e = let n = eqb-false x 1 e in omega arith
 
-abbrev laid : List ℕ → ℕ → ℕ → ℕ → List ℕ
-laid l p u v = l ++ (p ∷ u ∷ v ∷ [])
+abbrev laid : List ℕ → ℕ → ℕ → ℕ → List ℕ → List ℕ
+laid l p u v t = l ++ (p ∷ u ∷ v ∷ t)
 
 abbrev stood : List ℕ → ℕ → ℕ → ℕ → State
 stood l p u v = record { stack = l; pending = eqb p 1; status = u; service = eqb v 1 }
 
-module _ (l : List ℕ) (p u v : ℕ) (P : Parts l p u v) where
-  at : (i : ℕ) → getD (laid l p u v) (16 + i) 0 ≡ getD (p ∷ u ∷ v ∷ []) i 0
-  at i = ap (λ (n : ℕ). getD (laid l p u v) (n + i) 0) (sym (P .sixteen)) ∙ getD-append-add l (p ∷ u ∷ v ∷ []) i 0
+-- the memory that the bytes behind are
+abbrev behindIs : List ℕ → Memory
+behindIs t = record { bits = getD t 0 0; code = getD t 1 0 }
 
-  stands : isState (laid l p u v) ≡ true
+-- how many they are
+tail-size : (t : List ℕ) → Tail t → (length t ≡ 0) ⊎ (length t ≡ 2)
+tail-size [] no-tail = inl refl
+tail-size (b ∷ k ∷ []) (two bits code h) = inr refl
+
+tail-remembers : (t : List ℕ) → Tail t → length t ≡ 2 → Remembers (getD t 0 0) (getD t 1 0)
+tail-remembers [] no-tail n = absurd (let y : ⊥ = omega arith in y)
+tail-remembers (b ∷ k ∷ []) (two bits code h) n = h
+
+module _ (l : List ℕ) (p u v : ℕ) (t : List ℕ) (P : Parts l p u v t) where
+  at : (i : ℕ) → getD (laid l p u v t) (16 + i) 0 ≡ getD (p ∷ u ∷ v ∷ t) i 0
+  at i = ap (λ (n : ℕ). getD (laid l p u v t) (n + i) 0) (sym (P .sixteen)) ∙ getD-append-add l (p ∷ u ∷ v ∷ t) i 0
+
+  size : length (laid l p u v t) ≡ 19 + length t
+  size = let n = P .sixteen in length-append l (p ∷ u ∷ v ∷ t) ∙ omega arith
+
+  stands : isState (laid l p u v t) ≡ true
   stands =
-      let n = P .sixteen in
-      let len = length-append l (p ∷ u ∷ v ∷ []) in
-      good-states (laid l p u v) .1 (record { size = omega arith; pending = rw (at 0) (P .pending); ready = rw (at 1) (P .ready); service = rw (at 2) (P .service) })
+      good-states (laid l p u v t) .1 (record {
+        size = ⊎-elim (λ z. inl (omega (arith, size, z))) (λ z. inr (omega (arith, size, z))) (tail-size t (P .tail));
+        pending = rw (at 0) (P .pending);
+        ready = rw (at 1) (P .ready);
+        service = rw (at 2) (P .service);
+        memory = λ m. rw (at 3, at 4) (tail-remembers t (P .tail) (omega (arith, size, m)));
+      })
 
-  reads : stateOf (laid l p u v) ≡ stood l p u v
-  reads = λ i. record {
-    stack = take-at l (p ∷ u ∷ v ∷ []) 16 (P .sixteen) i;
-    pending = eqb (at 0 i) 1;
-    status = at 1 i;
-    service = eqb (at 2 i) 1;
-  }
+  memory-read : memoryIn (laid l p u v t) ≡ behindIs t
+  memory-read =
+      ⊎-elim
+      (λ z. short-memory (laid l p u v t) (omega (arith, size, z)) ∙ none-there t z)
+      (λ z. long-memory (laid l p u v t) (omega (arith, size, z)) ∙ (λ i. record { bits = at 3 i; code = at 4 i }))
+      (tail-size t (P .tail))
+    where
+      none-there : (k : List ℕ) → length k ≡ 0 → emptyMemory ≡ behindIs k
+      none-there [] z = refl
+      none-there (x ∷ k) z = absurd (let y : ⊥ = omega arith in y)
+
+  reads : cardIn (laid l p u v t) ≡ cardWith (stood l p u v) (behindIs t)
+  reads =
+      let chip : stateOf (laid l p u v t) ≡ stood l p u v = λ i. record {
+        stack = take-at l (p ∷ u ∷ v ∷ t) 16 (P .sixteen) i;
+        pending = eqb (at 0 i) 1;
+        status = at 1 i;
+        service = eqb (at 2 i) 1;
+      } in
+      ap₂ cardWith chip memory-read
+
+  -- the bytes written behind the flags, of a memory that stays and of one that is emptied
+  tail-back : cond (eqb (length (laid l p u v t)) 19) [] (getD t 0 0 ∷ getD t 1 0 ∷ []) ≡ t
+  tail-back = rw size (by t (P .tail))
+    where
+      by : (k : List ℕ) → Tail k → cond (eqb (19 + length k) 19) [] (getD k 0 0 ∷ getD k 1 0 ∷ []) ≡ k
+      by [] no-tail = refl
+      by (b ∷ k ∷ []) (two bits code h) = refl
+
+  tail-gone : cond (eqb (length (laid l p u v t)) 19) [] (0 ∷ 0 ∷ []) ≡ zeros (length t)
+  tail-gone = rw size (by t (P .tail))
+    where
+      by : (k : List ℕ) → Tail k → cond (eqb (19 + length k) 19) [] (0 ∷ 0 ∷ []) ≡ zeros (length k)
+      by [] no-tail = refl
+      by (b ∷ k ∷ []) (two bits code h) = refl
 
   -- an event that is done
-  signals : (kind byte b : ℕ) (s : State) → answerToKind (stood l p u v) kind byte ≡ done b s → signalOf (laid l p u v) kind byte ≡ signalled b (stateBytesOf s)
+  signals : (kind byte b : ℕ) (s : State) (m : Memory) {after : List ℕ} → answerToKind (cardWith (stood l p u v) (behindIs t)) kind byte ≡ record { refusal = Done; byte = b; card = cardWith s m }
+      → cond (eqb (length (laid l p u v t)) 19) [] (m .bits ∷ m .code ∷ []) ≡ after
+      → signalOf (laid l p u v t) kind byte ≡ signalled b (s .stack ++ (flagOf (s .pending) ∷ s .status ∷ flagOf (s .service) ∷ after))
   unfolding signalOf
-  signals kind byte b s e = rw (stands, reads, e) (ap (λ (n : ℕ). signalled n (stateBytesOf s)) (omega arith))
+  signals kind byte b s m e a =
+      ap (λ (x : Bool). cond x (signalBy state (answerToKind (cardIn state) kind byte)) (signalled 3328 state)) stands
+      ∙ ap (λ (c : Card). signalBy state (answerToKind c kind byte)) reads
+      ∙ ap (signalBy state) e
+      ∙ ap₂ signalled same (laid-is (length (laid l p u v t)) (cardWith s m) ∙ ap (λ (k : List ℕ). s .stack ++ (flagOf (s .pending) ∷ s .status ∷ flagOf (s .service) ∷ k)) a)
+    where
+      state : List ℕ
+      state = laid l p u v t
+
+      same : 256 * 0 + b ≡ b
+      same = omega arith
 
   ready : leb 128 u ≡ false
   ready = lt-leb 128 u (P .ready)
@@ -100,12 +169,18 @@ module _ (l : List ℕ) (p u v : ℕ) (P : Parts l p u v) where
   unfolding acknowledgeOf
   acknowledges = rw ready
 
-  -- the three bytes of a state whose flag pending is turned, and as it was
-  turned : (k : List ℕ) → k ++ (flagOf (not (eqb p 1)) ∷ u ∷ flagOf (eqb v 1) ∷ []) ≡ k ++ ((1 - p) ∷ u ∷ v ∷ [])
-  turned k = ap₂ (λ (x y : ℕ). k ++ (x ∷ u ∷ y ∷ [])) (flag-turned p (P .pending)) (flag-back v (P .service))
+  recalls : answerToKind (cardWith (stood l p u v) (behindIs t)) 7 0 ≡ record { refusal = Done; byte = getD t 0 0; card = cardWith (stood l p u v) (behindIs t) }
+  recalls = rw ready
 
-  back : (k : List ℕ) → k ++ (flagOf (eqb p 1) ∷ u ∷ flagOf (eqb v 1) ∷ []) ≡ laid k p u v
-  back k = ap₂ (λ (x y : ℕ). k ++ (x ∷ u ∷ y ∷ [])) (flag-back p (P .pending)) (flag-back v (P .service))
+  forgets : answerToKind (cardWith (stood l p u v) (behindIs t)) 8 0 ≡ record { refusal = Done; byte = 0; card = cardWith (stood l p u v) emptyMemory }
+  forgets = rw ready
+
+  -- the bytes behind a stack whose flag pending is turned, and as it was
+  turned : (k : List ℕ) → k ++ (flagOf (not (eqb p 1)) ∷ u ∷ flagOf (eqb v 1) ∷ t) ≡ laid k (1 - p) u v t
+  turned k = ap₂ (λ (x y : ℕ). k ++ (x ∷ u ∷ y ∷ t)) (flag-turned p (P .pending)) (flag-back v (P .service))
+
+  back : (k w : List ℕ) → k ++ (flagOf (eqb p 1) ∷ u ∷ flagOf (eqb v 1) ∷ w) ≡ laid k p u v w
+  back k w = ap₂ (λ (x y : ℕ). k ++ (x ∷ u ∷ y ∷ w)) (flag-back p (P .pending)) (flag-back v (P .service))
 
 pops : (b : ℕ) (l : List ℕ) (p u v : ℕ) → u < 128 → popOf (stood (b ∷ l) p u v) ≡ done b (record { stack = l ++ (b ∷ []); pending = not (eqb p 1); status = u; service = eqb v 1 })
 unfolding popOf
@@ -116,11 +191,14 @@ event-call = record {
   bad-state = λ state kind byte h. bad-state state kind byte h;
   bad-kind = λ state kind byte g h. bad-kind state kind byte g h;
   byte-ignored = λ state kind byte other a b. byte-ignored state kind byte other a b;
-  push-call = λ b l p u v P. signals l p u v P 1 b 0 _ (pushes l p u v P b) ∙ ap (signalled 0) (turned l p u v P (b ∷ take 15 l));
-  pop-call = λ b byte l p u v P. signals (b ∷ l) p u v P 2 byte b _ (pops b l p u v (P .ready)) ∙ ap (signalled b) (turned (b ∷ l) p u v P (l ++ (b ∷ [])));
-  status-call = λ byte l p u v P. signals l p u v P 4 byte u _ (statuses l p u v P) ∙ ap (signalled u) (back l p u v P l);
-  reset-call = λ byte l p u v P. signals l p u v P 5 byte 0 _ (resets l p u v P);
-  acknowledge-call = λ byte l p u v P. signals l p u v P 6 byte 0 _ (acknowledges l p u v P) ∙ ap (λ (x : ℕ). signalled 0 (l ++ (x ∷ u ∷ 0 ∷ []))) (flag-back p (P .pending));
+  push-call = λ b l p u v t P. signals l p u v t P 1 b 0 _ (behindIs t) (ap (around (behindIs t)) (pushes l p u v t P b)) (tail-back l p u v t P) ∙ ap (signalled 0) (turned l p u v t P (b ∷ take 15 l));
+  pop-call = λ b byte l p u v t P. signals (b ∷ l) p u v t P 2 byte b _ (behindIs t) (ap (around (behindIs t)) (pops b l p u v (P .ready))) (tail-back (b ∷ l) p u v t P) ∙ ap (signalled b) (turned (b ∷ l) p u v t P (l ++ (b ∷ [])));
+  status-call = λ byte l p u v t P. signals l p u v t P 4 byte u _ (behindIs t) (ap (around (behindIs t)) (statuses l p u v t P)) (tail-back l p u v t P) ∙ ap (signalled u) (back l p u v t P l t);
+  reset-call = λ byte l p u v t P. signals l p u v t P 5 byte 0 _ emptyMemory (ap (answerWith (behindIs t) Reset) (resets l p u v t P)) (tail-gone l p u v t P);
+  acknowledge-call = λ byte l p u v t P.
+      signals l p u v t P 6 byte 0 _ (behindIs t) (ap (around (behindIs t)) (acknowledges l p u v t P)) (tail-back l p u v t P) ∙ ap (λ (x : ℕ). signalled 0 (l ++ (x ∷ u ∷ 0 ∷ t))) (flag-back p (P .pending));
+  recall-call = λ byte l p u v t P. signals l p u v t P 7 byte (getD t 0 0) _ (behindIs t) (recalls l p u v t P) (tail-back l p u v t P) ∙ ap (signalled (getD t 0 0)) (back l p u v t P l t);
+  forget-call = λ byte l p u v t P. signals l p u v t P 8 byte 0 _ emptyMemory (forgets l p u v t P) (tail-gone l p u v t P) ∙ ap (signalled 0) (back l p u v t P l (zeros (length t)));
 }
 
 -- ---- conversions

@@ -20,9 +20,9 @@ use Rattle.records.specs.Record.{frameUnder, turnUnder}
 use Rattle.stored.specs.Bytes.{isState}
 use Rattle.pundaliket.specs.Calls.{callOf, signalOf, sentOf}
 use Rattle.pundaliket.proofs.Calling.{bad-state, too-long}
-use Rattle.promises.specs.Chains.{Change, runEvents}
+use Rattle.promises.specs.Chains.{Change}
 use Rattle.promises.specs.Records.{IsRecord, countAt}
-use Rattle.promises.specs.Cores.{Core, Meets, driven, Begins}
+use Rattle.promises.specs.Cores.{Core, Meets, driven, Begins, busRun}
 use Rattle.promises.specs.WrongCores.{No, RefusesEverything, never-run, never-event, never-float, never-word, SingleReply, same-run, same-event, same-float, same-word, SameReplies, DoesNothing, back-state, back-replies, back-report, back-event, back-float, back-word, FirstRecordOnly, first-state, first-replies, InventedCounts, wrong-taken, wrong-written, wrong-away, ZeroChains, fresh, nine, first, second, fresher, Tells, WrongCores}
 use Rattle.promises.proofs.Records.{counts-exact}
 use Rattle.promises.proofs.Host.{float-comes-back}
@@ -69,7 +69,7 @@ begins = record { bytes = fresh-bytes; good = refl; whole = refl; proper = recor
 
 module _ (c : Core) (M : Meets c) where
   -- the sign of 1 changed
-  chain-told : take 4 (driven c fresh (runEvents 0x01800000 (λ (n : ℕ). false) (Change ∷ []))) ≡ 0x81 ∷ 0x80 ∷ 0 ∷ 0 ∷ []
+  chain-told : take 4 (driven c fresh (busRun 0x01800000 (λ (n : ℕ). false) (Change ∷ []))) ≡ 0x81 ∷ 0x80 ∷ 0 ∷ 0 ∷ []
   unfolding chsf
   chain-told = cores c M .chain-bytes fresh 0x01800000 (λ (n : ℕ). false) (Change ∷ []) begins (tt, tt)
 

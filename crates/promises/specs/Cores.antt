@@ -2,23 +2,25 @@
 -- it. Assumes nothing.
 use Prim.Native.Nat.{ℕ, _%_, _^_, _<_}
 use mathlib.Core.Path.{_≡_}
+use mathlib.Core.Logic.{_⊎_}
 use mathlib.Core.Bool.{Bool, true, _&&_}
-use mathlib.Core.List.{List, [], _∷_}
+use mathlib.Core.List.{List, [], _∷_, map}
 use lib.Dec.{eqb}
-use lib.ListN.{take, getD}
+use lib.ListN.{length, take, getD}
 use Rattle.terms.specs.Refusal.{numberOf}
 use Rattle.float.specs.Word.{FloatWord}
 use Rattle.float.specs.Order.{Le}
 use Rattle.stack.specs.Stack.{Bytes, bytesOf, tos}
-use Rattle.chip.specs.declared.State.{State}
-use Rattle.chip.specs.declared.Event.{Event}
+use Rattle.chip.specs.declared.Event.{Event as ChipEvent}
 use Rattle.chip.specs.declared.Event.the-variants.{Push, Pop, Command, Status, Reset, Acknowledge}
 use Rattle.chip.specs.Status.{errorOf}
 use Rattle.chip.specs.Commands.{baseRule}
-use Rattle.chip.specs.Step.{answerTo}
-use Rattle.chip.specs.Events.{afterEvents}
+use Rattle.memory.specs.declared.Event.{Event}
+use Rattle.memory.specs.declared.Event.the-variants.{Chip, Recall, Forget}
+use Rattle.memory.specs.Memory.{Card, eventIn}
+use Rattle.memory.specs.History.{afterAll}
 use Rattle.host.specs.Host.{hostOf, takenOf, hostReply, takenReply}
-use Rattle.stored.specs.Bytes.{isState, stateOf, stateBytesOf}
+use Rattle.stored.specs.Bytes.{isState, cardIn, laidOut}
 use Rattle.pundaliket.specs.Calls.{Called, Signal, Sent, callOf, Calls, signalOf, Signals, sentOf, Sends, joinedOf}
 use Rattle.promises.specs.Chains.{Step, Constants, reversing, wordAfter, runEvents}
 
@@ -54,20 +56,28 @@ described = record {
 -- ---- events through the event call
 -- an event's kind and its byte, which is the byte pushed or the code, else ignored
 abbrev pub kindNumber : Event → ℕ
-kindNumber (Push byte) = 1
-kindNumber Pop = 2
-kindNumber (Command code) = 3
-kindNumber Status = 4
-kindNumber Reset = 5
-kindNumber Acknowledge = 6
+kindNumber (Chip (Push byte)) = 1
+kindNumber (Chip Pop) = 2
+kindNumber (Chip (Command code)) = 3
+kindNumber (Chip Status) = 4
+kindNumber (Chip Reset) = 5
+kindNumber (Chip Acknowledge) = 6
+kindNumber Recall = 7
+kindNumber Forget = 8
 
 abbrev pub byteOf : Event → ℕ
-byteOf (Push byte) = byte
-byteOf Pop = 0
-byteOf (Command code) = code
-byteOf Status = 0
-byteOf Reset = 0
-byteOf Acknowledge = 0
+byteOf (Chip (Push byte)) = byte
+byteOf (Chip Pop) = 0
+byteOf (Chip (Command code)) = code
+byteOf (Chip Status) = 0
+byteOf (Chip Reset) = 0
+byteOf (Chip Acknowledge) = 0
+byteOf Recall = 0
+byteOf Forget = 0
+
+-- the chip's own events
+abbrev pub onBus : List ChipEvent → List Event
+onBus = map Chip
 
 -- the events given one at a time to a core's own event call: the state's bytes after them, and the numbers returned
 abbrev pub driven : Core → List ℕ → List Event → List ℕ
@@ -78,10 +88,21 @@ abbrev pub returned : Core → List ℕ → List Event → List ℕ
 returned c state [] = []
 returned c state (e ∷ es) = (c .event state (kindNumber e) (byteOf e)) .result ∷ returned c ((c .event state (kindNumber e) (byteOf e)) .state) es
 
--- the chip's answers as the calls give them: 256 times the refusal plus the byte read
-abbrev pub answersOf : State → List Event → List ℕ
-answersOf s [] = []
-answersOf s (e ∷ es) = joinedOf (numberOf ((answerTo baseRule s e) .refusal)) ((answerTo baseRule s e) .byte) ∷ answersOf ((answerTo baseRule s e) .state) es
+-- a card's answers as the calls give them: 256 times the refusal plus the byte read
+abbrev pub answersOf : Card → List Event → List ℕ
+answersOf k [] = []
+answersOf k (e ∷ es) = joinedOf (numberOf ((eventIn k e) .refusal)) ((eventIn k e) .byte) ∷ answersOf ((eventIn k e) .card) es
+
+-- the memory is not read
+abbrev pub NoRecall : List Event → Type 0
+NoRecall [] = Unit
+NoRecall (Chip e ∷ es) = NoRecall es
+NoRecall (Recall ∷ es) = ⊥
+NoRecall (Forget ∷ es) = NoRecall es
+
+-- a state that is lent with its memory, or events that do not read it
+abbrev pub Keeps : List ℕ → List Event → Type 0
+Keeps state es = (length state ≡ 21) ⊎ NoRecall es
 
 -- the bytes pushed and the codes are bytes
 abbrev pub Sendable : List Event → Type 0
@@ -95,12 +116,14 @@ allZero (n ∷ l) = eqb n 0 && allZero l
 
 -- whether each command leaves a state whose status, byte 17, has bits 4 to 1 clear
 abbrev pub clearAfter : Event → List ℕ → Bool
-clearAfter (Command code) state = eqb (errorOf (getD state 17 0)) 0
-clearAfter (Push byte) state = true
-clearAfter Pop state = true
-clearAfter Status state = true
-clearAfter Reset state = true
-clearAfter Acknowledge state = true
+clearAfter (Chip (Command code)) state = eqb (errorOf (getD state 17 0)) 0
+clearAfter (Chip (Push byte)) state = true
+clearAfter (Chip Pop) state = true
+clearAfter (Chip Status) state = true
+clearAfter (Chip Reset) state = true
+clearAfter (Chip Acknowledge) state = true
+clearAfter Recall state = true
+clearAfter Forget state = true
 
 abbrev pub drivenQuietly : Core → List ℕ → List Event → Bool
 drivenQuietly c state [] = true
@@ -114,29 +137,33 @@ pub record Begins (state : List ℕ) (w : ℕ) : Type 0 where
   pub whole : getD state 16 0 ≡ 0
   pub proper : FloatWord w
 
+-- a chain's events as the calls take them
+abbrev pub busRun : ℕ → (ℕ → Bool) → List Step → List Event
+busRun w sr ks = onBus (runEvents w sr ks)
+
 -- the word that lies on top at the end, read off the state's first four bytes
 abbrev pub wordLeft : Core → List ℕ → List Event → ℕ
 wordLeft c state es = tos 4 (driven c state es)
 
--- ---- the statement: of the 19 bytes of any good state, and any events
+-- ---- the statement: of the 19 or 21 bytes of any good state, and any events
 pub record Driven (c : Core) : Type 0 where
-  -- the bytes after the events are those of the state that the statements speak of
-  pub states : (state : List ℕ) (es : List Event) → Bytes state → isState state ≡ true → Sendable es → driven c state es ≡ stateBytesOf (afterEvents baseRule (stateOf state) es)
-  -- and the calls return its answers
-  pub returns : (state : List ℕ) (es : List Event) → Bytes state → isState state ≡ true → Sendable es → returned c state es ≡ answersOf (stateOf state) es
+  -- the bytes after the events are those of the card that the statements speak of, as many as were lent
+  pub states : (state : List ℕ) (es : List Event) → Bytes state → isState state ≡ true → Sendable es → driven c state es ≡ laidOut (length state) (afterAll (cardIn state) es)
+  -- and the calls return its answers; of 19 bytes the memory is gone after each call
+  pub returns : (state : List ℕ) (es : List Event) → Bytes state → isState state ≡ true → Sendable es → Keeps state es → returned c state es ≡ answersOf (cardIn state) es
   -- demand 3 at the event call: every call of a run returns 0, error bits or not
-  pub chain-answers : (state : List ℕ) (w : ℕ) (sr : ℕ → Bool) (ks : List Step) → Begins state w → Constants ks → allZero (returned c state (runEvents w sr ks)) ≡ true
+  pub chain-answers : (state : List ℕ) (w : ℕ) (sr : ℕ → Bool) (ks : List Step) → Begins state w → Constants ks → allZero (returned c state (busRun w sr ks)) ≡ true
   -- at the end the word of demand 2 lies on top, high byte first, a function of the word and the chain alone
-  pub chain-bytes : (state : List ℕ) (w : ℕ) (sr : ℕ → Bool) (ks : List Step) → Begins state w → Constants ks → take 4 (driven c state (runEvents w sr ks)) ≡ bytesOf 4 (wordAfter baseRule w ks)
-  pub chain-word : (state : List ℕ) (w : ℕ) (sr : ℕ → Bool) (ks : List Step) → Begins state w → Constants ks → wordLeft c state (runEvents w sr ks) ≡ wordAfter baseRule w ks
+  pub chain-bytes : (state : List ℕ) (w : ℕ) (sr : ℕ → Bool) (ks : List Step) → Begins state w → Constants ks → take 4 (driven c state (busRun w sr ks)) ≡ bytesOf 4 (wordAfter baseRule w ks)
+  pub chain-word : (state : List ℕ) (w : ℕ) (sr : ℕ → Bool) (ks : List Step) → Begins state w → Constants ks → wordLeft c state (busRun w sr ks) ≡ wordAfter baseRule w ks
   -- where neither run leaves an error bit, an even number of reversing steps keeps the order of the values
   pub chain-even : (state state' : List ℕ) (v w : ℕ) (sr sr' : ℕ → Bool) (ks : List Step) → Begins state v → Begins state' w → Constants ks
-      → drivenQuietly c state (runEvents v sr ks) ≡ true → drivenQuietly c state' (runEvents w sr' ks) ≡ true → Le v w
-      → reversing ks % 2 ≡ 0 → Le (wordLeft c state (runEvents v sr ks)) (wordLeft c state' (runEvents w sr' ks))
+      → drivenQuietly c state (busRun v sr ks) ≡ true → drivenQuietly c state' (busRun w sr' ks) ≡ true → Le v w
+      → reversing ks % 2 ≡ 0 → Le (wordLeft c state (busRun v sr ks)) (wordLeft c state' (busRun w sr' ks))
   -- and an odd number turns it round
   pub chain-odd : (state state' : List ℕ) (v w : ℕ) (sr sr' : ℕ → Bool) (ks : List Step) → Begins state v → Begins state' w → Constants ks
-      → drivenQuietly c state (runEvents v sr ks) ≡ true → drivenQuietly c state' (runEvents w sr' ks) ≡ true → Le v w
-      → reversing ks % 2 ≡ 1 → Le (wordLeft c state' (runEvents w sr' ks)) (wordLeft c state (runEvents v sr ks))
+      → drivenQuietly c state (busRun v sr ks) ≡ true → drivenQuietly c state' (busRun w sr' ks) ≡ true → Le v w
+      → reversing ks % 2 ≡ 1 → Le (wordLeft c state' (busRun w sr' ks)) (wordLeft c state (busRun v sr ks))
 
 -- every core that meets the promises
 abbrev pub Cores : Type 0

@@ -7,67 +7,79 @@ use mathlib.Core.List.{List, [], _∷_, _++_}
 use lib.ListN.{length, take, drop, getD}
 use Rattle.float.specs.Order.{Le}
 use Rattle.stack.specs.Stack.{Bytes, bytesOf, tos}
-use Rattle.chip.specs.declared.Event.{Event}
 use Rattle.chip.specs.declared.Event.the-variants.{Push, Pop, Command, Status, Reset, Acknowledge}
 use Rattle.chip.specs.Commands.{baseRule}
+use Rattle.memory.specs.declared.Event.{Event}
+use Rattle.memory.specs.declared.Event.the-variants.{Chip, Recall, Forget}
 use Rattle.stored.specs.Bytes.{isState}
 use Rattle.pundaliket.specs.Calls.{Called}
 use Rattle.promises.specs.Records.{countAt}
-use Rattle.promises.specs.Chains.{Step, Constants, reversing, wordAfter, runEvents}
-use Rattle.promises.specs.Cores.{Core, Meets, Sendable, driven, returned, drivenQuietly, Begins}
+use Rattle.promises.specs.Chains.{Step, Constants, reversing, wordAfter}
+use Rattle.promises.specs.Cores.{Core, Meets, kindNumber, byteOf, Sendable, Keeps, driven, returned, drivenQuietly, Begins, busRun}
 
 -- the record of an event: its length, its kind, its payload
 abbrev pub recordOf : Event → List ℕ
-recordOf (Push byte) = 3 ∷ 0 ∷ 1 ∷ 0 ∷ byte ∷ []
-recordOf Pop = 3 ∷ 0 ∷ 2 ∷ 0 ∷ 1 ∷ []
-recordOf (Command code) = 3 ∷ 0 ∷ 3 ∷ 0 ∷ code ∷ []
-recordOf Status = 2 ∷ 0 ∷ 4 ∷ 0 ∷ []
-recordOf Reset = 2 ∷ 0 ∷ 5 ∷ 0 ∷ []
-recordOf Acknowledge = 2 ∷ 0 ∷ 6 ∷ 0 ∷ []
+recordOf (Chip (Push byte)) = 3 ∷ 0 ∷ 1 ∷ 0 ∷ byte ∷ []
+recordOf (Chip Pop) = 3 ∷ 0 ∷ 2 ∷ 0 ∷ 1 ∷ []
+recordOf (Chip (Command code)) = 3 ∷ 0 ∷ 3 ∷ 0 ∷ code ∷ []
+recordOf (Chip Status) = 2 ∷ 0 ∷ 4 ∷ 0 ∷ []
+recordOf (Chip Reset) = 2 ∷ 0 ∷ 5 ∷ 0 ∷ []
+recordOf (Chip Acknowledge) = 2 ∷ 0 ∷ 6 ∷ 0 ∷ []
+recordOf Recall = 2 ∷ 0 ∷ 7 ∷ 0 ∷ []
+recordOf Forget = 2 ∷ 0 ∷ 8 ∷ 0 ∷ []
 
 abbrev pub fileOf : List Event → List ℕ
 fileOf [] = []
 fileOf (e ∷ es) = recordOf e ++ fileOf es
 
--- the reply of an event for which the event call returns n: 256 times the refusal plus the byte read, which a pop and a status read have
-abbrev pub replyTo : Event → ℕ → List ℕ
-replyTo (Push byte) n = 3 ∷ 0 ∷ 129 ∷ 0 ∷ n / 256 ∷ []
-replyTo Pop n = 4 ∷ 0 ∷ 130 ∷ 0 ∷ n / 256 ∷ n % 256 ∷ []
-replyTo (Command code) n = 3 ∷ 0 ∷ 131 ∷ 0 ∷ n / 256 ∷ []
-replyTo Status n = 4 ∷ 0 ∷ 132 ∷ 0 ∷ n / 256 ∷ n % 256 ∷ []
-replyTo Reset n = 3 ∷ 0 ∷ 133 ∷ 0 ∷ n / 256 ∷ []
-replyTo Acknowledge n = 3 ∷ 0 ∷ 134 ∷ 0 ∷ n / 256 ∷ []
+-- byte 20 of the state before each event: the memory's code where there is one
+abbrev pub codesBefore : Core → List ℕ → List Event → List ℕ
+codesBefore c state [] = []
+codesBefore c state (e ∷ es) = getD state 20 0 ∷ codesBefore c ((c .event state (kindNumber e) (byteOf e)) .state) es
 
--- the replies of events in turn, by the numbers returned for them
-abbrev pub repliesTo : List Event → List ℕ → List ℕ
-repliesTo [] ns = []
-repliesTo (e ∷ es) ns = replyTo e (getD ns 0 0) ++ repliesTo es (drop 1 ns)
+-- the reply of an event for which the event call returns n: 256 times the refusal plus the byte read, which a pop, a status read and the memory read have;
+-- the memory read has the code behind it
+abbrev pub replyTo : Event → ℕ → ℕ → List ℕ
+replyTo (Chip (Push byte)) n code = 3 ∷ 0 ∷ 129 ∷ 0 ∷ n / 256 ∷ []
+replyTo (Chip Pop) n code = 4 ∷ 0 ∷ 130 ∷ 0 ∷ n / 256 ∷ n % 256 ∷ []
+replyTo (Chip (Command k)) n code = 3 ∷ 0 ∷ 131 ∷ 0 ∷ n / 256 ∷ []
+replyTo (Chip Status) n code = 4 ∷ 0 ∷ 132 ∷ 0 ∷ n / 256 ∷ n % 256 ∷ []
+replyTo (Chip Reset) n code = 3 ∷ 0 ∷ 133 ∷ 0 ∷ n / 256 ∷ []
+replyTo (Chip Acknowledge) n code = 3 ∷ 0 ∷ 134 ∷ 0 ∷ n / 256 ∷ []
+replyTo Recall n code = 5 ∷ 0 ∷ 135 ∷ 0 ∷ n / 256 ∷ n % 256 ∷ code ∷ []
+replyTo Forget n code = 3 ∷ 0 ∷ 136 ∷ 0 ∷ n / 256 ∷ []
 
--- a call on the file of events beside the events: the state and the numbers that these leave and return
-pub record FileOfEvents (c : Called) (es : List Event) (state numbers replies : List ℕ) : Type 0 where
+-- the replies of events in turn, by the numbers returned for them and the codes
+abbrev pub repliesTo : List Event → List ℕ → List ℕ → List ℕ
+repliesTo [] ns ks = []
+repliesTo (e ∷ es) ns ks = replyTo e (getD ns 0 0) (getD ks 0 0) ++ repliesTo es (drop 1 ns) (drop 1 ks)
+
+-- a call on the file of events beside the events: the state and the numbers that these leave and return, and the codes
+pub record FileOfEvents (c : Called) (es : List Event) (state numbers codes replies : List ℕ) : Type 0 where
   pub result : c .result ≡ 0
   pub state-is : c .state ≡ state
-  pub replies-are : c .replies ≡ repliesTo es numbers ++ drop (length (repliesTo es numbers)) replies
+  pub replies-are : c .replies ≡ repliesTo es numbers codes ++ drop (length (repliesTo es numbers codes)) replies
   pub all-taken : countAt (c .report) 1 ≡ length (fileOf es)
-  pub all-written : countAt (c .report) 5 ≡ length (repliesTo es numbers)
+  pub all-written : countAt (c .report) 5 ≡ length (repliesTo es numbers codes)
 
 -- what is lent for the file of some events: a good state, a report of nine bytes, room for the replies, and no more than 12,288 bytes of records
 pub record Lent (c : Core) (state : List ℕ) (es : List Event) (replies report : List ℕ) : Type 0 where
   pub bytes : Bytes state × Bytes replies × Bytes report
   pub good : isState state ≡ true
+  pub told : Keeps state es
   pub nine : length report ≡ 9
   pub short : length (fileOf es) ≤ 12288
-  pub room : length (repliesTo es (returned c state es)) ≤ length replies
+  pub room : length (repliesTo es (returned c state es) (codesBefore c state es)) ≤ length replies
 
 -- ---- of any core that meets the promises, any events
 abbrev pub EventFiles : Type 0
 EventFiles =
     (c : Core) → Meets c → (state : List ℕ) (es : List Event) (replies report : List ℕ) → Sendable es → Lent c state es replies report
-    → FileOfEvents (c .run state (fileOf es) replies report) es (driven c state es) (returned c state es) replies
+    → FileOfEvents (c .run state (fileOf es) replies report) es (driven c state es) (returned c state es) (codesBefore c state es) replies
 
 -- ---- demand 3 for files: the file of a chain's events
 abbrev pub chainFile : ℕ → (ℕ → Bool) → List Step → List ℕ
-chainFile w sr ks = fileOf (runEvents w sr ks)
+chainFile w sr ks = fileOf (busRun w sr ks)
 
 -- no reply of the file holds another refusal than 0: its byte 4 is what a call that returns 0 for each event gives
 abbrev pub zerosFor : List Event → List ℕ
@@ -76,21 +88,21 @@ zerosFor (e ∷ es) = 0 ∷ zerosFor es
 
 pub record ChainFiles (c : Core) : Type 0 where
   -- every record is answered 0, error bits or not, and the call returns 0
-  pub answers : (state : List ℕ) (w : ℕ) (sr : ℕ → Bool) (ks : List Step) (replies report : List ℕ) → Begins state w → Constants ks → Lent c state (runEvents w sr ks) replies report
+  pub answers : (state : List ℕ) (w : ℕ) (sr : ℕ → Bool) (ks : List Step) (replies report : List ℕ) → Begins state w → Constants ks → Lent c state (busRun w sr ks) replies report
       → ((c .run state (chainFile w sr ks) replies report) .result ≡ 0)
       × ((c .run state (chainFile w sr ks) replies report) .replies
-      ≡ repliesTo (runEvents w sr ks) (zerosFor (runEvents w sr ks)) ++ drop (length (repliesTo (runEvents w sr ks) (zerosFor (runEvents w sr ks)))) replies)
+      ≡ repliesTo (busRun w sr ks) (zerosFor (busRun w sr ks)) (zerosFor (busRun w sr ks)) ++ drop (length (repliesTo (busRun w sr ks) (zerosFor (busRun w sr ks)) (zerosFor (busRun w sr ks)))) replies)
   -- the word of demand 2 lies on top, high byte first, a function of the word and the chain alone
-  pub bytes : (state : List ℕ) (w : ℕ) (sr : ℕ → Bool) (ks : List Step) (replies report : List ℕ) → Begins state w → Constants ks → Lent c state (runEvents w sr ks) replies report
+  pub bytes : (state : List ℕ) (w : ℕ) (sr : ℕ → Bool) (ks : List Step) (replies report : List ℕ) → Begins state w → Constants ks → Lent c state (busRun w sr ks) replies report
       → take 4 ((c .run state (chainFile w sr ks) replies report) .state) ≡ bytesOf 4 (wordAfter baseRule w ks)
   -- where the events of neither file leave an error bit, an even number of reversing steps keeps the order of the values, and an odd number turns it round
   pub even : (state state' : List ℕ) (v w : ℕ) (sr sr' : ℕ → Bool) (ks : List Step) (replies replies' report report' : List ℕ) → Begins state v → Begins state' w → Constants ks
-      → Lent c state (runEvents v sr ks) replies report → Lent c state' (runEvents w sr' ks) replies' report'
-      → drivenQuietly c state (runEvents v sr ks) ≡ true → drivenQuietly c state' (runEvents w sr' ks) ≡ true → Le v w → reversing ks % 2 ≡ 0
+      → Lent c state (busRun v sr ks) replies report → Lent c state' (busRun w sr' ks) replies' report'
+      → drivenQuietly c state (busRun v sr ks) ≡ true → drivenQuietly c state' (busRun w sr' ks) ≡ true → Le v w → reversing ks % 2 ≡ 0
       → Le (tos 4 ((c .run state (chainFile v sr ks) replies report) .state)) (tos 4 ((c .run state' (chainFile w sr' ks) replies' report') .state))
   pub odd : (state state' : List ℕ) (v w : ℕ) (sr sr' : ℕ → Bool) (ks : List Step) (replies replies' report report' : List ℕ) → Begins state v → Begins state' w → Constants ks
-      → Lent c state (runEvents v sr ks) replies report → Lent c state' (runEvents w sr' ks) replies' report'
-      → drivenQuietly c state (runEvents v sr ks) ≡ true → drivenQuietly c state' (runEvents w sr' ks) ≡ true → Le v w → reversing ks % 2 ≡ 1
+      → Lent c state (busRun v sr ks) replies report → Lent c state' (busRun w sr' ks) replies' report'
+      → drivenQuietly c state (busRun v sr ks) ≡ true → drivenQuietly c state' (busRun w sr' ks) ≡ true → Le v w → reversing ks % 2 ≡ 1
       → Le (tos 4 ((c .run state' (chainFile w sr' ks) replies' report') .state)) (tos 4 ((c .run state (chainFile v sr ks) replies report) .state))
 
 abbrev pub Demand3Files : Type 0

@@ -10,7 +10,7 @@ use Rattle.terms.specs.declared.Refusal.the-variants.{Done, UnknownCode, Derive
 use Rattle.terms.specs.declared.Width.the-variants.{Single, Double}
 use Rattle.terms.specs.Refusal.{numberOf}
 use Rattle.terms.specs.Width.{sizeOf, bitsOf}
-use Rattle.terms.specs.Limits.{stackBytes, stateBytes, reportBytes, mostInput, mostPayload, leastLength, mostLength}
+use Rattle.terms.specs.Limits.{stackBytes, stateBytes, longStateBytes, reportBytes, mostInput, mostPayload, leastLength, mostLength}
 use Rattle.float.specs.Word.{proper, value}
 use Rattle.stack.specs.Stack.{bytesOf, lowFirst, tos}
 use Rattle.codes.specs.declared.FloatOp.the-variants.{Add as FAdd, Sub as FSub, Mul as FMul, Div as FDiv}
@@ -68,7 +68,7 @@ wordWith sign k m = cond sign 2147483648 0 + (k + 64) % 128 * 16777216 + m
 -- ---- the statement
 pub record Figures : Type 0 where
   -- 16 bytes of stack, 19 of state, 9 of report, 12,288 of input; 1 to 240 pushed or popped, lengths 2 to 242; words of 2 and 4 bytes
-  pub limits : (stackBytes ≡ 16) × (stateBytes ≡ 19) × (reportBytes ≡ 9) × (mostInput ≡ 12288) × (mostPayload ≡ 240) × (leastLength ≡ 2) × (mostLength ≡ 242)
+  pub limits : (stackBytes ≡ 16) × (stateBytes ≡ 19) × (longStateBytes ≡ 21) × (reportBytes ≡ 9) × (mostInput ≡ 12288) × (mostPayload ≡ 240) × (leastLength ≡ 2) × (mostLength ≡ 242)
   pub widths : (sizeOf Single ≡ 2) × (sizeOf Double ≡ 4) × (bitsOf Single ≡ 16) × (bitsOf Double ≡ 32)
   -- the column 'no.' of 01's table of refusals
   pub refusals : map numberOf (Done ∷ UnknownCode ∷ DerivedCode ∷ HalfWord ∷ Improper ∷ NoSuchKind ∷ CutShort ∷ BadLength ∷ NoRoom ∷ InputTooLong ∷ NotFinite ∷ TooLarge ∷ TooSmall ∷ BadState ∷ BadReport ∷ [])

@@ -1,17 +1,18 @@
 -- Demand 1: what is turned away leaves all as it stood, and a bad or cut file keeps the records done before. Definitions and statements only:
 -- proofs/Kept.antt proves them. Assumes nothing.
-use Prim.Native.Nat.{ℕ, _-_, _≤_, _<_}
+use Prim.Native.Nat.{ℕ, _-_, _%_, _≤_, _<_}
 use mathlib.Core.Path.{_≡_}
+use mathlib.Core.Logic.{_⊎_}
 use mathlib.Core.Bool.{true, false}
 use mathlib.Core.List.{List, [], _∷_}
 use lib.ListN.{length, take, drop, getD}
-use Rattle.terms.specs.Limits.{stateBytes, mostInput, reportBytes}
+use Rattle.terms.specs.Limits.{mostInput, reportBytes}
 use Rattle.stack.specs.Stack.{Bytes}
-use Rattle.chip.specs.declared.State.{State}
+use Rattle.memory.specs.Memory.{Card}
 use Rattle.host.specs.declared.Reply.{Reply}
 use Rattle.records.specs.Record.{turnOf}
 use Rattle.records.specs.Run.{runOf}
-use Rattle.stored.specs.Bytes.{isState, stateOf, stateBytesOf}
+use Rattle.stored.specs.Bytes.{isState, cardIn, laidOut}
 use Rattle.pundaliket.specs.Calls.{Called, callOf, signalOf, sentOf}
 use Rattle.promises.specs.Records.{countAt}
 
@@ -37,19 +38,27 @@ LongInput =
     → callOf state input replies report
     ≡ record { result = 9; state = state; replies = replies; report = 9 ∷ 0 ∷ 0 ∷ 0 ∷ 0 ∷ 0 ∷ 0 ∷ 0 ∷ 0 ∷ [] }
 
+-- which two bytes stand for an error memory: no bit outside 4 to 1, no code without bits, no bits without a code
+pub record Remembers (bits code : ℕ) : Type 0 where
+  pub in-places : bits ≤ 30
+  pub even : bits % 2 ≡ 0
+  pub no-code : bits ≡ 0 → code ≡ 0
+  pub no-bits : code ≡ 0 → bits ≡ 0
+
 -- which bytes stand for a state
 pub record Stands (l : List ℕ) : Type 0 where
-  pub size : length l ≡ stateBytes
+  pub size : (length l ≡ 19) ⊎ (length l ≡ 21)
   pub pending : getD l 16 0 ≤ 1
   pub ready : getD l 17 0 < 128
   pub service : getD l 18 0 ≤ 1
+  pub memory : length l ≡ 21 → Remembers (getD l 19 0) (getD l 20 0)
 
 abbrev pub GoodStates : Type 0
 GoodStates = (l : List ℕ) → (isState l ≡ true → Stands l) × (Stands l → isState l ≡ true)
 
 -- they come back as they were: nothing is lost in reading and writing a state
 abbrev pub StateReturns : Type 0
-StateReturns = (l : List ℕ) → isState l ≡ true → stateBytesOf (stateOf l) ≡ l
+StateReturns = (l : List ℕ) → isState l ≡ true → laidOut (length l) (cardIn l) ≡ l
 
 -- an input of no bytes ends at once with 0
 abbrev pub EmptyInput : Type 0
@@ -68,15 +77,16 @@ EventKept =
 abbrev pub OutKept : Type 0
 OutKept = (reply : Reply) (out : List ℕ) → (sentOf reply out .result ≡ 0 → ⊥) → sentOf reply out .out ≡ out
 
--- a run and an event leave bytes that stand for a state again
+-- a run and an event leave bytes that stand for a state again, as many as were lent
 abbrev pub StateStays : Type 0
 StateStays =
     (state input replies report : List ℕ) → Bytes state → Bytes input → isState state ≡ true
-    → isState (callOf state input replies report .state) ≡ true
+    → (isState (callOf state input replies report .state) ≡ true) × (length (callOf state input replies report .state) ≡ length state)
 
 abbrev pub StateStaysEvent : Type 0
 StateStaysEvent =
-    (state : List ℕ) (kind byte : ℕ) → Bytes state → byte < 256 → isState state ≡ true → isState (signalOf state kind byte .state) ≡ true
+    (state : List ℕ) (kind byte : ℕ) → Bytes state → byte < 256 → isState state ≡ true
+    → (isState (signalOf state kind byte .state) ≡ true) × (length (signalOf state kind byte .state) ≡ length state)
 
 -- ---- replies
 
@@ -92,7 +102,7 @@ RepliesStay =
 -- a run that does not end with 0 ends with 5 to 8, the refusal of the record that stands after the bytes taken
 abbrev pub StopsThere : Type 0
 StopsThere =
-    (s : State) (l : List ℕ) (room : ℕ) → (runOf s l room .refusal ≡ 0 → ⊥)
+    (s : Card) (l : List ℕ) (room : ℕ) → (runOf s l room .refusal ≡ 0 → ⊥)
     → (5 ≤ runOf s l room .refusal) × (runOf s l room .refusal ≤ 8)
     × (turnOf (runOf s l room .state) (drop (runOf s l room .taken) l) (room - length (runOf s l room .written)) .refusal ≡ runOf s l room .refusal)
 

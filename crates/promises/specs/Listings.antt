@@ -4,8 +4,8 @@ use Prim.Native.Nat.{ℕ, _+_, _*_, _-_, _/_, _%_, _^_, _≤_, _<_}
 use mathlib.Core.Path.{_≡_}
 use mathlib.Core.List.{List, [], _∷_, _++_, map}
 use lib.ListN.{length, drop, getD}
-use Rattle.chip.specs.declared.State.{State}
 use Rattle.chip.specs.State.{resetState}
+use Rattle.memory.specs.Memory.{emptyMemory, Card, cardWith}
 use Rattle.records.specs.Record.{replyOf}
 use Rattle.records.specs.Run.{runOf}
 use Rattle.listing.specs.Text.{digit, decimal}
@@ -49,8 +49,8 @@ abbrev pub recordLine : ℕ → List ℕ → List ℕ → List ℕ
 recordLine number r reply =
     decimal number ++ ((32 ∷ decimal (getD r 2 0 + getD r 3 0 * 256)) ++ ((32 ∷ decimal (getD reply 4 0)) ++ (hexText (drop 5 reply) ++ (10 ∷ []))))
 
--- the lines of records in turn, each run as a file of its own on the state and in the room that the one before left
-abbrev pub linesFor : ℕ → State → List (List ℕ) → ℕ → List ℕ
+-- the lines of records in turn, each run as a file of its own on the card and in the room that the one before left
+abbrev pub linesFor : ℕ → Card → List (List ℕ) → ℕ → List ℕ
 linesFor number s [] room = []
 linesFor number s (r ∷ rs) room =
     recordLine number r (runOf s r room .written) ++ linesFor (number + 1) (runOf s r room .state) rs (room - length (runOf s r room .written))
@@ -59,11 +59,15 @@ linesFor number s (r ∷ rs) room =
 abbrev pub lastLine : ℕ → ℕ → List ℕ
 lastLine refusal taken = 101 ∷ 110 ∷ 100 ∷ ((32 ∷ decimal refusal) ++ ((32 ∷ decimal taken) ++ (10 ∷ [])))
 
+-- the card after a reset
+abbrev pub fresh : Card
+fresh = cardWith resetState emptyMemory
+
 pub record Listings : Type 0 where
   -- an input of at most 12,288 bytes, run from reset with 65,536 bytes of room and split into the records taken and the rest (Records: every file splits so):
   -- a line for each record taken, numbered from 1, then the last line
-  pub printed : (input : List ℕ) → length input ≤ 12288 → (split : Split resetState input 65536 (runOf resetState input 65536))
-      → printoutOf input ≡ linesFor 1 resetState (split .records) 65536 ++ lastLine (runOf resetState input 65536 .refusal) (total (lengths (split .records)))
+  pub printed : (input : List ℕ) → length input ≤ 12288 → (split : Split fresh input 65536 (runOf fresh input 65536))
+      → printoutOf input ≡ linesFor 1 fresh (split .records) 65536 ++ lastLine (runOf fresh input 65536 .refusal) (total (lengths (split .records)))
   -- a longer one prints only `end 9 0`
   pub long : (input : List ℕ) → 12288 < length input → printoutOf input ≡ 101 ∷ 110 ∷ 100 ∷ 32 ∷ 57 ∷ 32 ∷ 48 ∷ 10 ∷ []
   -- a reply that the run writes is the reply that the listing reads, whatever follows it

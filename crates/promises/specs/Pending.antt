@@ -16,7 +16,7 @@ use Rattle.chip.specs.Commands.{baseRule}
 use Rattle.chip.specs.Step.{answerTo}
 use Rattle.chip.specs.Events.{afterEvents}
 use Rattle.stored.specs.Bytes.{isState}
-use Rattle.promises.specs.Cores.{Core, Meets, Sendable, driven}
+use Rattle.promises.specs.Cores.{Core, Meets, Sendable, onBus, driven}
 
 -- an answer's number, the byte read, and the whole state after
 pub record Answers (a : Answer) (n byte : ℕ) (stack : List ℕ) (pending : Bool) (status : ℕ) (service : Bool) : Type 0 where
@@ -63,14 +63,14 @@ pub record Bus (rule : Rule) : Type 0 where
   -- every event of a state whose busy bit is set: 13, no byte, and the state as it came
   pub busy-answers : (e : Event) (l : List ℕ) (p : Bool) (u : ℕ) (v : Bool) → 128 ≤ u → Answers (answerTo rule (stateWith l p u v) e) 13 0 l p u v
   -- a half word is pending when pushes plus pops since reset are odd in number: over any events, refused ones among them, from a state reached by n
-  pub half-pending : (s : State) (n : ℕ) (es : List Event) → IsStack (s .stack) → s .status < 128 → Sendable es → Odd (s .pending) n
+  pub half-pending : (s : State) (n : ℕ) (es : List Event) → IsStack (s .stack) → s .status < 128 → Sendable (onBus es) → Odd (s .pending) n
       → Odd ((afterEvents rule s es) .pending) (movedSince n es)
 
 -- the same of the event call of any core that meets the promises: byte 16 of the state is that number modulo 2
 abbrev pub PendingByte : Type 0
 PendingByte =
-    (c : Core) → Meets c → (state : List ℕ) (es : List Event) → Bytes state → isState state ≡ true → Sendable es
-    → getD (driven c state es) 16 0 ≡ movedSince (getD state 16 0) es % 2
+    (c : Core) → Meets c → (state : List ℕ) (es : List Event) → Bytes state → isState state ≡ true → Sendable (onBus es)
+    → getD (driven c state (onBus es)) 16 0 ≡ movedSince (getD state 16 0) es % 2
 
 -- of the chip as it stands
 abbrev pub BusEvents : Type 0

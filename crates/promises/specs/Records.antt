@@ -10,12 +10,15 @@ use Rattle.terms.specs.Limits.{mostInput, mostPayload, reportBytes}
 use Rattle.stack.specs.Stack.{Bytes, IsStack}
 use Rattle.chip.specs.declared.State.{State}
 use Rattle.chip.specs.State.{busy, resetState, acknowledged}
+use Rattle.chip.specs.declared.Event.the-variants.{Command}
 use Rattle.chip.specs.Step.{commandOf}
 use Rattle.chip.specs.InTurn.{afterPushes, afterPops, bytesPopped}
+use Rattle.memory.specs.declared.Memory.{Memory}
+use Rattle.memory.specs.Memory.{emptyMemory, isMemory, Card, cardWith, keptAfter}
 use Rattle.records.specs.declared.head.Event.{Event}
 use Rattle.records.specs.Record.{payloadOf, answeredOf, headNumber, headOf, Holds}
 use Rattle.records.specs.Run.{Outcome, ended, took, after, runOf}
-use Rattle.stored.specs.Bytes.{isState, stateOf}
+use Rattle.stored.specs.Bytes.{isState, cardIn}
 use Rattle.pundaliket.specs.Calls.{callOf}
 
 -- ---- records in turn
@@ -31,36 +34,43 @@ abbrev pub joined : List (List ℕ) → List ℕ
 joined [] = []
 joined (r ∷ rs) = r ++ joined rs
 
--- each is a whole record and is taken, run as a file of its own on the state and in the room that the one before left
-abbrev pub EachTaken : State → List (List ℕ) → ℕ → Type 0
+-- each is a whole record and is taken, run as a file of its own on the card and in the room that the one before left
+abbrev pub EachTaken : Card → List (List ℕ) → ℕ → Type 0
 EachTaken s [] room = Unit
 EachTaken s (r ∷ rs) room =
     IsRecord r × (runOf s r room .refusal ≡ 0) × EachTaken (runOf s r room .state) rs (room - length (runOf s r room .written))
 
 -- the replies of records so run
-abbrev pub repliesOf : State → List (List ℕ) → ℕ → List (List ℕ)
+abbrev pub repliesOf : Card → List (List ℕ) → ℕ → List (List ℕ)
 repliesOf s [] room = []
 repliesOf s (r ∷ rs) room = runOf s r room .written ∷ repliesOf (runOf s r room .state) rs (room - length (runOf s r room .written))
 
 -- the records one at a time, then the rest: each adds its own bytes and its own reply
-abbrev pub inTurn : State → List (List ℕ) → List ℕ → ℕ → Outcome
+abbrev pub inTurn : Card → List (List ℕ) → List ℕ → ℕ → Outcome
 inTurn s [] rest room = runOf s rest room
 inTurn s (r ∷ rs) rest room =
     after (length r) (runOf s r room .written) (inTurn (runOf s r room .state) rs rest (room - length (runOf s r room .written)))
 
 -- for every split of a file into whole records, each taken, and a rest: state, replies and counts are those of one at a time, then the rest
 abbrev pub InTurn : Type 0
-InTurn = (s : State) (rs : List (List ℕ)) (rest : List ℕ) (room : ℕ) → EachTaken s rs room → runOf s (joined rs ++ rest) room ≡ inTurn s rs rest room
+InTurn = (s : Card) (rs : List (List ℕ)) (rest : List ℕ) (room : ℕ) → EachTaken s rs room → runOf s (joined rs ++ rest) room ≡ inTurn s rs rest room
 
 -- the refusal byte of each reply is 0 to 4
 abbrev pub EachSmall : List (List ℕ) → Type 0
 EachSmall [] = Unit
 EachSmall (r ∷ rs) = (getD r 4 0 ≤ 4) × EachSmall rs
 
--- from any state that 13 does not turn away the chip answers every record 0 to 4, in its reply, and the run goes on
+-- a card that 13 does not turn away
+pub record Accepted (s : Card) : Type 0 where
+  pub stack : IsStack (s .chip .stack)
+  pub calm : busy (s .chip) ≡ false
+  pub memory : isMemory (s .memory .bits) (s .memory .code) ≡ true
+  pub code : s .memory .code < 256
+
+-- from any such card every record is answered 0 to 4, in its reply, and the run goes on
 abbrev pub InReply : Type 0
 InReply =
-    (s : State) (rs : List (List ℕ)) (room : ℕ) → IsStack (s .stack) → busy s ≡ false → Bytes (joined rs) → EachTaken s rs room
+    (s : Card) (rs : List (List ℕ)) (room : ℕ) → Accepted s → Bytes (joined rs) → EachTaken s rs room
     → EachSmall (repliesOf s rs room)
 
 -- ---- the counts
@@ -75,7 +85,7 @@ lengths (l ∷ ls) = length l ∷ lengths ls
 
 -- every file is such a list of records and a rest that is empty or begins with the record that stops the run; the two counts are the sums of
 -- the sizes of those records and of their replies
-pub record Split (s : State) (l : List ℕ) (room : ℕ) (o : Outcome) : Type 0 where
+pub record Split (s : Card) (l : List ℕ) (room : ℕ) (o : Outcome) : Type 0 where
   pub records : List (List ℕ)
   pub rest : List ℕ
   pub parts : l ≡ joined records ++ rest
@@ -87,7 +97,7 @@ pub record Split (s : State) (l : List ℕ) (room : ℕ) (o : Outcome) : Type 0 
   pub stopped : (o .refusal ≡ 0 → ⊥) → runOf (o .state) rest (room - length (o .written)) ≡ ended (o .refusal) (o .state)
 
 abbrev pub Counted : Type 0
-Counted = (s : State) (l : List ℕ) (room : ℕ) → Split s l room (runOf s l room)
+Counted = (s : Card) (l : List ℕ) (room : ℕ) → Split s l room (runOf s l room)
 
 -- four bytes from a place, little-endian
 abbrev pub countAt : List ℕ → ℕ → ℕ
@@ -97,41 +107,58 @@ countAt l i = getD l i 0 + 256 * (getD l (i + 1) 0 + 256 * (getD l (i + 2) 0 + 2
 abbrev pub CountsExact : Type 0
 CountsExact =
     (state input replies report : List ℕ) → length report ≡ reportBytes → isState state ≡ true → length input ≤ mostInput
-    → (countAt (callOf state input replies report .report) 1 ≡ runOf (stateOf state) input (length replies) .taken)
-    × (countAt (callOf state input replies report .report) 5 ≡ length (runOf (stateOf state) input (length replies) .written))
+    → (countAt (callOf state input replies report .report) 1 ≡ runOf (cardIn state) input (length replies) .taken)
+    × (countAt (callOf state input replies report .report) 5 ≡ length (runOf (cardIn state) input (length replies) .written))
 
--- ---- one whole record, by 01's table of kinds
+-- ---- one whole record, by the table of kinds, on a chip beside a memory
 
 abbrev pub PushRecord : Type 0
 PushRecord =
-    (s : State) (payload : List ℕ) (room : ℕ) → busy s ≡ false → 1 ≤ length payload → length payload ≤ mostPayload → 5 ≤ room
-    → runOf s ((2 + length payload) ∷ 0 ∷ 1 ∷ 0 ∷ payload) room ≡ took (afterPushes s payload) (4 + length payload) (3 ∷ 0 ∷ 129 ∷ 0 ∷ 0 ∷ [])
+    (s : State) (m : Memory) (payload : List ℕ) (room : ℕ) → busy s ≡ false → 1 ≤ length payload → length payload ≤ mostPayload → 5 ≤ room
+    → runOf (cardWith s m) ((2 + length payload) ∷ 0 ∷ 1 ∷ 0 ∷ payload) room ≡ took (cardWith (afterPushes s payload) m) (4 + length payload) (3 ∷ 0 ∷ 129 ∷ 0 ∷ 0 ∷ [])
 
 abbrev pub PopRecord : Type 0
 PopRecord =
-    (s : State) (n room : ℕ) → busy s ≡ false → 1 ≤ n → n ≤ mostPayload → 5 + n ≤ room
-    → runOf s (3 ∷ 0 ∷ 2 ∷ 0 ∷ n ∷ []) room ≡ took (afterPops n s) 5 ((3 + n) ∷ 0 ∷ 130 ∷ 0 ∷ 0 ∷ bytesPopped n s)
+    (s : State) (m : Memory) (n room : ℕ) → busy s ≡ false → 1 ≤ n → n ≤ mostPayload → 5 + n ≤ room
+    → runOf (cardWith s m) (3 ∷ 0 ∷ 2 ∷ 0 ∷ n ∷ []) room ≡ took (cardWith (afterPops n s) m) 5 ((3 + n) ∷ 0 ∷ 130 ∷ 0 ∷ 0 ∷ bytesPopped n s)
 
 abbrev pub CommandRecord : Type 0
 CommandRecord =
-    (s : State) (code room : ℕ) → 5 ≤ room
-    → runOf s (3 ∷ 0 ∷ 3 ∷ 0 ∷ code ∷ []) room ≡ took (commandOf s code .state) 5 (3 ∷ 0 ∷ 131 ∷ 0 ∷ numberOf (commandOf s code .refusal) ∷ [])
+    (s : State) (m : Memory) (code room : ℕ) → 5 ≤ room
+    → runOf (cardWith s m) (3 ∷ 0 ∷ 3 ∷ 0 ∷ code ∷ []) room
+    ≡ took (cardWith (commandOf s code .state) (keptAfter m (Command code) (commandOf s code))) 5 (3 ∷ 0 ∷ 131 ∷ 0 ∷ numberOf (commandOf s code .refusal) ∷ [])
 
 abbrev pub StatusRecord : Type 0
-StatusRecord = (s : State) (room : ℕ) → busy s ≡ false → 6 ≤ room → runOf s (2 ∷ 0 ∷ 4 ∷ 0 ∷ []) room ≡ took s 4 (4 ∷ 0 ∷ 132 ∷ 0 ∷ 0 ∷ s .status ∷ [])
+StatusRecord =
+    (s : State) (m : Memory) (room : ℕ) → busy s ≡ false → 6 ≤ room
+    → runOf (cardWith s m) (2 ∷ 0 ∷ 4 ∷ 0 ∷ []) room ≡ took (cardWith s m) 4 (4 ∷ 0 ∷ 132 ∷ 0 ∷ 0 ∷ s .status ∷ [])
 
 abbrev pub ResetRecord : Type 0
-ResetRecord = (s : State) (room : ℕ) → busy s ≡ false → 5 ≤ room → runOf s (2 ∷ 0 ∷ 5 ∷ 0 ∷ []) room ≡ took resetState 4 (3 ∷ 0 ∷ 133 ∷ 0 ∷ 0 ∷ [])
+ResetRecord =
+    (s : State) (m : Memory) (room : ℕ) → busy s ≡ false → 5 ≤ room
+    → runOf (cardWith s m) (2 ∷ 0 ∷ 5 ∷ 0 ∷ []) room ≡ took (cardWith resetState emptyMemory) 4 (3 ∷ 0 ∷ 133 ∷ 0 ∷ 0 ∷ [])
 
 abbrev pub AcknowledgeRecord : Type 0
 AcknowledgeRecord =
-    (s : State) (room : ℕ) → busy s ≡ false → 5 ≤ room → runOf s (2 ∷ 0 ∷ 6 ∷ 0 ∷ []) room ≡ took (acknowledged s) 4 (3 ∷ 0 ∷ 134 ∷ 0 ∷ 0 ∷ [])
+    (s : State) (m : Memory) (room : ℕ) → busy s ≡ false → 5 ≤ room
+    → runOf (cardWith s m) (2 ∷ 0 ∷ 6 ∷ 0 ∷ []) room ≡ took (cardWith (acknowledged s) m) 4 (3 ∷ 0 ∷ 134 ∷ 0 ∷ 0 ∷ [])
+
+-- 02, ask 3: "Record kind 7 returns the two bytes in that order; kind 8 clears them; neither has a payload"
+abbrev pub RecallRecord : Type 0
+RecallRecord =
+    (s : State) (m : Memory) (room : ℕ) → busy s ≡ false → 7 ≤ room
+    → runOf (cardWith s m) (2 ∷ 0 ∷ 7 ∷ 0 ∷ []) room ≡ took (cardWith s m) 4 (5 ∷ 0 ∷ 135 ∷ 0 ∷ 0 ∷ m .bits ∷ m .code ∷ [])
+
+abbrev pub ForgetRecord : Type 0
+ForgetRecord =
+    (s : State) (m : Memory) (room : ℕ) → busy s ≡ false → 5 ≤ room
+    → runOf (cardWith s m) (2 ∷ 0 ∷ 8 ∷ 0 ∷ []) room ≡ took (cardWith s emptyMemory) 4 (3 ∷ 0 ∷ 136 ∷ 0 ∷ 0 ∷ [])
 
 -- a whole record whose reply has no room is 8, and nothing of it is done
 abbrev pub NoRoomRecord : Type 0
-NoRoomRecord = (s : State) (r : List ℕ) (room : ℕ) (one : IsRecord r) → room < 5 + answeredOf (one .event) → runOf s r room ≡ ended 8 s
+NoRoomRecord = (s : Card) (r : List ℕ) (room : ℕ) (one : IsRecord r) → room < 5 + answeredOf (one .event) → runOf s r room ≡ ended 8 s
 
 -- a file that begins with no whole record ends with the number of its head, and nothing is done
 abbrev pub BadHead : Type 0
 BadHead =
-    (s : State) (l : List ℕ) (room : ℕ) → 0 < length l → (headNumber (headOf l) ≡ 0 → ⊥) → runOf s l room ≡ ended (headNumber (headOf l)) s
+    (s : Card) (l : List ℕ) (room : ℕ) → 0 < length l → (headNumber (headOf l) ≡ 0 → ⊥) → runOf s l room ≡ ended (headNumber (headOf l)) s

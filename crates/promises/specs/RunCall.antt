@@ -6,21 +6,28 @@ use mathlib.Core.Bool.{true, cond}
 use mathlib.Core.List.{List, [], _∷_, _++_}
 use lib.ListN.{length, drop, getD}
 use Rattle.stack.specs.Stack.{Bytes}
-use Rattle.chip.specs.declared.State.{State}
+use Rattle.memory.specs.Memory.{emptyMemory, Card}
 use Rattle.records.specs.Run.{Outcome, runOf}
 use Rattle.stored.specs.Bytes.{isState}
 use Rattle.pundaliket.specs.Calls.{Called, callOf}
 use Rattle.promises.specs.Records.{countAt}
 
--- the state that bytes stand for: 0 to 15 the stack, top first, 16 pending, 17 status, 18 service
-pub record StandsFor (bytes : List ℕ) (s : State) : Type 0 where
-  pub laid : bytes ≡ s .stack ++ (cond (s .pending) 1 0 ∷ s .status ∷ cond (s .service) 1 0 ∷ [])
-  pub sixteen : length (s .stack) ≡ 16
+-- the bytes of a card, of which there are n: 0 to 15 the stack, top first, 16 pending, 17 status, 18 service, and of 21 the memory's bits and its code
+pub record Laid (n : ℕ) (bytes : List ℕ) (c : Card) : Type 0 where
+  pub sixteen : length (c .chip .stack) ≡ 16
+  pub short : n ≡ 19 → bytes ≡ c .chip .stack ++ (cond (c .chip .pending) 1 0 ∷ c .chip .status ∷ cond (c .chip .service) 1 0 ∷ [])
+  pub long : n ≡ 21 → bytes ≡ c .chip .stack ++ (cond (c .chip .pending) 1 0 ∷ c .chip .status ∷ cond (c .chip .service) 1 0 ∷ c .memory .bits ∷ c .memory .code ∷ [])
+
+-- the card that bytes stand for: "a 19-byte state is read with an empty memory"
+pub record StandsFor (bytes : List ℕ) (c : Card) : Type 0 where
+  pub laid : Laid (length bytes) bytes c
+  pub empty : length bytes ≡ 19 → c .memory ≡ emptyMemory
 
 -- the call over what the run of the file leaves
-pub record Reports (c : Called) (o : Outcome) (replies : List ℕ) : Type 0 where
+pub record Reports (n : ℕ) (c : Called) (o : Outcome) (replies : List ℕ) : Type 0 where
   pub result : c .result ≡ o .refusal
-  pub state : StandsFor (c .state) (o .state)
+  -- as many bytes of state as were lent
+  pub state : Laid n (c .state) (o .state)
   -- the replies written, and every byte past them as it stood
   pub replies-are : c .replies ≡ o .written ++ drop (length (o .written)) replies
   -- nine bytes: the refusal, the bytes of whole records taken, the bytes of replies written, each count four bytes little-endian
@@ -33,8 +40,8 @@ pub record Reports (c : Called) (o : Outcome) (replies : List ℕ) : Type 0 wher
 -- for a state that is taken, a report of 9 bytes and at most 12,288 bytes of input
 abbrev pub RunCall : Type 0
 RunCall =
-    (s : State) (state input replies report : List ℕ) → Bytes state → Bytes input → isState state ≡ true → StandsFor state s → length report ≡ 9 → length input ≤ 12288
-    → Reports (callOf state input replies report) (runOf s input (length replies)) replies
+    (c : Card) (state input replies report : List ℕ) → Bytes state → Bytes input → isState state ≡ true → StandsFor state c → length report ≡ 9 → length input ≤ 12288
+    → Reports (length state) (callOf state input replies report) (runOf c input (length replies)) replies
 
 -- byte 0 of the report is the number returned, for every call but one that returns 14
 abbrev pub ReportsResult : Type 0

@@ -5,11 +5,13 @@ use mathlib.Core.Path.{_≡_}
 use mathlib.Core.Logic.{_⊎_}
 use mathlib.Core.Bool.{true, false}
 use mathlib.Core.List.{List, [], _∷_, _++_}
-use lib.ListN.{length, take}
+use lib.ListN.{length, take, getD}
+use Rattle.stack.specs.Stack.{zeros}
 use Rattle.host.specs.declared.Reply.{Reply}
 use Rattle.stored.specs.Bytes.{isState}
 use Rattle.pundaliket.specs.Calls.{Signal, signalOf, sentOf}
 use Rattle.promises.specs.Host.{number, outward, inward}
+use Rattle.promises.specs.Kept.{Remembers}
 
 -- ---- a single event
 
@@ -17,31 +19,42 @@ use Rattle.promises.specs.Host.{number, outward, inward}
 abbrev pub signalled : ℕ → List ℕ → Signal
 signalled result state = record { result = result; state = state }
 
--- 19 bytes that are a state: the stack, pending, status, service
-pub record Parts (stack : List ℕ) (p u v : ℕ) : Type 0 where
+-- what may stand behind the service byte: nothing, or an error memory's bits and code
+pub data Tail : List ℕ → Type 0 where
+  none : Tail []
+  two : (bits code : ℕ) → Remembers bits code → Tail (bits ∷ code ∷ [])
+
+-- 19 or 21 bytes that are a state: the stack, pending, status, service, and what follows
+pub record Parts (stack : List ℕ) (p u v : ℕ) (t : List ℕ) : Type 0 where
   pub sixteen : length stack ≡ 16
   pub pending : p ≤ 1
   pub ready : u < 128
   pub service : v ≤ 1
+  pub tail : Tail t
 
 pub record EventCall : Type 0 where
   -- a bad state: 256 times 13, before the kind is looked at; nothing is written
   pub bad-state : (state : List ℕ) (kind byte : ℕ) → isState state ≡ false → signalOf state kind byte ≡ signalled 3328 state
-  -- a kind that is not 1 to 6, all of its bits looked at: 256 times 5, whatever the byte
-  pub bad-kind : (state : List ℕ) (kind byte : ℕ) → isState state ≡ true → (kind ≡ 0) ⊎ (6 < kind) → signalOf state kind byte ≡ signalled 1280 state
+  -- a kind that is not 1 to 8, all of its bits looked at: 256 times 5, whatever the byte
+  pub bad-kind : (state : List ℕ) (kind byte : ℕ) → isState state ≡ true → (kind ≡ 0) ⊎ (8 < kind) → signalOf state kind byte ≡ signalled 1280 state
   -- the byte is ignored but for a push and a command
   pub byte-ignored : (state : List ℕ) (kind byte other : ℕ) → (kind ≡ 1 → ⊥) → (kind ≡ 3 → ⊥) → signalOf state kind byte ≡ signalOf state kind other
-  -- 1 push, 2 pop, 4 status, 5 reset, 6 acknowledge: 0 and the byte read, and all 19 bytes after
-  pub push-call : (b : ℕ) (l : List ℕ) (p u v : ℕ) → Parts l p u v
-      → signalOf (l ++ (p ∷ u ∷ v ∷ [])) 1 b ≡ signalled 0 ((b ∷ take 15 l) ++ ((1 - p) ∷ u ∷ v ∷ []))
-  pub pop-call : (b byte : ℕ) (l : List ℕ) (p u v : ℕ) → Parts (b ∷ l) p u v
-      → signalOf ((b ∷ l) ++ (p ∷ u ∷ v ∷ [])) 2 byte ≡ signalled b ((l ++ (b ∷ [])) ++ ((1 - p) ∷ u ∷ v ∷ []))
-  pub status-call : (byte : ℕ) (l : List ℕ) (p u v : ℕ) → Parts l p u v
-      → signalOf (l ++ (p ∷ u ∷ v ∷ [])) 4 byte ≡ signalled u (l ++ (p ∷ u ∷ v ∷ []))
-  pub reset-call : (byte : ℕ) (l : List ℕ) (p u v : ℕ) → Parts l p u v
-      → signalOf (l ++ (p ∷ u ∷ v ∷ [])) 5 byte ≡ signalled 0 (0 ∷ 0 ∷ 0 ∷ 0 ∷ 0 ∷ 0 ∷ 0 ∷ 0 ∷ 0 ∷ 0 ∷ 0 ∷ 0 ∷ 0 ∷ 0 ∷ 0 ∷ 0 ∷ 0 ∷ 0 ∷ 0 ∷ [])
-  pub acknowledge-call : (byte : ℕ) (l : List ℕ) (p u v : ℕ) → Parts l p u v
-      → signalOf (l ++ (p ∷ u ∷ v ∷ [])) 6 byte ≡ signalled 0 (l ++ (p ∷ u ∷ 0 ∷ []))
+  -- 1 push, 2 pop, 4 status, 5 reset, 6 acknowledge: 0 and the byte read, and all bytes after; a reset empties the memory too
+  pub push-call : (b : ℕ) (l : List ℕ) (p u v : ℕ) (t : List ℕ) → Parts l p u v t
+      → signalOf (l ++ (p ∷ u ∷ v ∷ t)) 1 b ≡ signalled 0 ((b ∷ take 15 l) ++ ((1 - p) ∷ u ∷ v ∷ t))
+  pub pop-call : (b byte : ℕ) (l : List ℕ) (p u v : ℕ) (t : List ℕ) → Parts (b ∷ l) p u v t
+      → signalOf ((b ∷ l) ++ (p ∷ u ∷ v ∷ t)) 2 byte ≡ signalled b ((l ++ (b ∷ [])) ++ ((1 - p) ∷ u ∷ v ∷ t))
+  pub status-call : (byte : ℕ) (l : List ℕ) (p u v : ℕ) (t : List ℕ) → Parts l p u v t
+      → signalOf (l ++ (p ∷ u ∷ v ∷ t)) 4 byte ≡ signalled u (l ++ (p ∷ u ∷ v ∷ t))
+  pub reset-call : (byte : ℕ) (l : List ℕ) (p u v : ℕ) (t : List ℕ) → Parts l p u v t
+      → signalOf (l ++ (p ∷ u ∷ v ∷ t)) 5 byte ≡ signalled 0 (zeros 16 ++ (0 ∷ 0 ∷ 0 ∷ zeros (length t)))
+  pub acknowledge-call : (byte : ℕ) (l : List ℕ) (p u v : ℕ) (t : List ℕ) → Parts l p u v t
+      → signalOf (l ++ (p ∷ u ∷ v ∷ t)) 6 byte ≡ signalled 0 (l ++ (p ∷ u ∷ 0 ∷ t))
+  -- 7 the memory read, its bits alone, which are 0 on 19 bytes, and 8 the memory cleared; neither touches anything else
+  pub recall-call : (byte : ℕ) (l : List ℕ) (p u v : ℕ) (t : List ℕ) → Parts l p u v t
+      → signalOf (l ++ (p ∷ u ∷ v ∷ t)) 7 byte ≡ signalled (getD t 0 0) (l ++ (p ∷ u ∷ v ∷ t))
+  pub forget-call : (byte : ℕ) (l : List ℕ) (p u v : ℕ) (t : List ℕ) → Parts l p u v t
+      → signalOf (l ++ (p ∷ u ∷ v ∷ t)) 8 byte ≡ signalled 0 (l ++ (p ∷ u ∷ v ∷ zeros (length t)))
 
 -- ---- a conversion, outward and inward
 

@@ -9,9 +9,9 @@ use lib.ListN.{length, take}
 use Rattle.terms.specs.Limits.{mostInput, reportBytes}
 use Rattle.stack.specs.Stack.{Bytes, zeros}
 use Rattle.records.specs.Run.{runOf as fileRun}
-use Rattle.stored.specs.Bytes.{isState, stateOf}
-use Rattle.promises.specs.Cores.{Core, Meets, described, driven, Begins}
-use Rattle.promises.specs.Chains.{Step, Change, Constants, runEvents}
+use Rattle.stored.specs.Bytes.{isState, cardIn}
+use Rattle.promises.specs.Cores.{Core, Meets, described, driven, Begins, busRun}
+use Rattle.promises.specs.Chains.{Step, Change, Constants}
 use Rattle.promises.specs.Records.{IsRecord, Split, total, lengths, repliesOf, countAt}
 
 -- no core of a class meets the promises
@@ -58,11 +58,11 @@ pub data FirstRecordOnly (c : Core) : Type 0 where
 -- replies (Records: every file splits so); or it is not 0 where the call is turned away with 13 or 9
 pub data InventedCounts (c : Core) : Type 0 where
   wrong-taken : (state input replies report : List ℕ) → Bytes state → Bytes input → Bytes replies → Bytes report → length report ≡ reportBytes → isState state ≡ true → length input ≤ mostInput
-      → (split : Split (stateOf state) input (length replies) (fileRun (stateOf state) input (length replies)))
+      → (split : Split (cardIn state) input (length replies) (fileRun (cardIn state) input (length replies)))
       → (countAt ((c .run state input replies report) .report) 1 ≡ total (lengths (split .records)) → ⊥) → InventedCounts c
   wrong-written : (state input replies report : List ℕ) → Bytes state → Bytes input → Bytes replies → Bytes report → length report ≡ reportBytes → isState state ≡ true → length input ≤ mostInput
-      → (split : Split (stateOf state) input (length replies) (fileRun (stateOf state) input (length replies)))
-      → (countAt ((c .run state input replies report) .report) 5 ≡ total (lengths (repliesOf (stateOf state) (split .records) (length replies))) → ⊥) → InventedCounts c
+      → (split : Split (cardIn state) input (length replies) (fileRun (cardIn state) input (length replies)))
+      → (countAt ((c .run state input replies report) .report) 5 ≡ total (lengths (repliesOf (cardIn state) (split .records) (length replies))) → ⊥) → InventedCounts c
   wrong-away : (state input replies report : List ℕ) → Bytes state → Bytes input → Bytes replies → Bytes report → length report ≡ reportBytes → (isState state ≡ false) ⊎ (mostInput < length input)
       → ((countAt ((c .run state input replies report) .report) 1 ≡ 0) × (countAt ((c .run state input replies report) .report) 5 ≡ 0) → ⊥) → InventedCounts c
 
@@ -70,7 +70,7 @@ pub data InventedCounts (c : Core) : Type 0 where
 -- after every chain of one or more steps, from any state with nothing pending, on any proper word, the zero word lies on top
 abbrev pub ZeroChains : Core → Type 0
 ZeroChains c =
-    (state : List ℕ) (w : ℕ) (sr : ℕ → Bool) (k : Step) (ks : List Step) → Begins state w → Constants (k ∷ ks) → take 4 (driven c state (runEvents w sr (k ∷ ks))) ≡ zeros 4
+    (state : List ℕ) (w : ℕ) (sr : ℕ → Bool) (k : Step) (ks : List Step) → Begins state w → Constants (k ∷ ks) → take 4 (driven c state (busRun w sr (k ∷ ks))) ≡ zeros 4
 
 -- ---- the inputs that tell
 -- the 19 bytes of a state after reset, a report's nine bytes, and a file of two records that push 55 and AA
@@ -113,7 +113,7 @@ pub record Tells (c : Core) : Type 0 where
   pub float-out : (c .word-to-f32 0x01800000 (zeros 4)) .out ≡ 0 ∷ 0 ∷ 0x80 ∷ 0x3f ∷ []
   pub word-out : (c .f32-to-word 0x3f800000 (zeros 4)) .out ≡ 0 ∷ 0 ∷ 0x80 ∷ 1 ∷ []
   -- (f): the sign of 1 changed is -1
-  pub chain : take 4 (driven c fresh (runEvents 0x01800000 (λ (n : ℕ). false) (Change ∷ []))) ≡ 0x81 ∷ 0x80 ∷ 0 ∷ 0 ∷ []
+  pub chain : take 4 (driven c fresh (busRun 0x01800000 (λ (n : ℕ). false) (Change ∷ []))) ≡ 0x81 ∷ 0x80 ∷ 0 ∷ 0 ∷ []
 
 -- ---- the statement
 pub record WrongCores : Type 0 where

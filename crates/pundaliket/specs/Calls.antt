@@ -10,12 +10,12 @@ use Rattle.terms.specs.declared.Refusal.{Refusal}
 use Rattle.terms.specs.declared.Refusal.the-variants.{NoSuchKind, NoRoom, InputTooLong, BadState, BadReport}
 use Rattle.terms.specs.Refusal.{numberOf}
 use Rattle.terms.specs.Limits.{reportBytes, mostInput}
-use Rattle.chip.specs.declared.State.{State}
-use Rattle.chip.specs.declared.Answer.{Answer}
-use Rattle.chip.specs.Step.{pushOf, popOf, readOf, resetOf, acknowledgeOf, commandOf, eventOf}
+use Rattle.chip.specs.declared.Event.the-variants.{Push, Pop, Command, Status, Reset, Acknowledge}
+use Rattle.memory.specs.declared.Event.the-variants.{Chip, Recall, Forget}
+use Rattle.memory.specs.Memory.{Card, CardAnswer, eventIn}
 use Rattle.host.specs.declared.Reply.{Reply}
 use Rattle.records.specs.Run.{Outcome, runOf}
-use Rattle.stored.specs.Bytes.{isState, stateOf, stateBytesOf, reportOf}
+use Rattle.stored.specs.Bytes.{isState, cardIn, laidOut, reportOf}
 use Rattle.pundaliket.specs.declared.Named.{Named}
 use Rattle.pundaliket.specs.declared.Named.the-variants.{Known, Unknown}
 
@@ -28,11 +28,11 @@ pub record Called : Type 0 where
   pub replies : List ℕ
   pub report : List ℕ
 
--- after a run: replies past the written ones stay
-abbrev pub ranOf : Outcome → List ℕ → Called
-ranOf o replies = record {
+-- after a run on a state of so many bytes: replies past the written ones stay
+abbrev pub ranOf : ℕ → Outcome → List ℕ → Called
+ranOf n o replies = record {
   result = o .refusal;
-  state = stateBytesOf (o .state);
+  state = laidOut n (o .state);
   replies = o .written ++ drop (length (o .written)) replies;
   report = reportOf (o .refusal) (o .taken) (length (o .written));
 }
@@ -46,7 +46,7 @@ unfoldable pub callOf : List ℕ → List ℕ → List ℕ → List ℕ → Call
 callOf state input replies report =
     cond (eqb (length report) reportBytes)
     (cond (isState state)
-    (cond (ltb mostInput (length input)) (away InputTooLong state replies) (ranOf (runOf (stateOf state) input (length replies)) replies))
+    (cond (ltb mostInput (length input)) (away InputTooLong state replies) (ranOf (length state) (runOf (cardIn state) input (length replies)) replies))
     (away BadState state replies))
     (record { result = numberOf BadReport; state = state; replies = replies; report = report })
 
@@ -59,25 +59,27 @@ pub record Calls (c : Called) (result : ℕ) (state replies report : List ℕ) :
 
 -- ---- a single event
 
--- an event by its kind: 5 for a kind that is not 1 to 6
-abbrev pub answerToKind : State → ℕ → ℕ → Answer
-answerToKind s kind byte =
-    cond (eqb kind 1) (pushOf s byte)
-    (cond (eqb kind 2) (popOf s)
-    (cond (eqb kind 3) (commandOf s byte)
-    (cond (eqb kind 4) (readOf s)
-    (cond (eqb kind 5) (resetOf s)
-    (cond (eqb kind 6) (acknowledgeOf s)
-    (record { refusal = NoSuchKind; byte = 0; state = s }))))))
+-- an event by its kind: 5 for a kind that is not 1 to 8
+abbrev pub answerToKind : Card → ℕ → ℕ → CardAnswer
+answerToKind c kind byte =
+    cond (eqb kind 1) (eventIn c (Chip (Push byte)))
+    (cond (eqb kind 2) (eventIn c (Chip Pop))
+    (cond (eqb kind 3) (eventIn c (Chip (Command byte)))
+    (cond (eqb kind 4) (eventIn c (Chip Status))
+    (cond (eqb kind 5) (eventIn c (Chip Reset))
+    (cond (eqb kind 6) (eventIn c (Chip Acknowledge))
+    (cond (eqb kind 7) (eventIn c Recall)
+    (cond (eqb kind 8) (eventIn c Forget)
+    (record { refusal = NoSuchKind; byte = 0; card = c }))))))))
 
 -- the answer to what a kind names: the event's, or 5
-abbrev pub answeredBy : State → Named → Answer
-answeredBy s (Known e) = eventOf s e
-answeredBy s Unknown = record { refusal = NoSuchKind; byte = 0; state = s }
+abbrev pub answeredBy : Card → Named → CardAnswer
+answeredBy c (Known e) = eventIn c e
+answeredBy c Unknown = record { refusal = NoSuchKind; byte = 0; card = c }
 
--- a kind and a byte name it: its answer is theirs on every state
+-- a kind and a byte name it: its answer is theirs on every card
 abbrev pub Names : ℕ → ℕ → Named → Type 0
-Names kind byte n = (s : State) → answeredBy s n ≡ answerToKind s kind byte
+Names kind byte n = (c : Card) → answeredBy c n ≡ answerToKind c kind byte
 
 -- what the call returns, and what the state holds after
 pub record Signal : Type 0 where
@@ -89,16 +91,16 @@ abbrev pub joinedOf : ℕ → ℕ → ℕ
 joinedOf refusal byte = 256 * refusal + byte
 
 -- the state is written on 0 alone
-abbrev pub signalBy : List ℕ → Answer → Signal
+abbrev pub signalBy : List ℕ → CardAnswer → Signal
 signalBy state a = record {
   result = joinedOf (numberOf (a .refusal)) (a .byte);
-  state = cond (eqb (numberOf (a .refusal)) 0) (stateBytesOf (a .state)) state;
+  state = cond (eqb (numberOf (a .refusal)) 0) (laidOut (length state) (a .card)) state;
 }
 
 -- 13 comes first
 unfoldable pub signalOf : List ℕ → ℕ → ℕ → Signal
 signalOf state kind byte =
-    cond (isState state) (signalBy state (answerToKind (stateOf state) kind byte)) (record { result = joinedOf (numberOf BadState) 0; state = state })
+    cond (isState state) (signalBy state (answerToKind (cardIn state) kind byte)) (record { result = joinedOf (numberOf BadState) 0; state = state })
 
 pub record Signals (t : Signal) (result : ℕ) (state : List ℕ) : Type 0 where
   pub result-is : result ≡ t .result

@@ -1,14 +1,15 @@
 // The calls that the rack controller's firmware makes, on byte slices that it lends. Every
 // call refuses by 01's number, asks nothing of its caller, and says what each slice holds after.
-use chip::Event;
-use chip::place;
 use host::Reply;
 use little::put_word;
+use memory::Event;
+use memory::place;
+use memory::place::Rest;
 use records::run::run_all;
 use stored::fill_report;
-use stored::flags;
 use stored::is_state;
-use stored::put_flags;
+use stored::put_rest;
+use stored::rest;
 use terms::Refusal;
 use terms::number;
 ghost use mathlib.Core.Path.{_≡_};
@@ -18,9 +19,9 @@ ghost use lib.ListN.{length};
 ghost use Rattle.host.specs.Host.{hostOf, takenOf, hostReply, takenReply};
 ghost use Rattle.records.specs.Run.{runOf};
 ghost use Rattle.terms.specs.Refusal.{numberOf};
-ghost use Rattle.terms.specs.Limits.{stateBytes, reportBytes};
-ghost use Rattle.chip.specs.Step.{eventOf};
-ghost use Rattle.stored.specs.Bytes.{isState, stateOf, reportOf};
+ghost use Rattle.terms.specs.Limits.{reportBytes};
+ghost use Rattle.memory.specs.Memory.{eventIn};
+ghost use Rattle.stored.specs.Bytes.{Sized, isState, cardIn, reportOf};
 ghost use Rattle.pundaliket.specs.Calls.{Calls, callOf, ranOf, Names, signalBy, signalOf, Signals, sentOf, Sends};
 
 // The report of a call that is turned away: the refusal and two counts of 0.
@@ -35,17 +36,25 @@ fn turn_away(report: &mut [u8], refusal: Refusal) -> u32
 
 // The run on a good state, its stack worked where it lies; reported.
 fn run_good(state: &mut [u8], input: &[u8], replies: &mut [u8], report: &mut [u8]) -> u32
-    requires { ⌜ (length (now state) ≡ stateBytes) × (length (now report) ≡ reportBytes) ⌝ }
-    ensures { λ r. ⌜ Calls (ranOf (runOf (stateOf (now (state .entry))) (now (input .entry)) (length (now (replies .entry)))) (now (replies .entry))) r (now (state .exit)) (now (replies .exit)) (now (report .exit)) ⌝ }
+    requires { ⌜ Sized (now state) × (length (now report) ≡ reportBytes) ⌝ }
+    ensures { λ r. ⌜ Calls (ranOf (length (now (state .entry))) (runOf (cardIn (now (state .entry))) (now (input .entry)) (length (now (replies .entry)))) (now (replies .entry))) r (now (state .exit)) (now (replies .exit)) (now (report .exit)) ⌝ }
 {
-    let f = flags(state);
+    let f = rest(state);
     let r = run_all(&mut state[..16], f, input, replies);
-    put_flags(state, r.pending, r.status, r.service);
+    let after = Rest {
+        pending: r.pending,
+        status: r.status,
+        service: r.service,
+        bits: r.bits,
+        code: r.code,
+    };
+    put_rest(state, after);
     fill_report(report, r.refusal, r.taken, r.written);
     r.refusal as u32
 }
 
 // A file of records run on a state. Returns the refusal; 14, then 13, then 9 before any record.
+// A call for each length of a state: the run stays a function of its own, and its loop keeps no more at hand than it needs.
 #[no_mangle]
 pub extern "C" fn pundaliket_run(
     state: &mut [u8],
@@ -64,6 +73,9 @@ pub extern "C" fn pundaliket_run(
     if terms::MOST_INPUT < input.len() {
         return turn_away(report, Refusal::InputTooLong);
     }
+    if state.len() == terms::STATE_BYTES {
+        return run_good(state, input, replies, report);
+    }
     run_good(state, input, replies, report)
 }
 
@@ -78,12 +90,14 @@ fn event_of(kind: u32, byte: u8) -> Named
     ensures { λ r. ⌜ Names kind byte r ⌝ }
 {
     match kind {
-        1 => Named::Known(Event::Push(byte)),
-        2 => Named::Known(Event::Pop),
-        3 => Named::Known(Event::Command(byte)),
-        4 => Named::Known(Event::Status),
-        5 => Named::Known(Event::Reset),
-        6 => Named::Known(Event::Acknowledge),
+        1 => Named::Known(Event::Chip(chip::Event::Push(byte))),
+        2 => Named::Known(Event::Chip(chip::Event::Pop)),
+        3 => Named::Known(Event::Chip(chip::Event::Command(byte))),
+        4 => Named::Known(Event::Chip(chip::Event::Status)),
+        5 => Named::Known(Event::Chip(chip::Event::Reset)),
+        6 => Named::Known(Event::Chip(chip::Event::Acknowledge)),
+        7 => Named::Known(Event::Recall),
+        8 => Named::Known(Event::Forget),
         _ => Named::Unknown,
     }
 }
@@ -98,16 +112,23 @@ fn joined(refusal: u8, byte: u8) -> u32
 // One event on a good state, where its stack lies; the bytes behind the stack are written on 0 alone.
 fn event(state: &mut [u8], e: Event) -> u32
     requires { ⌜ isState (now state) ≡ true ⌝ }
-    ensures { λ r. ⌜ Signals (signalBy (now (state .entry)) (eventOf (stateOf (now (state .entry))) e)) r (now (state .exit)) ⌝ }
+    ensures { λ r. ⌜ Signals (signalBy (now (state .entry)) (eventIn (cardIn (now (state .entry))) e)) r (now (state .exit)) ⌝ }
 {
-    let f = flags(state);
+    let f = rest(state);
     let left = place::event(&mut state[..16], f, e);
     let refusal = left.refusal;
     let n = number(refusal);
     if n != 0 {
         return joined(n, left.byte);
     }
-    put_flags(state, left.pending, left.status, left.service);
+    let after = Rest {
+        pending: left.pending,
+        status: left.status,
+        service: left.service,
+        bits: left.bits,
+        code: left.code,
+    };
+    put_rest(state, after);
     joined(n, left.byte)
 }
 

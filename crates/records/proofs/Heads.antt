@@ -13,7 +13,7 @@ use Rattle.terms.specs.Refusal.{numberOf}
 use Rattle.terms.specs.Limits.{mostPayload, leastLength}
 use Rattle.files.proofs.Tests.{either-lt, either-eq}
 use Rattle.records.specs.declared.head.Event.{Event}
-use Rattle.records.specs.declared.head.Event.the-variants.{Push, Pop, Command, Status, Reset, Acknowledge}
+use Rattle.records.specs.declared.head.Event.the-variants.{Push, Pop, Command, Status, Reset, Acknowledge, Recall, Forget}
 use Rattle.records.specs.declared.head.Frame.{Frame}
 use Rattle.records.specs.declared.head.Frame.the-variants.{Framed, Broken}
 use Rattle.records.specs.declared.head.Head.{Head}
@@ -67,7 +67,9 @@ module _ (P : Head → Type 0) (stop : (r : Refusal) → Stops r → P (Stop r))
       either-eq P kind 3 _ _ (λ k. exact 1 (Command first) (λ h. w (Command first) k h refl)) (λ d.
       either-eq P kind 4 _ _ (λ k. exact 0 Status (λ h. w Status k h tt)) (λ e.
       either-eq P kind 5 _ _ (λ k. exact 0 Reset (λ h. w Reset k h tt)) (λ f.
-      either-eq P kind 6 _ _ (λ k. exact 0 Acknowledge (λ h. w Acknowledge k h tt)) (λ g. stop NoSuchKind (lit≤ tt, lit≤ tt)))))))
+      either-eq P kind 6 _ _ (λ k. exact 0 Acknowledge (λ h. w Acknowledge k h tt)) (λ g.
+      either-eq P kind 7 _ _ (λ k. exact 0 Recall (λ h. w Recall k h tt)) (λ i.
+      either-eq P kind 8 _ _ (λ k. exact 0 Forget (λ h. w Forget k h tt)) (λ j. stop NoSuchKind (lit≤ tt, lit≤ tt)))))))))
 
 -- what a frame says of the file: all bytes of a payload of this size, at most so many, are there
 pub record Fits (most : ℕ) (l : List ℕ) (n : ℕ) : Type 0 where
@@ -104,6 +106,8 @@ row-is most (Command code) first h = rw (sym h)
 row-is most Status first h = refl
 row-is most Reset first h = refl
 row-is most Acknowledge first h = refl
+row-is most Recall first h = refl
+row-is most Forget first h = refl
 
 module _ {most : ℕ} (l : List ℕ) (e : Event) (h : Holds most l e) where
   -- a whole record's head is its event
@@ -114,13 +118,15 @@ module _ {most : ℕ} (l : List ℕ) (e : Event) (h : Holds most l e) where
       ∙ rw (h .kind-is, n, add-sub-cancel-left 2 (payloadOf e)) (row-is most e (getD l 4 0) (h .carried))
 
 -- the data of its reply are few
-pub few : {most : ℕ} (l : List ℕ) (e : Event) → 1 ≤ most → Holds most l e → answeredOf e ≤ most
+pub few : {most : ℕ} (l : List ℕ) (e : Event) → 2 ≤ most → Holds most l e → answeredOf e ≤ most
 few l (Push n) m h = zero-le
 few l (Pop n) m h = h .carried .2
 few l (Command code) m h = zero-le
-few l Status m h = m
+few l Status m h = omega arith
 few l Reset m h = zero-le
 few l Acknowledge m h = zero-le
+few l Recall m h = m
+few l Forget m h = zero-le
 
 -- at least one byte is pushed or popped
 asks : (most first : ℕ) (e : Event) → Carried most first e → Asks e
@@ -130,6 +136,8 @@ asks most first (Command code) h = tt
 asks most first Status h = tt
 asks most first Reset h = tt
 asks most first Acknowledge h = tt
+asks most first Recall h = tt
+asks most first Forget h = tt
 
 -- what each frame and each head says of the file
 abbrev Frames : ℕ → List ℕ → Frame → Type 0

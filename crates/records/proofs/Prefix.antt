@@ -10,13 +10,13 @@ use lib.Seq.{getD-take, length-take-le}
 use borrow.Author.Tests.{le-ltb}
 use Rattle.terms.specs.declared.Refusal.the-variants.{CutShort}
 use Rattle.terms.specs.Limits.{mostPayload}
-use Rattle.chip.specs.declared.State.{State}
+use Rattle.memory.specs.Memory.{Card}
 use Rattle.files.specs.Run.{idle}
 use Rattle.files.specs.Lawful.{Stopping, Lawful}
 use Rattle.files.proofs.Tests.{either-lt}
 use Rattle.files.proofs.Through.{drop-take}
 use Rattle.records.specs.declared.head.Event.{Event}
-use Rattle.records.specs.declared.head.Event.the-variants.{Push, Pop, Command, Status, Reset, Acknowledge}
+use Rattle.records.specs.declared.head.Event.the-variants.{Push, Pop, Command, Status, Reset, Acknowledge, Recall, Forget}
 use Rattle.records.specs.declared.head.Frame.the-variants.{Broken}
 use Rattle.records.specs.Record.{wordAt, payloadOf, answeredOf, frameUnder, Carried, Holds, answerOf, Turned, stopped, worked, turnUnder, turnOf}
 use Rattle.records.proofs.Heads.{short, cut, head-is, few}
@@ -31,6 +31,8 @@ same-carried most (Command code) a b h c = c ∙ h (omega arith)
 same-carried most Status a b h c = tt
 same-carried most Reset a b h c = tt
 same-carried most Acknowledge a b h c = tt
+same-carried most Recall a b h c = tt
+same-carried most Forget a b h c = tt
 
 -- two files with the same first bytes hold the same whole record
 module _ (e : Event) (l m : List ℕ) (same : take (4 + payloadOf e) l ≡ take (4 + payloadOf e) m) where
@@ -49,25 +51,25 @@ module _ (e : Event) (l m : List ℕ) (same : take (4 + payloadOf e) l ≡ take 
   same-payload : take (payloadOf e) (drop 4 m) ≡ take (payloadOf e) (drop 4 l)
   same-payload = sym (drop-take 4 (payloadOf e) m) ∙ ap (drop 4) (sym same) ∙ drop-take 4 (payloadOf e) l
 
-abbrev Alike : ℕ → State → List ℕ → List ℕ → ℕ → Turned → Type 0
+abbrev Alike : ℕ → Card → List ℕ → List ℕ → ℕ → Turned → Type 0
 Alike most s l m more t = t .refusal ≡ 0 → take (t .size) l ≡ take (t .size) m → t .size ≤ length m → length (t .reply) ≤ more → turnUnder most s m more ≡ t
 
-worked-too : {most : ℕ} (s : State) (l m : List ℕ) (more : ℕ) (e : Event) → Holds most l e → Alike most s l m more (worked s e (answerOf s (take (payloadOf e) (drop 4 l)) e))
+worked-too : {most : ℕ} (s : Card) (l m : List ℕ) (more : ℕ) (e : Event) → Holds most l e → Alike most s l m more (worked s e (answerOf s (take (payloadOf e) (drop 4 l)) e))
 unfolding turnUnder
 worked-too s l m more e h z same fits g =
     let d = length-dataOf s e in
     rw (head-is m e (holds-too e l m same fits h), le-ltb more (5 + answeredOf e) (omega arith), same-payload e l m same)
 
 -- a record that is taken
-pub alike : (most : ℕ) (s : State) (l m : List ℕ) (room more : ℕ) → Alike most s l m more (turnUnder most s l room)
+pub alike : (most : ℕ) (s : Card) (l m : List ℕ) (room more : ℕ) → Alike most s l m more (turnUnder most s l room)
 alike most s l m room more = steps {most = most} (Alike most s l m more) s l room (λ r a b z. let y : ⊥ = omega arith in absurd y) (λ e h g. worked-too s l m more e h)
 
 -- what is taken stands in the file
-pub within : (most : ℕ) (s : State) (l : List ℕ) (room : ℕ) → turnUnder most s l room .refusal ≡ 0 → turnUnder most s l room .size ≤ length l
+pub within : (most : ℕ) (s : Card) (l : List ℕ) (room : ℕ) → turnUnder most s l room .refusal ≡ 0 → turnUnder most s l room .size ≤ length l
 within most s l room = steps {most = most} (λ t. t .refusal ≡ 0 → t .size ≤ length l) s l room (λ r a b z. omega arith) (λ e h g z. h .there)
 
 -- its reply fits the room and, for each byte of the record, is no longer than the longest
-pub reply-few : (most : ℕ) → 1 ≤ most → (s : State) (l : List ℕ) (room : ℕ)
+pub reply-few : (most : ℕ) → 2 ≤ most → (s : Card) (l : List ℕ) (room : ℕ)
     → (length (turnUnder most s l room .reply) ≤ room) × (length (turnUnder most s l room .reply) ≤ (5 + most) * turnUnder most s l room .size)
 reply-few most some s l room =
     steps {most = most} (λ t. (length (t .reply) ≤ room) × (length (t .reply) ≤ (5 + most) * t .size)) s l room
@@ -79,7 +81,7 @@ reply-few most some s l room =
     (omega arith, omega (arith, d, f, m)))
 
 -- a record that a cut goes through
-module _ (most : ℕ) (s : State) (l : List ℕ) (room k : ℕ) (in-file : k ≤ length l) where
+module _ (most : ℕ) (s : Card) (l : List ℕ) (room k : ℕ) (in-file : k ≤ length l) where
   long : length (take k l) ≡ k
   long = length-take-le k l in-file
 
@@ -104,12 +106,12 @@ module _ (most : ℕ) (s : State) (l : List ℕ) (room k : ℕ) (in-file : k ≤
       (λ r a b z. let y : ⊥ = omega arith in absurd y) (λ e h g z i. cut-turn e h i)
 
 -- a record that stops stops with 5 to 8 and nothing done
-stops : (most : ℕ) (s : State) (l : List ℕ) (room : ℕ) → (turnUnder most s l room .refusal ≡ 0 → ⊥) → Stopping (turnUnder most s l room .refusal) × (turnUnder most s l room ≡ idle (turnUnder most s l room .refusal) s)
+stops : (most : ℕ) (s : Card) (l : List ℕ) (room : ℕ) → (turnUnder most s l room .refusal ≡ 0 → ⊥) → Stopping (turnUnder most s l room .refusal) × (turnUnder most s l room ≡ idle (turnUnder most s l room .refusal) s)
 stops most s l room =
     steps {most = most} (λ t. (t .refusal ≡ 0 → ⊥) → Stopping (t .refusal) × (t ≡ idle (t .refusal) s)) s l room (λ r a b z. ((a, b), refl)) (λ e h g z. absurd (z refl))
 
--- under every limit that lets a byte through
-pub lawful-under : (most : ℕ) → 1 ≤ most → Lawful (5 + most) (turnUnder most)
+-- under every limit that lets two bytes through
+pub lawful-under : (most : ℕ) → 2 ≤ most → Lawful (5 + most) (turnUnder most)
 lawful-under most some = record {
   stops = stops most;
   moves = moves most;

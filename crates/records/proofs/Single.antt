@@ -1,4 +1,4 @@
--- A file of one whole record: its turn alone, state and reply from the chip's answer; and each kind on a state that is not busy. Assumes nothing.
+-- A file of one whole record: its turn alone, card and reply from the answer; and each kind on a state that is not busy. Assumes nothing.
 use mathlib.Core.Path.{_≡_, refl, ap, _∙_}
 use mathlib.Core.Bool.{false}
 use mathlib.Core.List.{List, [], _∷_, append-nil}
@@ -15,13 +15,16 @@ use Rattle.terms.specs.Refusal.{numberOf}
 use Rattle.terms.specs.Limits.{mostPayload}
 use Rattle.chip.specs.declared.State.{State}
 use Rattle.chip.specs.declared.Answer.{Answer}
+use Rattle.chip.specs.declared.Event.the-variants.{Command as CommandEvent}
 use Rattle.chip.specs.State.{busy, resetState, acknowledged}
 use Rattle.chip.specs.Step.{done, pushOf, popOf, readOf, resetOf, acknowledgeOf, commandOf}
 use Rattle.chip.specs.InTurn.{afterPushes, afterPops, bytesPopped}
 use Rattle.chip.proofs.InTurn.{push-done, pop-done}
+use Rattle.memory.specs.declared.Memory.{Memory}
+use Rattle.memory.specs.Memory.{emptyMemory, Card, cardWith, keptAfter}
 use Rattle.files.proofs.Append.{nothing, first-stops, first-taken}
 use Rattle.records.specs.declared.head.Event.{Event}
-use Rattle.records.specs.declared.head.Event.the-variants.{Push, Pop, Command, Status, Reset, Acknowledge}
+use Rattle.records.specs.declared.head.Event.the-variants.{Push, Pop, Command, Status, Reset, Acknowledge, Recall, Forget}
 use Rattle.records.specs.declared.head.Head.the-variants.{Stop}
 use Rattle.records.specs.Record.{kindOf, payloadOf, answeredOf, headOf, Carried, Holds, before, pushAll, popAll, answerOf, dataOf, replyOf, stopped, worked, turnUnder, turnOf}
 use Rattle.records.specs.Run.{ended, took, runOf}
@@ -29,7 +32,7 @@ use Rattle.records.proofs.Heads.{head-is}
 use Rattle.records.proofs.Blocks.{length-popped}
 use Rattle.records.proofs.Prefix.{lawful}
 
-module _ (s : State) (r : List ℕ) (room : ℕ) (e : Event) (h : Holds mostPayload r e) (n : length r ≡ 4 + payloadOf e) where
+module _ (s : Card) (r : List ℕ) (room : ℕ) (e : Event) (h : Holds mostPayload r e) (n : length r ≡ 4 + payloadOf e) where
   some : 0 < length r
   some = omega arith
 
@@ -37,9 +40,9 @@ module _ (s : State) (r : List ℕ) (room : ℕ) (e : Event) (h : Holds mostPayl
   unfolding turnUnder
   the-turn g = rw (head-is r e h, le-ltb room (5 + answeredOf e) g, take-all (payloadOf e) (drop 4 r) (simp length-drop (omega arith)))
 
-  -- it is taken: state and reply from the chip's answer
+  -- it is taken: card and reply from the answer
   pub one-turn : 5 + answeredOf e ≤ room → runOf s r room
-      ≡ took (answerOf s (drop 4 r) e .state) (4 + payloadOf e) (replyOf (kindOf e) (numberOf (answerOf s (drop 4 r) e .refusal)) (dataOf s e))
+      ≡ took (answerOf s (drop 4 r) e .card) (4 + payloadOf e) (replyOf (kindOf e) (numberOf (answerOf s (drop 4 r) e .refusal)) (dataOf s e))
   one-turn g =
       let d : drop (4 + payloadOf e) r ≡ [] = drop-of-length-le r {i = 4 + payloadOf e} (omega arith) in
       let t = worked s e (answerOf s (drop 4 r) e) in
@@ -55,7 +58,7 @@ module _ (s : State) (r : List ℕ) (room : ℕ) (e : Event) (h : Holds mostPayl
   no-turn g = first-stops lawful s r room (stopped NoRoom s) (stop-turn g) some (λ y. omega arith)
 
 -- a head that is a refusal
-pub stopped-by : (s : State) (l : List ℕ) (room : ℕ) (r : Refusal) → headOf l ≡ Stop r → turnOf s l room ≡ stopped r s
+pub stopped-by : (s : Card) (l : List ℕ) (room : ℕ) (r : Refusal) → headOf l ≡ Stop r → turnOf s l room ≡ stopped r s
 unfolding turnUnder
 stopped-by s l room r e = rw e
 
@@ -86,47 +89,59 @@ pops (suc n) a h d =
     let e = pop-done (a .state) (leb-false 128 (a .state .status) h) in
     pops n (popOf (a .state)) (ap (λ (x : Answer). busy (x .state)) e ∙ h) (ap (λ (x : Answer). x .refusal) e)
 
--- ---- one record of each kind
+-- ---- one record of each kind, on a chip beside a memory
+module _ (s : State) (m : Memory) where
+  pub push-alone : (p : List ℕ) (room : ℕ) → busy s ≡ false → 1 ≤ length p → length p ≤ mostPayload → 5 ≤ room
+      → runOf (cardWith s m) ((2 + length p) ∷ 0 ∷ 1 ∷ 0 ∷ p) room ≡ took (cardWith (afterPushes s p) m) (4 + length p) (3 ∷ 0 ∷ 129 ∷ 0 ∷ 0 ∷ [])
+  push-alone p room calm least most fits =
+      let r : List ℕ = (2 + length p) ∷ 0 ∷ 1 ∷ 0 ∷ p in
+      let e = Push (length p) in
+      let h : Holds mostPayload r e = record { length-is = omega arith; kind-is = refl; there = omega arith; small = most; carried = least } in
+      let q = pushes p (before s) calm refl in
+      one-turn (cardWith s m) r room e h (omega arith) (omega arith) ∙ rw (q .0, q .1)
 
-pub push-alone : (s : State) (p : List ℕ) (room : ℕ) → busy s ≡ false → 1 ≤ length p → length p ≤ mostPayload → 5 ≤ room
-    → runOf s ((2 + length p) ∷ 0 ∷ 1 ∷ 0 ∷ p) room ≡ took (afterPushes s p) (4 + length p) (3 ∷ 0 ∷ 129 ∷ 0 ∷ 0 ∷ [])
-push-alone s p room calm least most fits =
-    let r : List ℕ = (2 + length p) ∷ 0 ∷ 1 ∷ 0 ∷ p in
-    let e = Push (length p) in
-    let h : Holds mostPayload r e = record { length-is = omega arith; kind-is = refl; there = omega arith; small = most; carried = least } in
-    let q = pushes p (before s) calm refl in
-    one-turn s r room e h (omega arith) (omega arith) ∙ rw (q .0, q .1)
+  pub pop-alone : (n room : ℕ) → busy s ≡ false → 1 ≤ n → n ≤ mostPayload → 5 + n ≤ room
+      → runOf (cardWith s m) (3 ∷ 0 ∷ 2 ∷ 0 ∷ n ∷ []) room ≡ took (cardWith (afterPops n s) m) 5 ((3 + n) ∷ 0 ∷ 130 ∷ 0 ∷ 0 ∷ bytesPopped n s)
+  pop-alone n room calm least most fits =
+      let r : List ℕ = 3 ∷ 0 ∷ 2 ∷ 0 ∷ n ∷ [] in
+      let e = Pop n in
+      let h : Holds mostPayload r e = record { length-is = refl; kind-is = refl; there = omega arith; small = lit≤ tt; carried = (refl, least, most) } in
+      let q = pops n (before s) calm refl in
+      let low : (3 + n) % 256 ≡ 3 + n = omega arith in
+      let high : (3 + n) / 256 ≡ 0 = omega arith in
+      one-turn (cardWith s m) r room e h refl fits ∙ rw (q .0, q .1, length-popped n s, low, high)
 
-pub pop-alone : (s : State) (n room : ℕ) → busy s ≡ false → 1 ≤ n → n ≤ mostPayload → 5 + n ≤ room
-    → runOf s (3 ∷ 0 ∷ 2 ∷ 0 ∷ n ∷ []) room ≡ took (afterPops n s) 5 ((3 + n) ∷ 0 ∷ 130 ∷ 0 ∷ 0 ∷ bytesPopped n s)
-pop-alone s n room calm least most fits =
-    let r : List ℕ = 3 ∷ 0 ∷ 2 ∷ 0 ∷ n ∷ [] in
-    let e = Pop n in
-    let h : Holds mostPayload r e = record { length-is = refl; kind-is = refl; there = omega arith; small = lit≤ tt; carried = (refl, least, most) } in
-    let q = pops n (before s) calm refl in
-    let low : (3 + n) % 256 ≡ 3 + n = omega arith in
-    let high : (3 + n) / 256 ≡ 0 = omega arith in
-    one-turn s r room e h refl fits ∙ rw (q .0, q .1, length-popped n s, low, high)
+  pub command-alone : (code room : ℕ) → 5 ≤ room
+      → runOf (cardWith s m) (3 ∷ 0 ∷ 3 ∷ 0 ∷ code ∷ []) room
+      ≡ took (cardWith (commandOf s code .state) (keptAfter m (CommandEvent code) (commandOf s code))) 5 (3 ∷ 0 ∷ 131 ∷ 0 ∷ numberOf (commandOf s code .refusal) ∷ [])
+  command-alone code room fits =
+      let r : List ℕ = 3 ∷ 0 ∷ 3 ∷ 0 ∷ code ∷ [] in
+      let h : Holds mostPayload r (Command code) = record { length-is = refl; kind-is = refl; there = omega arith; small = lit≤ tt; carried = refl } in
+      one-turn (cardWith s m) r room (Command code) h refl fits
 
-pub command-alone : (s : State) (code room : ℕ) → 5 ≤ room
-    → runOf s (3 ∷ 0 ∷ 3 ∷ 0 ∷ code ∷ []) room ≡ took (commandOf s code .state) 5 (3 ∷ 0 ∷ 131 ∷ 0 ∷ numberOf (commandOf s code .refusal) ∷ [])
-command-alone s code room fits =
-    let r : List ℕ = 3 ∷ 0 ∷ 3 ∷ 0 ∷ code ∷ [] in
-    let h : Holds mostPayload r (Command code) = record { length-is = refl; kind-is = refl; there = omega arith; small = lit≤ tt; carried = refl } in
-    one-turn s r room (Command code) h refl fits
-
--- the three kinds without a payload
+-- the kinds without a payload
 bare : (e : Event) (k : ℕ) → k ≡ kindOf e → payloadOf e ≡ 0 → Carried mostPayload 0 e → Holds mostPayload (2 ∷ 0 ∷ k ∷ 0 ∷ []) e
 bare e k a b c = record { length-is = omega arith; kind-is = omega arith; there = omega arith; small = omega arith; carried = c }
 
-pub status-alone : (s : State) (room : ℕ) → busy s ≡ false → 6 ≤ room → runOf s (2 ∷ 0 ∷ 4 ∷ 0 ∷ []) room ≡ took s 4 (4 ∷ 0 ∷ 132 ∷ 0 ∷ 0 ∷ s .status ∷ [])
-status-alone s room calm fits =
-    one-turn s (2 ∷ 0 ∷ 4 ∷ 0 ∷ []) room Status (bare Status 4 refl refl tt) refl fits ∙ rw (read-is s calm)
+module _ (s : State) (m : Memory) (room : ℕ) (calm : busy s ≡ false) where
+  pub status-alone : 6 ≤ room → runOf (cardWith s m) (2 ∷ 0 ∷ 4 ∷ 0 ∷ []) room ≡ took (cardWith s m) 4 (4 ∷ 0 ∷ 132 ∷ 0 ∷ 0 ∷ s .status ∷ [])
+  status-alone fits =
+      one-turn (cardWith s m) (2 ∷ 0 ∷ 4 ∷ 0 ∷ []) room Status (bare Status 4 refl refl tt) refl fits ∙ rw (read-is s calm)
 
-pub reset-alone : (s : State) (room : ℕ) → busy s ≡ false → 5 ≤ room → runOf s (2 ∷ 0 ∷ 5 ∷ 0 ∷ []) room ≡ took resetState 4 (3 ∷ 0 ∷ 133 ∷ 0 ∷ 0 ∷ [])
-reset-alone s room calm fits =
-    one-turn s (2 ∷ 0 ∷ 5 ∷ 0 ∷ []) room Reset (bare Reset 5 refl refl tt) refl fits ∙ rw (reset-is s calm)
+  pub reset-alone : 5 ≤ room → runOf (cardWith s m) (2 ∷ 0 ∷ 5 ∷ 0 ∷ []) room ≡ took (cardWith resetState emptyMemory) 4 (3 ∷ 0 ∷ 133 ∷ 0 ∷ 0 ∷ [])
+  reset-alone fits =
+      one-turn (cardWith s m) (2 ∷ 0 ∷ 5 ∷ 0 ∷ []) room Reset (bare Reset 5 refl refl tt) refl fits ∙ rw (reset-is s calm)
 
-pub acknowledge-alone : (s : State) (room : ℕ) → busy s ≡ false → 5 ≤ room → runOf s (2 ∷ 0 ∷ 6 ∷ 0 ∷ []) room ≡ took (acknowledged s) 4 (3 ∷ 0 ∷ 134 ∷ 0 ∷ 0 ∷ [])
-acknowledge-alone s room calm fits =
-    one-turn s (2 ∷ 0 ∷ 6 ∷ 0 ∷ []) room Acknowledge (bare Acknowledge 6 refl refl tt) refl fits ∙ rw (acknowledge-is s calm)
+  pub acknowledge-alone : 5 ≤ room → runOf (cardWith s m) (2 ∷ 0 ∷ 6 ∷ 0 ∷ []) room ≡ took (cardWith (acknowledged s) m) 4 (3 ∷ 0 ∷ 134 ∷ 0 ∷ 0 ∷ [])
+  acknowledge-alone fits =
+      one-turn (cardWith s m) (2 ∷ 0 ∷ 6 ∷ 0 ∷ []) room Acknowledge (bare Acknowledge 6 refl refl tt) refl fits ∙ rw (acknowledge-is s calm)
+
+  pub recall-alone : 7 ≤ room
+      → runOf (cardWith s m) (2 ∷ 0 ∷ 7 ∷ 0 ∷ []) room ≡ took (cardWith s m) 4 (5 ∷ 0 ∷ 135 ∷ 0 ∷ 0 ∷ m .bits ∷ m .code ∷ [])
+  recall-alone fits =
+      one-turn (cardWith s m) (2 ∷ 0 ∷ 7 ∷ 0 ∷ []) room Recall (bare Recall 7 refl refl tt) refl fits ∙ rw calm
+
+  pub forget-alone : 5 ≤ room
+      → runOf (cardWith s m) (2 ∷ 0 ∷ 8 ∷ 0 ∷ []) room ≡ took (cardWith s emptyMemory) 4 (3 ∷ 0 ∷ 136 ∷ 0 ∷ 0 ∷ [])
+  forget-alone fits =
+      one-turn (cardWith s m) (2 ∷ 0 ∷ 8 ∷ 0 ∷ []) room Forget (bare Forget 8 refl refl tt) refl fits ∙ rw calm

@@ -8,14 +8,14 @@ use lib.ListN.{take, drop}
 use Rattle.terms.specs.declared.Refusal.{Refusal}
 use Rattle.terms.specs.declared.Refusal.the-variants.{NoRoom}
 use Rattle.terms.specs.Refusal.{numberOf}
-use Rattle.chip.specs.declared.State.{State}
+use Rattle.memory.specs.Memory.{Card}
 use Rattle.files.proofs.Tests.{either-lt}
 use Rattle.records.specs.declared.head.Event.{Event}
 use Rattle.records.specs.Record.{payloadOf, answeredOf, answerOf, Holds, Turned, stopped, worked, turnBy, turnUnder}
 use Rattle.records.proofs.Heads.{heads}
 
 -- what holds of a record that stops and of one that is worked holds of the step
-pub steps : {most : ℕ} (P : Turned → Type 0) (s : State) (l : List ℕ) (room : ℕ)
+pub steps : {most : ℕ} (P : Turned → Type 0) (s : Card) (l : List ℕ) (room : ℕ)
     → ((r : Refusal) → 5 ≤ numberOf r → numberOf r ≤ 8 → P (stopped r s))
     → ((e : Event) → Holds most l e → 5 + answeredOf e ≤ room → P (worked s e (answerOf s (take (payloadOf e) (drop 4 l)) e)))
     → P (turnUnder most s l room)
@@ -28,5 +28,5 @@ abbrev Moves : Turned → Type 0
 Moves t = t .refusal ≡ 0 → 0 < t .size
 
 -- a record that is taken has at least one byte
-pub moves : (most : ℕ) (s : State) (l : List ℕ) (room : ℕ) → Moves (turnUnder most s l room)
+pub moves : (most : ℕ) (s : Card) (l : List ℕ) (room : ℕ) → Moves (turnUnder most s l room)
 moves most s l room = steps {most = most} Moves s l room (λ r a b z. omega arith) (λ e h g z. omega arith)

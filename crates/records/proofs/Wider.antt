@@ -8,7 +8,7 @@ use lib.ListN.{length, getD, drop}
 use borrow.Author.Tests.{lt-ltb, le-ltb, eq-eqb, ne-eqb}
 use Rattle.terms.specs.declared.Refusal.the-variants.{BadLength}
 use Rattle.terms.specs.Limits.{leastLength}
-use Rattle.chip.specs.declared.State.{State}
+use Rattle.memory.specs.Memory.{Card}
 use Rattle.files.proofs.Tests.{either-lt, either-eq}
 use Rattle.files.proofs.Append.{onward}
 use Rattle.files.proofs.Alike.{runs-alike, alike-from}
@@ -52,12 +52,12 @@ module _ (m k : ℕ) (wider : m ≤ k) where
   same-head l other =
       ap (headIn k l) (same-frame l (λ e. other (ap (headIn m l) e))) ∙ same-in l (frameUnder m l) other
 
-  same-turn : (s : State) (l : List ℕ) (room : ℕ) → (turnUnder m s l room .refusal ≡ 7 → ⊥) → turnUnder k s l room ≡ turnUnder m s l room
+  same-turn : (s : Card) (l : List ℕ) (room : ℕ) → (turnUnder m s l room .refusal ≡ 7 → ⊥) → turnUnder k s l room ≡ turnUnder m s l room
   unfolding turnUnder
   same-turn s l room other = ap (turnBy s l room) (same-head l (λ e. other (ap (λ (h : Head). turnBy s l room h .refusal) e)))
 
   -- files: one that did not stop with 7, and any other up to the record that stopped it
-  module _ (some : 1 ≤ m) (s : State) (l : List ℕ) (room : ℕ) where
+  module _ (some : 2 ≤ m) (s : Card) (l : List ℕ) (room : ℕ) where
     pub same-run : (runUnder m s l room .refusal ≡ 7 → ⊥) → runUnder k s l room ≡ runUnder m s l room
     same-run = runs-alike (lawful-under m some) (lawful-under k (omega arith)) 7 (lit< tt) same-turn s l room
 

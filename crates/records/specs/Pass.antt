@@ -4,35 +4,30 @@ use mathlib.Core.List.{List}
 use lib.ListN.{length}
 use Rattle.terms.specs.declared.Refusal.{Refusal}
 use Rattle.terms.specs.Refusal.{numberOf}
-use Rattle.chip.specs.declared.State.{State}
-use Rattle.chip.specs.declared.place.Flags.{Flags}
-use Rattle.chip.specs.Place.{held}
+use Rattle.memory.specs.declared.place.Rest.{Rest}
+use Rattle.memory.specs.Held.{cardOf, cardAt}
 use Rattle.files.specs.Run.{Turns}
 use Rattle.records.specs.declared.head.Event.{Event}
 use Rattle.records.specs.declared.head.Head.the-variants.{Whole}
 use Rattle.records.specs.declared.step.Pass.{Pass}
 use Rattle.records.specs.Record.{payloadOf, Turned, turnBy}
 
--- the state of a stack and of what stands beside it
-abbrev pub stateAt : List ℕ → Flags → State
-stateAt stack f = held stack (f .pending) (f .status) (f .service)
-
 -- nothing of a record is done
-abbrev pub unchanged : Refusal → Flags → Pass
-unchanged r f = record { refusal = numberOf r; pending = f .pending; status = f .status; service = f .service; size = 0; reply = 0 }
+abbrev pub unchanged : Refusal → Rest → Pass
+unchanged r f = record { refusal = numberOf r; pending = f .pending; status = f .status; service = f .service; bits = f .bits; code = f .code; size = 0; reply = 0 }
 
 -- a record of so many bytes of payload is answered with so many of data, and nothing else is done
-abbrev pub turnedAway : Flags → ℕ → ℕ → Pass
-turnedAway f payload n = record { refusal = 0; pending = f .pending; status = f .status; service = f .service; size = 4 + payload; reply = 5 + n }
+abbrev pub turnedAway : Rest → ℕ → ℕ → Pass
+turnedAway f payload n = record { refusal = 0; pending = f .pending; status = f .status; service = f .service; bits = f .bits; code = f .code; size = 4 + payload; reply = 5 + n }
 
 -- a turn of the code beside a definition's, with the stack that it leaves
 abbrev pub Passed : Turned → Pass → List ℕ → List ℕ → List ℕ → List ℕ → Type 0
-Passed t r stack file room left = Turns t (r .refusal) (held stack (r .pending) (r .status) (r .service)) (r .size) (r .reply) file room left
+Passed t r stack file room left = Turns t (r .refusal) (cardOf stack (r .pending) (r .status) (r .service) (r .bits) (r .code)) (r .size) (r .reply) file room left
 
 -- an event's turn, whatever file its record stands in front of
-abbrev pub Passes : List ℕ → Flags → Event → Pass → List ℕ → List ℕ → List ℕ → Type 0
-Passes before f e r after room left = (file : List ℕ) → 4 + payloadOf e ≤ length file → Passed (turnBy (stateAt before f) file (length room) (Whole e)) r after file room left
+abbrev pub Passes : List ℕ → Rest → Event → Pass → List ℕ → List ℕ → List ℕ → Type 0
+Passes before f e r after room left = (file : List ℕ) → 4 + payloadOf e ≤ length file → Passed (turnBy (cardAt before f) file (length room) (Whole e)) r after file room left
 
 -- and whatever the stack, which stays
-abbrev pub PassesOver : Flags → Event → Pass → List ℕ → List ℕ → Type 0
+abbrev pub PassesOver : Rest → Event → Pass → List ℕ → List ℕ → Type 0
 PassesOver f e r room left = (stack : List ℕ) → Passes stack f e r stack room left

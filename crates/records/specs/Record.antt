@@ -12,11 +12,15 @@ use Rattle.terms.specs.Refusal.{numberOf}
 use Rattle.terms.specs.Limits.{mostPayload, leastLength}
 use Rattle.chip.specs.declared.State.{State}
 use Rattle.chip.specs.declared.Answer.{Answer}
-use Rattle.chip.specs.Step.{pushOf, popOf, readOf, resetOf, acknowledgeOf, commandOf}
+use Rattle.chip.specs.declared.Event.the-variants.{Command as CommandEvent, Status as StatusEvent, Reset as ResetEvent, Acknowledge as AcknowledgeEvent}
+use Rattle.chip.specs.State.{busy}
+use Rattle.chip.specs.Step.{pushOf, popOf, readOf}
 use Rattle.chip.specs.InTurn.{bytesPopped}
+use Rattle.memory.specs.declared.Event.the-variants.{Chip, Recall as RecallEvent, Forget as ForgetEvent}
+use Rattle.memory.specs.Memory.{Card, CardAnswer, around, eventIn}
 use Rattle.files.specs.Run as files
 use Rattle.records.specs.declared.head.Event.{Event}
-use Rattle.records.specs.declared.head.Event.the-variants.{Push, Pop, Command, Status, Reset, Acknowledge}
+use Rattle.records.specs.declared.head.Event.the-variants.{Push, Pop, Command, Status, Reset, Acknowledge, Recall, Forget}
 use Rattle.records.specs.declared.head.Frame.{Frame}
 use Rattle.records.specs.declared.head.Frame.the-variants.{Framed, Broken}
 use Rattle.records.specs.declared.head.Head.{Head}
@@ -30,6 +34,8 @@ kindOf (Command code) = 3
 kindOf Status = 4
 kindOf Reset = 5
 kindOf Acknowledge = 6
+kindOf Recall = 7
+kindOf Forget = 8
 
 abbrev pub payloadOf : Event → ℕ
 payloadOf (Push n) = n
@@ -38,6 +44,8 @@ payloadOf (Command code) = 1
 payloadOf Status = 0
 payloadOf Reset = 0
 payloadOf Acknowledge = 0
+payloadOf Recall = 0
+payloadOf Forget = 0
 
 abbrev pub answeredOf : Event → ℕ
 answeredOf (Push n) = 0
@@ -46,6 +54,8 @@ answeredOf (Command code) = 0
 answeredOf Status = 1
 answeredOf Reset = 0
 answeredOf Acknowledge = 0
+answeredOf Recall = 2
+answeredOf Forget = 0
 
 -- 01's number of a head: 0 for a whole record
 abbrev pub headNumber : Head → ℕ
@@ -69,7 +79,7 @@ popRow most n count =
     (cond (ltb count 1) (Stop BadLength) (cond (ltb most count) (Stop BadLength) (Whole (Pop count))))
     (Stop BadLength)
 
--- 01's table of kinds: the most bytes that a record pushes or pops, the kind, the bytes of the payload, and the first of them
+-- the table of kinds, 01's and 02's two of the error memory: the most bytes that a record pushes or pops, the kind, the bytes of the payload, and the first of them
 abbrev pub rowUnder : ℕ → ℕ → ℕ → ℕ → Head
 rowUnder most kind n first =
     cond (eqb kind 1) (pushRow n)
@@ -78,7 +88,9 @@ rowUnder most kind n first =
     (cond (eqb kind 4) (exactly 0 n Status)
     (cond (eqb kind 5) (exactly 0 n Reset)
     (cond (eqb kind 6) (exactly 0 n Acknowledge)
-    (Stop NoSuchKind))))))
+    (cond (eqb kind 7) (exactly 0 n Recall)
+    (cond (eqb kind 8) (exactly 0 n Forget)
+    (Stop NoSuchKind))))))))
 
 -- the frame of a record at the front of a file: fewer than two bytes 6, length out of range 7, bytes missing 6, else the bytes of its payload
 unfoldable pub frameUnder : ℕ → List ℕ → Frame
@@ -109,6 +121,8 @@ Carried most first (Command code) = code ≡ first
 Carried most first Status = Unit
 Carried most first Reset = Unit
 Carried most first Acknowledge = Unit
+Carried most first Recall = Unit
+Carried most first Forget = Unit
 
 -- a push or a pop is of at least one byte
 abbrev pub Asks : Event → Type 0
@@ -118,6 +132,8 @@ Asks (Command code) = Unit
 Asks Status = Unit
 Asks Reset = Unit
 Asks Acknowledge = Unit
+Asks Recall = Unit
+Asks Forget = Unit
 
 -- a whole record of this event, of at most so many bytes, stands at the front of a file
 pub record Holds (most : ℕ) (l : List ℕ) (e : Event) : Type 0 where
@@ -143,23 +159,31 @@ abbrev pub popAll : ℕ → Answer → Answer
 popAll zero a = a
 popAll (suc n) a = popAll n (popOf (a .state))
 
--- the chip's answer to an event with this payload
-abbrev pub answerOf : State → List ℕ → Event → Answer
-answerOf s payload (Push n) = pushAll (before s) payload
-answerOf s payload (Pop n) = popAll n (before s)
-answerOf s payload (Command code) = commandOf s code
-answerOf s payload Status = readOf s
-answerOf s payload Reset = resetOf s
-answerOf s payload Acknowledge = acknowledgeOf s
+-- the answer to an event with this payload; a block leaves what is remembered
+abbrev pub answerOf : Card → List ℕ → Event → CardAnswer
+answerOf c payload (Push n) = around (c .memory) (pushAll (before (c .chip)) payload)
+answerOf c payload (Pop n) = around (c .memory) (popAll n (before (c .chip)))
+answerOf c payload (Command code) = eventIn c (Chip (CommandEvent code))
+answerOf c payload Status = eventIn c (Chip StatusEvent)
+answerOf c payload Reset = eventIn c (Chip ResetEvent)
+answerOf c payload Acknowledge = eventIn c (Chip AcknowledgeEvent)
+answerOf c payload Recall = eventIn c RecallEvent
+answerOf c payload Forget = eventIn c ForgetEvent
+
+-- the code of the memory, behind its bits
+abbrev pub codeRead : Card → ℕ
+codeRead c = cond (busy (c .chip)) 0 (c .memory .code)
 
 -- the data in its reply
-abbrev pub dataOf : State → Event → List ℕ
-dataOf s (Push n) = []
-dataOf s (Pop n) = bytesPopped n s
-dataOf s (Command code) = []
-dataOf s Status = readOf s .byte ∷ []
-dataOf s Reset = []
-dataOf s Acknowledge = []
+abbrev pub dataOf : Card → Event → List ℕ
+dataOf c (Push n) = []
+dataOf c (Pop n) = bytesPopped n (c .chip)
+dataOf c (Command code) = []
+dataOf c Status = readOf (c .chip) .byte ∷ []
+dataOf c Reset = []
+dataOf c Acknowledge = []
+dataOf c Recall = eventIn c RecallEvent .byte ∷ codeRead c ∷ []
+dataOf c Forget = []
 
 -- a reply: length and kind + 128 laid out as in a record, the refusal, the data
 abbrev pub replyOf : ℕ → ℕ → List ℕ → List ℕ
@@ -167,33 +191,33 @@ replyOf kind refusal bytes = le2 (3 + length bytes) ++ (le2 (kind + 128) ++ (ref
 
 -- ---- what becomes of the record at the front of a file
 
--- the refusal that stops the run, or 0; the state; the bytes of the record; its reply
+-- the refusal that stops the run, or 0; the card; the bytes of the record; its reply
 abbrev pub Turned : Type 0
-Turned = files.Turned State
+Turned = files.Turned Card
 
 -- nothing of the record is done
-abbrev pub stopped : Refusal → State → Turned
-stopped r s = files.idle (numberOf r) s
+abbrev pub stopped : Refusal → Card → Turned
+stopped r c = files.idle (numberOf r) c
 
--- the chip's answer makes the state and the reply
-abbrev pub worked : State → Event → Answer → Turned
-worked s e a = record {
+-- the answer makes the card and the reply
+abbrev pub worked : Card → Event → CardAnswer → Turned
+worked c e a = record {
   refusal = 0;
-  state = a .state;
+  state = a .card;
   size = 4 + payloadOf e;
-  reply = replyOf (kindOf e) (numberOf (a .refusal)) (dataOf s e);
+  reply = replyOf (kindOf e) (numberOf (a .refusal)) (dataOf c e);
 }
 
 -- with so much room for the reply: 8 where it does not fit, else the event is done with the payload
-abbrev pub turnBy : State → List ℕ → ℕ → Head → Turned
-turnBy s l room (Stop r) = stopped r s
-turnBy s l room (Whole e) =
-    cond (ltb room (5 + answeredOf e)) (stopped NoRoom s) (worked s e (answerOf s (take (payloadOf e) (drop 4 l)) e))
+abbrev pub turnBy : Card → List ℕ → ℕ → Head → Turned
+turnBy c l room (Stop r) = stopped r c
+turnBy c l room (Whole e) =
+    cond (ltb room (5 + answeredOf e)) (stopped NoRoom c) (worked c e (answerOf c (take (payloadOf e) (drop 4 l)) e))
 
 -- the record step, where a record pushes or pops at most so many bytes
-unfoldable pub turnUnder : ℕ → State → List ℕ → ℕ → Turned
-turnUnder most s l room = turnBy s l room (headUnder most l)
+unfoldable pub turnUnder : ℕ → Card → List ℕ → ℕ → Turned
+turnUnder most c l room = turnBy c l room (headUnder most l)
 
 -- under the limit of today
-abbrev pub turnOf : State → List ℕ → ℕ → Turned
+abbrev pub turnOf : Card → List ℕ → ℕ → Turned
 turnOf = turnUnder mostPayload

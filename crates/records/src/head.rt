@@ -7,7 +7,7 @@ ghost use lib.ListN.{length, getD};
 ghost use Rattle.terms.specs.Limits.{mostPayload};
 ghost use Rattle.records.specs.Record.{exactly, pushRow, popRow, rowUnder, frameUnder, headOf};
 
-// The event of a record, one case for each kind of 01's table.
+// The event of a record, one case for each kind.
 pub enum Event {
     // So many bytes, which are the payload.
     Push(usize),
@@ -18,6 +18,10 @@ pub enum Event {
     Status,
     Reset,
     Acknowledge,
+    // The error memory read: its bits and its code go into the reply.
+    Recall,
+    // The error memory cleared.
+    Forget,
 }
 
 // The frame of the record at the front of a file: the bytes of its payload, or a refusal.
@@ -95,7 +99,7 @@ fn command_row(rest: &[u8], n: usize) -> Head
     Head::Whole(Event::Command(rest[4]))
 }
 
-// The row of 01's table for a kind and a payload of n bytes, which stand behind the four bytes of the head.
+// The row of the table of kinds for a kind and a payload of n bytes, which stand behind the four bytes of the head.
 fn row(kind: u16, n: usize, rest: &[u8]) -> Head
     requires { ⌜ 4 + n ≤ length (now rest) ⌝ }
     ensures { λ r. ⌜ r ≡ rowUnder mostPayload kind n (getD (now (rest .entry)) 4 0) ⌝ }
@@ -107,6 +111,8 @@ fn row(kind: u16, n: usize, rest: &[u8]) -> Head
         4 => bare(n, Event::Status),
         5 => bare(n, Event::Reset),
         6 => bare(n, Event::Acknowledge),
+        7 => bare(n, Event::Recall),
+        8 => bare(n, Event::Forget),
         _ => Head::Stop(Refusal::NoSuchKind),
     }
 }

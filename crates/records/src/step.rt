@@ -1,11 +1,14 @@
 // The record step, where the stack lies: what becomes of the record at the front of a file. A
-// worker for each kind of 01's table; a record is worked on only once its head is whole and its
+// worker for each kind; a record is worked on only once its head is whole and its
 // reply has room, and its reply is written once, in place.
 use crate::head::Event;
 use crate::head::Head;
 use crate::head::read_head;
 use chip::place;
-use chip::place::Flags;
+use memory::Memory;
+use memory::empty;
+use memory::place::Rest;
+use memory::remember;
 use terms::Refusal;
 use terms::number;
 ghost use mathlib.Core.Path.{_≡_};
@@ -15,7 +18,8 @@ ghost use lib.ListN.{length, drop};
 ghost use Rattle.terms.specs.Limits.{mostPayload};
 ghost use Rattle.stack.specs.Stack.{zeros};
 ghost use Rattle.records.specs.Record.{Asks, le2, payloadOf, answeredOf, turnBy, turnOf};
-ghost use Rattle.records.specs.Pass.{stateAt, unchanged, turnedAway, Passed, Passes, PassesOver};
+ghost use Rattle.memory.specs.Held.{cardAt};
+ghost use Rattle.records.specs.Pass.{unchanged, turnedAway, Passed, Passes, PassesOver};
 
 // What became of a record: the refusal that stops the run or 0, the state beside the stack, the
 // bytes of the record and of its reply.
@@ -24,6 +28,8 @@ pub struct Pass {
     pub pending: bool,
     pub status: u8,
     pub service: bool,
+    pub bits: u8,
+    pub code: u8,
     pub size: usize,
     pub reply: usize,
 }
@@ -41,7 +47,7 @@ fn open_reply(room: &mut [u8], n: usize, kind: u16, refusal: u8)
 }
 
 // A record of which nothing is done.
-fn stop(refusal: Refusal, f: Flags) -> Pass
+fn stop(refusal: Refusal, f: Rest) -> Pass
     ensures { λ r. ⌜ r ≡ unchanged refusal f ⌝ }
 {
     Pass {
@@ -49,6 +55,8 @@ fn stop(refusal: Refusal, f: Flags) -> Pass
         pending: f.pending,
         status: f.status,
         service: f.service,
+        bits: f.bits,
+        code: f.code,
         size: 0,
         reply: 0,
     }
@@ -67,7 +75,7 @@ fn blank(room: &mut [u8], n: usize)
 }
 
 // A record that meets a busy state: 13, and zeros in the place of its n bytes of data.
-fn turn_away(f: Flags, room: &mut [u8], kind: u16, payload: usize, n: usize) -> Pass
+fn turn_away(f: Rest, room: &mut [u8], kind: u16, payload: usize, n: usize) -> Pass
     requires { ⌜ (n ≤ mostPayload) × (5 + n ≤ length (now room)) × (payload ≤ mostPayload) ⌝ }
     ensures { λ r. ⌜ (r ≡ turnedAway f payload n) × (now (room .exit) ≡ le2 (3 + n) ++ (le2 kind ++ (13 ∷ (zeros n ++ drop n (drop 5 (now (room .entry))))))) ⌝ }
 {
@@ -78,15 +86,17 @@ fn turn_away(f: Flags, room: &mut [u8], kind: u16, payload: usize, n: usize) -> 
         pending: f.pending,
         status: f.status,
         service: f.service,
+        bits: f.bits,
+        code: f.code,
         size: 4 + payload,
         reply: 5 + n,
     }
 }
 
 // The n bytes of the payload pushed.
-fn pass_push(stack: &mut [u8], f: Flags, n: usize, rest: &[u8], room: &mut [u8]) -> Pass
+fn pass_push(stack: &mut [u8], f: Rest, n: usize, rest: &[u8], room: &mut [u8]) -> Pass
     requires { ⌜ (length (now stack) ≡ 16) × (1 ≤ n) × (n ≤ mostPayload) × (4 + n ≤ length (now rest)) ⌝ }
-    ensures { λ r. ⌜ Passed (turnBy (stateAt (now (stack .entry)) f) (now (rest .entry)) (length (now (room .entry))) (Head.Whole (Event.Push n))) r (now (stack .exit)) (now (rest .entry)) (now (room .entry)) (now (room .exit)) ⌝ }
+    ensures { λ r. ⌜ Passed (turnBy (cardAt (now (stack .entry)) f) (now (rest .entry)) (length (now (room .entry))) (Head.Whole (Event.Push n))) r (now (stack .exit)) (now (rest .entry)) (now (room .entry)) (now (room .exit)) ⌝ }
 {
     if room.len() < 5 {
         return stop(Refusal::NoRoom, f);
@@ -102,13 +112,15 @@ fn pass_push(stack: &mut [u8], f: Flags, n: usize, rest: &[u8], room: &mut [u8])
         pending,
         status: f.status,
         service: f.service,
+        bits: f.bits,
+        code: f.code,
         size: end,
         reply: 5,
     }
 }
 
 // n bytes popped, each to its place in the reply.
-fn pass_pop(stack: &mut [u8], f: Flags, n: usize, room: &mut [u8]) -> Pass
+fn pass_pop(stack: &mut [u8], f: Rest, n: usize, room: &mut [u8]) -> Pass
     requires { ⌜ (length (now stack) ≡ 16) × (1 ≤ n) × (n ≤ mostPayload) ⌝ }
     ensures { λ r. ⌜ Passes (now (stack .entry)) f (Event.Pop n) r (now (stack .exit)) (now (room .entry)) (now (room .exit)) ⌝ }
 {
@@ -125,13 +137,15 @@ fn pass_pop(stack: &mut [u8], f: Flags, n: usize, room: &mut [u8]) -> Pass
         pending,
         status: f.status,
         service: f.service,
+        bits: f.bits,
+        code: f.code,
         size: 5,
         reply: 5 + n,
     }
 }
 
-// A command by its code.
-fn pass_command(stack: &mut [u8], f: Flags, code: u8, room: &mut [u8]) -> Pass
+// A command by its code. One that leaves no error bit leaves the memory as it stood.
+fn pass_command(stack: &mut [u8], f: Rest, code: u8, room: &mut [u8]) -> Pass
     requires { ⌜ length (now stack) ≡ 16 ⌝ }
     ensures { λ r. ⌜ Passes (now (stack .entry)) f (Event.Command code) r (now (stack .exit)) (now (room .entry)) (now (room .exit)) ⌝ }
 {
@@ -141,31 +155,53 @@ fn pass_command(stack: &mut [u8], f: Flags, code: u8, room: &mut [u8]) -> Pass
     if 128 <= f.status {
         return turn_away(f, room, 131, 1, 0);
     }
+    let m = Memory {
+        bits: f.bits,
+        code: f.code,
+    };
     let answer = place::command(stack, f.pending, code);
-    if answer < 256 {
-        open_reply(room, 0, 131, 0);
+    if 255 < answer {
+        open_reply(room, 0, 131, (answer / 256) as u8);
         return Pass {
             refusal: 0,
             pending: f.pending,
-            status: answer as u8,
-            service: codes::service(code),
+            status: f.status,
+            service: f.service,
+            bits: f.bits,
+            code: f.code,
             size: 5,
             reply: 5,
         };
     }
-    open_reply(room, 0, 131, (answer / 256) as u8);
+    open_reply(room, 0, 131, 0);
+    let status = answer as u8;
+    if status / 2 % 16 == 0 {
+        return Pass {
+            refusal: 0,
+            pending: f.pending,
+            status,
+            service: codes::service(code),
+            bits: m.bits,
+            code: m.code,
+            size: 5,
+            reply: 5,
+        };
+    }
+    let after = remember(m, code, status);
     Pass {
         refusal: 0,
         pending: f.pending,
-        status: f.status,
-        service: f.service,
+        status,
+        service: codes::service(code),
+        bits: after.bits,
+        code: after.code,
         size: 5,
         reply: 5,
     }
 }
 
 // The status byte, to the reply.
-fn pass_status(f: Flags, room: &mut [u8]) -> Pass
+fn pass_status(f: Rest, room: &mut [u8]) -> Pass
     ensures { λ r. ⌜ PassesOver f Event.Status r (now (room .entry)) (now (room .exit)) ⌝ }
 {
     if room.len() < 6 {
@@ -181,13 +217,15 @@ fn pass_status(f: Flags, room: &mut [u8]) -> Pass
         pending: f.pending,
         status: f.status,
         service: f.service,
+        bits: f.bits,
+        code: f.code,
         size: 4,
         reply: 6,
     }
 }
 
-// Reset: stack all zero, nothing pending, status 0, service line low.
-fn pass_reset(stack: &mut [u8], f: Flags, room: &mut [u8]) -> Pass
+// Reset: stack all zero, nothing pending, status 0, service line low, nothing remembered.
+fn pass_reset(stack: &mut [u8], f: Rest, room: &mut [u8]) -> Pass
     requires { ⌜ length (now stack) ≡ 16 ⌝ }
     ensures { λ r. ⌜ Passes (now (stack .entry)) f Event.Reset r (now (stack .exit)) (now (room .entry)) (now (room .exit)) ⌝ }
 {
@@ -198,19 +236,22 @@ fn pass_reset(stack: &mut [u8], f: Flags, room: &mut [u8]) -> Pass
         return turn_away(f, room, 133, 0, 0);
     }
     let after = place::reset(stack);
+    let nothing = empty();
     open_reply(room, 0, 133, 0);
     Pass {
         refusal: 0,
         pending: after.pending,
         status: after.status,
         service: after.service,
+        bits: nothing.bits,
+        code: nothing.code,
         size: 4,
         reply: 5,
     }
 }
 
 // Acknowledge: the service line goes low.
-fn pass_acknowledge(f: Flags, room: &mut [u8]) -> Pass
+fn pass_acknowledge(f: Rest, room: &mut [u8]) -> Pass
     ensures { λ r. ⌜ PassesOver f Event.Acknowledge r (now (room .entry)) (now (room .exit)) ⌝ }
 {
     if room.len() < 5 {
@@ -225,15 +266,65 @@ fn pass_acknowledge(f: Flags, room: &mut [u8]) -> Pass
         pending: f.pending,
         status: f.status,
         service: false,
+        bits: f.bits,
+        code: f.code,
+        size: 4,
+        reply: 5,
+    }
+}
+
+// The error memory, its bits and its code to the reply.
+fn pass_recall(f: Rest, room: &mut [u8]) -> Pass
+    ensures { λ r. ⌜ PassesOver f Event.Recall r (now (room .entry)) (now (room .exit)) ⌝ }
+{
+    if room.len() < 7 {
+        return stop(Refusal::NoRoom, f);
+    }
+    if 128 <= f.status {
+        return turn_away(f, room, 135, 0, 2);
+    }
+    room[5] = f.bits;
+    room[6] = f.code;
+    open_reply(room, 2, 135, 0);
+    Pass {
+        refusal: 0,
+        pending: f.pending,
+        status: f.status,
+        service: f.service,
+        bits: f.bits,
+        code: f.code,
+        size: 4,
+        reply: 7,
+    }
+}
+
+// The error memory cleared.
+fn pass_forget(f: Rest, room: &mut [u8]) -> Pass
+    ensures { λ r. ⌜ PassesOver f Event.Forget r (now (room .entry)) (now (room .exit)) ⌝ }
+{
+    if room.len() < 5 {
+        return stop(Refusal::NoRoom, f);
+    }
+    if 128 <= f.status {
+        return turn_away(f, room, 136, 0, 0);
+    }
+    open_reply(room, 0, 136, 0);
+    Pass {
+        refusal: 0,
+        pending: f.pending,
+        status: f.status,
+        service: f.service,
+        bits: 0,
+        code: 0,
         size: 4,
         reply: 5,
     }
 }
 
 // A whole record with its event: refused where the reply has no room, else done and answered.
-fn pass_whole(stack: &mut [u8], f: Flags, event: Event, rest: &[u8], room: &mut [u8]) -> Pass
+fn pass_whole(stack: &mut [u8], f: Rest, event: Event, rest: &[u8], room: &mut [u8]) -> Pass
     requires { ⌜ (length (now stack) ≡ 16) × (4 + payloadOf event ≤ length (now rest)) × (payloadOf event ≤ mostPayload) × (answeredOf event ≤ mostPayload) × Asks event ⌝ }
-    ensures { λ r. ⌜ Passed (turnBy (stateAt (now (stack .entry)) f) (now (rest .entry)) (length (now (room .entry))) (Head.Whole event)) r (now (stack .exit)) (now (rest .entry)) (now (room .entry)) (now (room .exit)) ⌝ }
+    ensures { λ r. ⌜ Passed (turnBy (cardAt (now (stack .entry)) f) (now (rest .entry)) (length (now (room .entry))) (Head.Whole event)) r (now (stack .exit)) (now (rest .entry)) (now (room .entry)) (now (room .exit)) ⌝ }
 {
     match event {
         Event::Push(n) => pass_push(stack, f, n, rest, room),
@@ -242,13 +333,15 @@ fn pass_whole(stack: &mut [u8], f: Flags, event: Event, rest: &[u8], room: &mut 
         Event::Status => pass_status(f, room),
         Event::Reset => pass_reset(stack, f, room),
         Event::Acknowledge => pass_acknowledge(f, room),
+        Event::Recall => pass_recall(f, room),
+        Event::Forget => pass_forget(f, room),
     }
 }
 
 // The record step: what becomes of the record at the front of `rest`.
-pub fn pass_record(stack: &mut [u8], f: Flags, rest: &[u8], room: &mut [u8]) -> Pass
+pub fn pass_record(stack: &mut [u8], f: Rest, rest: &[u8], room: &mut [u8]) -> Pass
     requires { ⌜ length (now stack) ≡ 16 ⌝ }
-    ensures { λ r. ⌜ Passed (turnOf (stateAt (now (stack .entry)) f) (now (rest .entry)) (length (now (room .entry)))) r (now (stack .exit)) (now (rest .entry)) (now (room .entry)) (now (room .exit)) ⌝ }
+    ensures { λ r. ⌜ Passed (turnOf (cardAt (now (stack .entry)) f) (now (rest .entry)) (length (now (room .entry)))) r (now (stack .exit)) (now (rest .entry)) (now (room .entry)) (now (room .exit)) ⌝ }
 {
     match read_head(rest) {
         Head::Whole(event) => pass_whole(stack, f, event, rest, room),

@@ -1,5 +1,5 @@
 // The chip as the bytes of its state: 16 of the stack, the top first, then pending, status and service line,
-// and zeros.
+// the bits and the code of the error memory, and zeros.
 use crate::bytes;
 use crate::bytes::Bytes;
 use crate::fixed_point;
@@ -23,9 +23,18 @@ fn answered(refusal: u8, byte: u8, chip: Bytes) -> Reply {
     }
 }
 
-// 19 bytes, both flags 0 or 1, busy clear.
+// 19 or 21 bytes, both flags 0 or 1, busy clear, the memory sound. Past 19 bytes the memory reads as empty.
 pub fn is_state(c: Bytes, n: usize) -> bool {
-    (n == 19) & (bytes::byte(c, 16) | bytes::byte(c, 18) < 2) & (bytes::byte(c, 17) < 128)
+    let flags = (bytes::byte(c, 16) | bytes::byte(c, 18) < 2) & (bytes::byte(c, 17) < 128);
+    ((n == 19) | (n == 21)) & flags & is_memory(bytes::byte(c, 19), bytes::byte(c, 20))
+}
+
+// No bits and no code, or bits among 4 to 1 and a code.
+fn is_memory(bits: u8, code: u8) -> bool {
+    match bits {
+        0 => code == 0,
+        _ => (bits % 2 == 0) & (bits < 31) & (code != 0),
+    }
 }
 
 // What an operation, the low five bits of a code, makes of two words.
@@ -93,12 +102,26 @@ fn became(row: u8, error: u8) -> u8 {
     }
 }
 
+// The memory's two bytes.
+fn remembering(c: Bytes, bits: u8, code: u8) -> Bytes {
+    bytes::with(bytes::with(c, 19, bits), 20, code)
+}
+
+// A command's error joined to those remembered; of the first that has one the code, without sr.
+fn remembered(c: Bytes, code: u8, error: u8) -> Bytes {
+    let standing = bytes::byte(c, 20);
+    let first = (standing == 0) & (error != 0);
+    let kept = if first { code % 128 } else { standing };
+    remembering(c, bytes::byte(c, 19) | error << 1, kept)
+}
+
 // The chip after a command that is carried out. A code from 128 on raises the service line.
 fn after(c: Bytes, code: u8, row: u8, r: Outcome) -> Bytes {
     let left = sheet::left(c, row, r.word, 0);
     let narrow = is_narrow(code) | (row == b'T');
     let told = status(code, bytes::number(left, 0), narrow, r);
-    bytes::with(bytes::with(left, 17, told), 18, code / 128)
+    let line = bytes::with(bytes::with(left, 17, told), 18, code / 128);
+    remembered(line, code, r.error)
 }
 
 fn command(c: Bytes, code: u8) -> Reply {
@@ -128,6 +151,8 @@ pub fn event(c: Bytes, kind: u32, b: u8) -> Reply {
         4 => answered(0, bytes::byte(c, 17), c),
         5 => answered(0, 0, [0; 32]),
         6 => answered(0, 0, bytes::with(c, 18, 0)),
+        7 => answered(0, bytes::byte(c, 19), c),
+        8 => answered(0, 0, remembering(c, 0, 0)),
         _ => answered(5, 0, c),
     }
 }

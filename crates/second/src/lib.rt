@@ -2,7 +2,7 @@
 // by other means than the crates that it is compared with. Every function is proved safe and ending;
 // none promises a result.
 
-// Lent slices, and 24 bytes by value.
+// Lent slices, and 32 bytes by value.
 mod bytes;
 // The single event and the conversions, on slices.
 pub mod calls;

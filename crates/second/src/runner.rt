@@ -2,6 +2,7 @@
 use crate::bytes;
 use crate::bytes::Bytes;
 use crate::chip;
+use crate::chip::Reply;
 
 // A record's length, kind and first byte of payload.
 struct Head {
@@ -30,17 +31,29 @@ fn data(h: Head) -> u8 {
     match kind {
         2 => h.first,
         4 => 1,
+        7 => 2,
         _ => 0,
     }
 }
 
-// How many events a record is: one for each byte pushed or popped, else one.
+// How many events a record is: one for each byte pushed, popped or remembered, else one.
 fn events(h: Head) -> usize {
     let kind = h.kind;
     match kind {
         1 => std::num::wrapping_sub_u32(h.length, 2) as usize,
         2 => h.first as usize,
+        7 => 2,
         _ => 1,
+    }
+}
+
+// The byte that event i of a record read: of the memory the bits, then the code, which stands behind them.
+fn byte_read(h: Head, i: usize, answer: Reply) -> u8 {
+    let chip = answer.chip;
+    let kind = h.kind;
+    match kind {
+        7 => bytes::byte(chip, 19 + i % 2),
+        _ => answer.byte,
     }
 }
 
@@ -59,7 +72,7 @@ fn suits(h: Head) -> bool {
 // from its place on.
 fn judged(h: Head, left: usize, room: usize) -> u8 {
     let whole = (2 <= left) & (h.length as usize + 2 <= left);
-    let known = (1 <= h.kind) & (h.kind <= 6);
+    let known = (1 <= h.kind) & (h.kind <= 8);
     let short = room < data(h) as usize + 5;
     if (2 <= left) & ((h.length < 2) | (242 < h.length)) {
         7
@@ -115,7 +128,7 @@ fn done(r: Progress, h: Head, input: &[u8], replies: &mut [u8]) -> Progress {
         let answer = chip::event(chip, h.kind, pushed);
         chip = answer.chip;
         refusal = answer.refusal;
-        keep(replies, to, i, data(h) as usize, answer.byte);
+        keep(replies, to, i, data(h) as usize, byte_read(h, i, answer));
     }
     bytes::write(replies, r.written, reply_to(h, refusal), 5);
     Progress {
@@ -161,7 +174,8 @@ fn report_of(r: Progress) -> Bytes {
     bytes::with_four(taken, 5, (r.written % 4294967296) as u32)
 }
 
-// A record has at least four bytes, so the turns are enough for every file.
+// A record has at least four bytes, so the turns are enough for every file. A state of 19 bytes has no place for the
+// memory, which is dropped.
 pub fn run(state: &mut [u8], input: &[u8], replies: &mut [u8], report: &mut [u8]) -> u32 {
     if report.len() != 9 {
         return 14;
@@ -173,7 +187,7 @@ pub fn run(state: &mut [u8], input: &[u8], replies: &mut [u8], report: &mut [u8]
         r = next(r, input, replies);
     }
     let after = r.chip;
-    bytes::write(state, 0, after, 19);
+    bytes::write(state, 0, after, 21);
     bytes::write(report, 0, report_of(r), 9);
     r.stop as u32
 }

@@ -1,17 +1,32 @@
--- The bytes of a state and of a report as code lays them: three stores behind the stack; one store and four bytes for each count. Assumes nothing.
-use mathlib.Core.Path.{_≡_, ap, _∙_}
-use mathlib.Core.List.{List, [], _∷_, _++_, append-nil}
+-- The bytes of a state and of a report as code lays them: stores behind the stack, up to the last byte; one store and four bytes for each count. Assumes nothing.
+use mathlib.Core.Path.{_≡_, sym, ap, _∙_}
+use mathlib.Core.List.{List, [], _∷_, _++_, append-nil, append-assoc}
 use Prim.Native.Nat.{ℕ, _+_, _≤_}
 use native.Mathlib.Omega.{arith}
 use lib.ListN.{length, take, drop, set, length-append, length-drop, drop-of-length-le}
+use borrow.Author.Tests.{eq-eqb, ne-eqb}
 use lib.Seq.{length-take-le, sets, sets-eq}
 use Rattle.little.specs.Little.{le4}
-use Rattle.stored.specs.Bytes.{reportOf}
+use Rattle.memory.specs.declared.place.Rest.{Rest}
+use Rattle.memory.specs.Held.{cardAt}
+use Rattle.stored.specs.Bytes.{flagOf, laidOut, reportOf}
 
--- the last three bytes of a state stored
-pub laid : (state vs : List ℕ) → length vs ≡ 3 → length state ≡ 19 → sets state 16 vs ≡ take 16 state ++ vs
-laid state vs n h =
+-- the bytes behind the stack stored
+pub laid : (state vs : List ℕ) → length state ≡ 16 + length vs → sets state 16 vs ≡ take 16 state ++ vs
+laid state vs h =
     sets-eq vs state 16 (omega arith) ∙ rw (drop-of-length-le state {i = 16 + length vs} (omega arith), append-nil (take 16 state ++ vs))
+
+module _ (l : List ℕ) (f : Rest) {p v : ℕ} (ep : p ≡ flagOf (f .pending)) (ev : v ≡ flagOf (f .service)) where
+  -- three bytes of 19
+  pub laid-short : length l ≡ 19 → sets l 16 (p ∷ f .status ∷ v ∷ []) ≡ laidOut (length l) (cardAt (take 16 l) f)
+  laid-short h =
+      laid l (p ∷ f .status ∷ v ∷ []) h ∙ rw (ep, ev, eq-eqb (length l) 19 h, append-nil (take 16 l ++ (flagOf (f .pending) ∷ f .status ∷ flagOf (f .service) ∷ [])))
+
+  -- five of 21
+  pub laid-long : length l ≡ 21 → sets l 16 (p ∷ f .status ∷ v ∷ f .bits ∷ f .code ∷ []) ≡ laidOut (length l) (cardAt (take 16 l) f)
+  laid-long h =
+      laid l (p ∷ f .status ∷ v ∷ f .bits ∷ f .code ∷ []) h
+      ∙ rw (ep, ev, ne-eqb (length l) 19 (λ a. omega arith)) (sym (append-assoc (take 16 l) (flagOf (f .pending) ∷ f .status ∷ flagOf (f .service) ∷ []) (f .bits ∷ f .code ∷ [])))
 
 -- four bytes from a place, written over
 abbrev pub over : ℕ → List ℕ → List ℕ → List ℕ

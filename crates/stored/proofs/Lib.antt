@@ -1,3 +1,4 @@
 -- The laws of what is stored.
 pub mod Laid
 pub mod States
+pub mod Cards

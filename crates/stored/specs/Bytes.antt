@@ -1,21 +1,32 @@
--- The state as 19 bytes and the report as 9. Definitions only. Assumes nothing.
+-- The state as 19 bytes, or 21 with its error memory, and the report as 9. Definitions only. Assumes nothing.
 use Prim.Native.Nat.{ℕ}
+use mathlib.Core.Path.{_≡_}
+use mathlib.Core.Logic.{_⊎_}
 use mathlib.Core.Bool.{Bool, true, false, cond}
 use mathlib.Core.List.{List, [], _∷_, _++_}
 use lib.Dec.{eqb, ltb}
 use lib.ListN.{length, take, getD}
 use Rattle.little.specs.Little.{le4}
-use Rattle.terms.specs.Limits.{stackBytes, stateBytes}
+use Rattle.terms.specs.Limits.{stackBytes, stateBytes, longStateBytes}
 use Rattle.chip.specs.declared.State.{State}
+use Rattle.memory.specs.declared.Memory.{Memory}
+use Rattle.memory.specs.Memory.{Card, emptyMemory, isMemory}
 
--- whether bytes stand for a state: 19 of them, pending and service 0 or 1, busy (status bit 7) clear
+-- as many bytes as a state has: 19, or 21
+abbrev pub Sized : List ℕ → Type 0
+Sized l = (length l ≡ stateBytes) ⊎ (length l ≡ longStateBytes)
+
+-- pending and service 0 or 1, busy (status bit 7) clear
+abbrev pub isChip : List ℕ → Bool
+isChip l = cond (ltb 1 (getD l 16 0)) false (cond (ltb 127 (getD l 17 0)) false (cond (ltb 1 (getD l 18 0)) false true))
+
+-- whether bytes stand for a state: 19 of them; or 21, the last two the error memory's bits and code
 unfoldable pub isState : List ℕ → Bool
 isState l =
-    cond (eqb (length l) stateBytes)
-    (cond (ltb 1 (getD l 16 0)) false (cond (ltb 127 (getD l 17 0)) false (cond (ltb 1 (getD l 18 0)) false true)))
-    false
+    cond (eqb (length l) stateBytes) (isChip l)
+    (cond (eqb (length l) longStateBytes) (cond (isChip l) (isMemory (getD l 19 0) (getD l 20 0)) false) false)
 
--- the state of 19 bytes: stack top first, pending, status, service
+-- the chip of a state: stack top first, pending, status, service
 abbrev pub stateOf : List ℕ → State
 stateOf l = record {
   stack = take stackBytes l;
@@ -24,13 +35,24 @@ stateOf l = record {
   service = eqb (getD l 18 0) 1;
 }
 
+-- "a 19-byte state is read with an empty memory"
+abbrev pub memoryIn : List ℕ → Memory
+memoryIn l = cond (eqb (length l) stateBytes) emptyMemory (record { bits = getD l 19 0; code = getD l 20 0 })
+
+abbrev pub cardIn : List ℕ → Card
+cardIn l = record { chip = stateOf l; memory = memoryIn l }
+
 -- a flag as a byte
 abbrev pub flagOf : Bool → ℕ
 flagOf set = cond set 1 0
 
--- the 19 bytes of a state
+-- the 19 bytes of a chip
 abbrev pub stateBytesOf : State → List ℕ
 stateBytesOf s = s .stack ++ (flagOf (s .pending) ∷ s .status ∷ flagOf (s .service) ∷ [])
+
+-- the bytes of a card, of which so many were lent: "written back as 19 bytes, memory dropped"
+abbrev pub laidOut : ℕ → Card → List ℕ
+laidOut n c = stateBytesOf (c .chip) ++ cond (eqb n stateBytes) [] (c .memory .bits ∷ c .memory .code ∷ [])
 
 -- the report: refusal, bytes of whole records taken, bytes of replies written
 abbrev pub reportOf : ℕ → ℕ → ℕ → List ℕ

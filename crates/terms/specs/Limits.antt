@@ -9,6 +9,10 @@ stackBytes = 16
 abbrev pub stateBytes : ℕ
 stateBytes = 19
 
+-- the bytes of a stored state with its error memory: the bits and the code behind the service line
+abbrev pub longStateBytes : ℕ
+longStateBytes = 21
+
 -- the bytes of a report: the refusal and two counts of four bytes
 abbrev pub reportBytes : ℕ
 reportBytes = 9

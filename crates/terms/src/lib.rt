@@ -9,6 +9,8 @@ ghost use Rattle.terms.specs.Width.{sizeOf};
 pub const STACK_BYTES: usize = 16;
 // The bytes of a stored state: stack, pending, status, service.
 pub const STATE_BYTES: usize = 19;
+// The bytes of a stored state with its error memory: the bits and the code behind the service line.
+pub const LONG_STATE_BYTES: usize = 21;
 // The bytes of a report: the refusal and two counts of four bytes.
 pub const REPORT_BYTES: usize = 9;
 // The most bytes that an input may have.

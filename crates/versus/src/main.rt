@@ -1,12 +1,14 @@
 // Runs the exported calls and the second opinion side by side over edge words and drawn words: every command
-// that makes a word of words, and the conversions; and the chip by value over states, all 256 codes among its
-// events. Prints a line for each group: its name, how many were compared, how many differ. The first case that
+// that makes a word of words, and the conversions; the chip by value over states, all 256 codes among its events; and
+// the error memory, by the call for an event. Prints a line for each group: its name, how many were compared, how many differ. The first case that
 // differs in a group is shown before its line.
 use cases::bytes;
 use cases::tally;
 use cases::tally::Tally;
 use words::Pair;
 
+// Events on states with an error memory.
+mod memories;
 // Events on states of the chip.
 mod states;
 // The operands of a case.
@@ -54,12 +56,13 @@ fn compared_bits(t: Tally, side: u32, bits: u32, size: usize, i: u32) -> Tally {
     tally::seen(t, i, told, second, &x, &y)
 }
 
-// One case more of an operation's part, or of a part of the chip's states.
+// One case more of an operation's part, or of a part of the chip's states or of the memory's.
 fn seen(t: Tally, op: u32, part: u32, i: u32) -> Tally {
     let p = words::operands(op, part, i);
     match op {
         23 | 24 => compared_bits(t, op - 23, p.a, words::size(part, i), i),
         25 => states::seen(t, part, i),
+        26 => memories::seen(t, part, i),
         _ => commanded(t, op, p, i),
     }
 }
@@ -74,10 +77,10 @@ fn compared(op: u32, part: u32) -> Tally {
 
 fn main() {
     let names =
-        b"SADD SSUB SMUL SMUU SDIV CHSS DADD DSUB DMUL DMUU DDIV CHSD FADD FSUB FMUL FDIV FIXD FIXS FLTD FLTS CHSF PROP SQRT to_f32 to_word chip";
+        b"SADD SSUB SMUL SMUU SDIV CHSS DADD DSUB DMUL DMUU DDIV CHSD FADD FSUB FMUL FDIV FIXD FIXS FLTD FLTS CHSF PROP SQRT to_f32 to_word chip memory";
     let parts =
         b"edges distances neighbours squares exponents slices drawn grid half-words busy codes events";
-    for group in 0..312u32 {
+    for group in 0..324u32 {
         let op = group / 12;
         let part = group % 12;
         if words::count(op, part) > 0 {

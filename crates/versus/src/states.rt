@@ -8,9 +8,9 @@ use chip::Answer;
 use chip::State;
 
 // The words of the grid: fixed point edges, float edges and improper words.
-const GRID: u32 = 24;
+pub const GRID: u32 = 24;
 
-fn grid(i: u32) -> u32 {
+pub fn grid(i: u32) -> u32 {
     match i % GRID {
         0 => 0,
         1 => 1,
@@ -40,7 +40,7 @@ fn grid(i: u32) -> u32 {
 }
 
 // A drawn state, in one of four cases with a half word, in one of sixteen busy.
-fn any_state(i: u32) -> [u8; 19] {
+pub fn any_state(i: u32) -> [u8; 19] {
     let at = i % 1000000 * 3;
     let more = words::drawn(at);
     bytes::state(

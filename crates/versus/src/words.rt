@@ -1,6 +1,7 @@
 // The operands of a case. An operation is a number: 0 to 5 fixed point at 16 bits, 6 to 11 at 32, 12 to 15 two
-// float words to one, 16 to 22 one word to another, 23 and 24 the conversions; 25 are
-// the events on states.
+// float words to one, 16 to 22 one word to another, 23 and 24 the conversions; 25 are the events on states, 26 those
+// with an error memory.
+use crate::memories;
 use crate::states;
 use cases::words;
 ghost use Prim.Native.Nat.{_<_};
@@ -33,7 +34,15 @@ pub fn count(op: u32, part: u32) -> u32 {
         4 => exponent_count(op),
         5 => if (op == 23) | (op == 24) { 198 * 8 } else { 0 },
         6 => drawn_count(op),
-        _ => if op == 25 { states::count(part) } else { 0 },
+        _ => state_count(op, part),
+    }
+}
+
+fn state_count(op: u32, part: u32) -> u32 {
+    match op {
+        25 => states::count(part),
+        26 => memories::count(part),
+        _ => 0,
     }
 }
 
@@ -45,7 +54,7 @@ fn edge_count(op: u32) -> u32 {
         12 | 13 | 14 | 15 => 91 * 91,
         16 | 17 | 22 => 5 * 128 * 2,
         19 => 65536,
-        25 => 0,
+        25 | 26 => 0,
         _ => 198,
     }
 }
@@ -61,7 +70,7 @@ fn exponent_count(op: u32) -> u32 {
 fn drawn_count(op: u32) -> u32 {
     match op {
         12 | 13 | 14 | 15 => 8192,
-        25 => 0,
+        25 | 26 => 0,
         _ => 4096,
     }
 }

@@ -7,7 +7,7 @@ use cases::tally::Tally;
 use cases::words;
 
 // A run: the file is drawn from a seed with so many records, then cut and damaged, or is an edge record
-// where there are none; the state is sound where `fault` is not 1 to 6; replies and report have so many bytes.
+// where there are none; the state has its number in `files`; replies and report have so many bytes.
 pub struct Case {
     seed: u32,
     records: u32,
@@ -29,23 +29,23 @@ fn sound(seed: u32, records: u32, cut: usize, damage: u32, room: usize) -> Case 
         records,
         cut,
         damage,
-        fault: 0,
+        fault: files::taken(seed),
         room,
         report: 9,
     }
 }
 
-// A fault of the state, a length of the report, and a long input or a short one.
+// Every state, a length of the report, and a long input or a short one.
 fn unsound(i: u32) -> Case {
-    let long = i / 8 % 2 == 1;
+    let long = i / 16 % 2 == 1;
     Case {
         seed: i,
         records: if long { 2400 } else { 4 },
         cut: if long { 12289 } else { 64 },
         damage: 0,
-        fault: i % 8,
+        fault: i % 16,
         room: ROOM,
-        report: match i / 16 % 4 {
+        report: match i / 32 % 4 {
             0 => 8,
             1 => 10,
             2 => 0,
@@ -54,12 +54,11 @@ fn unsound(i: u32) -> Case {
     }
 }
 
-// No room, room for a reply without data, or ample room.
+// No room, room for a reply without data, with one byte and with two, or ample room.
 fn edge_room(i: u32) -> usize {
-    match i % 3 {
-        0 => 4,
-        1 => 5,
-        _ => ROOM,
+    match i % 5 {
+        4 => ROOM,
+        n => n as usize + 4,
     }
 }
 
@@ -73,7 +72,7 @@ pub fn run_at(group: u32, i: u32) -> Case {
         3 => sound(i / 128, 16, INPUT, 0, few),
         4 => sound(i, 2400, 12264 + (i % 40) as usize, 0, ROOM),
         5 => unsound(i),
-        _ => sound(i, 0, INPUT, 0, edge_room(i / 5280)),
+        _ => sound(i, 0, INPUT, 0, edge_room(i / 6336)),
     }
 }
 
@@ -143,18 +142,20 @@ pub fn seen_run(t: Tally, c: Case, i: u32) -> Tally {
     tally::seen(t, i, x, y | (!same as u32) << 31, &report, &report_again)
 }
 
-// Kinds 0 to 7, and two that are not to be taken modulo 256.
+// Kinds 0 to 9, and four that are not to be taken modulo 256.
 fn kind(i: u32) -> u32 {
-    match i % 10 {
-        8 => 259,
-        9 => 4294967041,
+    match i % 14 {
+        10 => 259,
+        11 => 263,
+        12 => 4294967041,
+        13 => 4294967047,
         n => n,
     }
 }
 
-// An event of the calls, or of the second opinion.
-fn answered(again: bool, state: &mut [u8], fault: u32, kind: u32, byte: u8) -> u32 {
-    let s = bytes::part(state, files::state_size(fault));
+// An event of the calls, or of the second opinion, on so many bytes.
+fn answered(again: bool, state: &mut [u8], size: usize, kind: u32, byte: u8) -> u32 {
+    let s = bytes::part(state, size);
     if again {
         second::calls::event(&mut state[..s], kind, byte)
     } else {
@@ -162,14 +163,75 @@ fn answered(again: bool, state: &mut [u8], fault: u32, kind: u32, byte: u8) -> u
     }
 }
 
-// One event more.
+// The same event on both sides.
+fn compared(t: Tally, i: u32, state: [u8; 24], size: usize, kind: u32, byte: u8) -> Tally {
+    let mut left = state;
+    let mut again = state;
+    let x = answered(false, &mut left, size, kind, byte);
+    let y = answered(true, &mut again, size, kind, byte);
+    tally::seen(t, i, x, y, &left, &again)
+}
+
+// One event more, on every state.
 pub fn seen_event(t: Tally, i: u32) -> Tally {
     let fault = i % 16;
-    let kind = kind(i / 16);
-    let byte = files::code(words::drawn(i));
-    let mut state = files::state(i, fault);
-    let mut again = state;
-    let x = answered(false, &mut state, fault, kind, byte);
-    let y = answered(true, &mut again, fault, kind, byte);
-    tally::seen(t, i, x, y, &state, &again)
+    compared(
+        t,
+        i,
+        files::state(i, fault),
+        files::state_size(fault),
+        kind(i / 16),
+        files::code(words::drawn(i)),
+    )
+}
+
+// One memory more, all pairs of bytes: it is read, or FDIV by zero with the service bit joins an error to it.
+pub fn seen_memory(t: Tally, i: u32) -> Tally {
+    let sound = bytes::state(0, 0x01800000, 0, 0, i);
+    let state = bytes::stored(sound, (i / 2 % 256) as u8, (i / 512 % 256) as u8);
+    compared(t, i, state, 21, 3 + i % 2 * 4, 0x93)
+}
+
+// One length more: a state with an empty memory or any, of which 0 to 24 bytes are lent, and every kind.
+pub fn seen_length(t: Tally, i: u32) -> Tally {
+    compared(
+        t,
+        i,
+        files::state(i, 7 + i / 350 % 2),
+        (i % 25) as usize,
+        kind(i / 25),
+        files::code(words::drawn(i)),
+    )
+}
+
+// Most events of a history are commands; the memory is read and cleared, the chip is reset, bytes are moved.
+fn kind_in_turn(n: u32) -> u32 {
+    match n % 16 {
+        12 => 7,
+        13 => 8,
+        14 => 5,
+        15 => 1 + n / 16 % 8,
+        _ => 3,
+    }
+}
+
+// 32 events in turn; a number made of all their answers, each of which changes it.
+fn history(again: bool, state: &mut [u8], size: usize, seed: u32) -> u32 {
+    let mut told: u32 = 0;
+    for k in 0..32u32 {
+        let n = words::drawn(std::num::wrapping_add_u32(seed % 65536 * 32, k));
+        let answer = answered(again, state, size, kind_in_turn(n), files::code(n / 16));
+        told = words::drawn(std::num::wrapping_add_u32(told, answer));
+    }
+    told
+}
+
+// One history more, in three of four cases of a state with a memory.
+pub fn seen_history(t: Tally, i: u32) -> Tally {
+    let size = if i % 4 == 3 { 19 } else { 21 };
+    let mut left = files::state(i, 7 + i % 2);
+    let mut again = left;
+    let x = history(false, &mut left, size, i);
+    let y = history(true, &mut again, size, i);
+    tally::seen(t, i, x, y, &left, &again)
 }

@@ -30,7 +30,7 @@ fn kind(n: u32) -> u8 {
     match n % 4 {
         0 | 1 => 1,
         2 => 3,
-        _ => (1 + n / 4 % 6) as u8,
+        _ => (1 + n / 4 % 8) as u8,
     }
 }
 
@@ -103,14 +103,22 @@ pub fn put_records(s: &mut [u8], seed: u32, records: u32) -> usize {
     at
 }
 
-// A single record of 22 lengths, eight kinds and two that are not to be cut to a byte, eight first bytes,
-// in a file that is one byte short, whole or one byte over; how many bytes the file has.
+// A single record of 22 lengths, twelve kinds, eight first bytes, in a file that is one byte short, whole or one byte
+// over; how many bytes the file has.
 pub fn put_edge(s: &mut [u8], i: u32) -> usize {
     let length = edge_length(i);
-    let kind = i / 22 % 10;
-    put_head(s, 0, length, kind % 8 + kind / 8 * 256);
-    put(s, 4, edge_byte(i / 220));
-    (length + 1 + i / 1760 % 3) as usize
+    put_head(s, 0, length, edge_kind(i / 22));
+    put(s, 4, edge_byte(i / 264));
+    (length + 1 + i / 2112 % 3) as usize
+}
+
+// The eight kinds, those beside them, and two that are not to be cut to a byte.
+fn edge_kind(i: u32) -> u32 {
+    match i % 12 {
+        10 => 256,
+        11 => 263,
+        n => n,
+    }
 }
 
 // Lengths about the least, about that of 16 bytes, the most, and one that is not to be cut to a byte.
@@ -161,30 +169,58 @@ pub fn damage(s: &mut [u8], n: usize, times: u32, seed: u32) {
     }
 }
 
-// A fault of a state: 1 to 3 another length, 4 to 6 a byte that 01 refuses, else none.
+// A state by its number, from 0 to 15: 19 bytes; other lengths (1 18, 2 20, 3 none, 9 22); a byte that 01 refuses (4
+// pending, 5 and 15 busy, 6 service, 15 with a memory); 21 bytes with a memory (7 none, 8 any, 14 with a code from 80 hex
+// on), and with one that 02 refuses (10 odd bits, 11 bits over 30, 12 a code without bits, 13 bits without a code).
 pub fn state_size(fault: u32) -> usize {
     match fault {
         1 => 18,
         2 => 20,
         3 => 0,
-        _ => 19,
+        0 | 4 | 5 | 6 => 19,
+        9 => 22,
+        _ => 21,
     }
 }
 
-// A drawn state and a byte past it; a half word is pending in one of four.
-pub fn state(seed: u32, fault: u32) -> [u8; 20] {
+// A state that is taken: in half of the cases of 19 bytes, else of 21.
+pub fn taken(seed: u32) -> u32 {
+    match words::drawn(seed) / 65536 % 6 {
+        0 => 7,
+        1 => 8,
+        2 => 14,
+        _ => 0,
+    }
+}
+
+fn bits(fault: u32, n: u32) -> u8 {
+    match fault {
+        2 | 7 | 12 => 0,
+        10 => (1 + n % 16 * 2) as u8,
+        11 => (32 + n % 112 * 2) as u8,
+        _ => (2 + n % 15 * 2) as u8,
+    }
+}
+
+fn remembered(fault: u32, n: u32) -> u8 {
+    match fault {
+        2 | 7 | 13 => 0,
+        14 => (128 + n % 128) as u8,
+        _ => (1 + n % 127) as u8,
+    }
+}
+
+// A drawn state and the bytes past it; a half word is pending in one of four.
+pub fn state(seed: u32, fault: u32) -> [u8; 24] {
     let n = words::drawn(seed);
     let over = (2 + n / 1024 % 8 * 36) as u8;
     let pending = match fault {
         4 => over,
         _ => (n % 4 == 0) as u8,
     };
-    let busy = ((fault == 5) as u8) << 7;
+    let busy = (((fault == 5) | (fault == 15)) as u8) << 7;
     let sound = bytes::state(words::any(n), words::any(seed), pending, busy, seed);
-    let mut s = [165u8; 20];
-    for i in 0..19usize {
-        s[i] = sound[i];
-    }
+    let mut s = bytes::stored(sound, bits(fault, n / 16), remembered(fault, n / 256));
     if fault == 6 {
         s[18] = over;
     }

@@ -1,6 +1,5 @@
 -- `memory::first` meets its contract: the code that stood, none, or the command's. Assumes nothing.
 use borrow.Author.Tests.{eq-eqb, ne-eqb}
-use borrow.Author.Needs.{needs}
 use Rattle.memory.proofs.first.Statement.{statement}
 use Rattle.memory.proofs.first.Tie as tie
 

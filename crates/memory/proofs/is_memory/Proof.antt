@@ -1,6 +1,5 @@
 -- `memory::is_memory` meets its contract: at each return the tests that led there say which case holds. Assumes nothing.
 use borrow.Author.Tests.{lt-ltb, le-ltb, eq-eqb, ne-eqb}
-use borrow.Author.Needs.{needs}
 use Rattle.memory.proofs.is_memory.Statement.{statement}
 use Rattle.memory.proofs.is_memory.Tie as tie
 

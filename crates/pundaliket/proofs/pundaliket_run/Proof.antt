@@ -1,7 +1,7 @@
 -- `pundaliket::pundaliket_run` meets its contract: at each return the tests that led there say which case of `callOf` holds. Assumes nothing.
 use denote.Ref.{now}
 use Rattle.terms.specs.declared.Refusal.the-variants.{BadState, InputTooLong}
-use Rattle.stored.proofs.States.{state-length}
+use Rattle.stored.proofs.States.{state-sized}
 use Rattle.pundaliket.proofs.Calling.{failed, passed, turned-away, bad-report, bad-state, too-long, good}
 use borrow.Author.Needs.{needs}
 use Rattle.pundaliket.proofs.pundaliket_run.Statement.{statement}
@@ -29,13 +29,22 @@ returns-3 c =
     (turned-away InputTooLong (t .result) (now (a .state)) (now (a .replies)) (t .last .0) (t .ensures .0) (t .ensures .1))
 
 run-good-requires : tie.Need-run-good-requires
-run-good-requires c κs = (state-length (now (c .before .before .before .before .before .before .before .before .before .before .before .before .args .state)) (passed (c .before .before .before .before .before .is-state .result) _ (c .before .before .before .before .before .is-state .ensures) (c .before .before .before .before .if2 .left)), c .before .before .before .before .before .before .before .if1 .left)
+run-good-requires c κs = (state-sized (now (c .before .before .before .before .before .before .before .before .before .before .before .before .before .args .state)) (passed (c .before .before .before .before .before .before .is-state .result) _ (c .before .before .before .before .before .before .is-state .ensures) (c .before .before .before .before .before .if2 .left)), c .before .before .before .before .before .before .before .before .if1 .left)
 
 returns-4 : tie.Need-returns-4
 returns-4 c =
-    let a = c .before .before .before .before .before .before .before .before .before .before .before .before .before .before .before .before .before .before .before .args in
-    let h = passed (c .before .before .before .before .before .before .before .before .before .before .before .before .is-state .result) _ (c .before .before .before .before .before .before .before .before .before .before .before .before .is-state .ensures) (c .before .before .before .before .before .before .before .before .before .before .before .if2 .left) in
-    rw (good (now (a .state)) (now (a .input)) (now (a .replies)) (now (a .report)) (c .before .before .before .before .before .before .before .before .before .before .before .before .before .before .if1 .left) h (c .before .before .before .before .before .before .before .before .before .before .if3 .left)) (c .before .before .before .before .before .before .run-good .ensures)
+    let a = c .before .before .before .before .before .before .before .before .before .before .before .before .before .before .before .before .before .before .before .before .args in
+    let h = passed (c .before .before .before .before .before .before .before .before .before .before .before .before .before .is-state .result) _ (c .before .before .before .before .before .before .before .before .before .before .before .before .before .is-state .ensures) (c .before .before .before .before .before .before .before .before .before .before .before .before .if2 .left) in
+    rw (good (now (a .state)) (now (a .input)) (now (a .replies)) (now (a .report)) (c .before .before .before .before .before .before .before .before .before .before .before .before .before .before .before .if1 .left) h (c .before .before .before .before .before .before .before .before .before .before .before .if3 .left)) (c .before .before .before .before .before .before .run-good .ensures)
+
+run-good-requires-2 : tie.Need-run-good-requires-2
+run-good-requires-2 c κs = (state-sized (now (c .before .before .before .before .before .before .before .before .before .before .before .before .before .args .state)) (passed (c .before .before .before .before .before .before .is-state .result) _ (c .before .before .before .before .before .before .is-state .ensures) (c .before .before .before .before .before .if2 .left)), c .before .before .before .before .before .before .before .before .if1 .left)
+
+returns-5 : tie.Need-returns-5
+returns-5 c =
+    let a = c .before .before .before .before .before .before .before .before .before .before .before .before .before .before .before .before .before .before .before .before .args in
+    let h = passed (c .before .before .before .before .before .before .before .before .before .before .before .before .before .is-state .result) _ (c .before .before .before .before .before .before .before .before .before .before .before .before .before .is-state .ensures) (c .before .before .before .before .before .before .before .before .before .before .before .before .if2 .left) in
+    rw (good (now (a .state)) (now (a .input)) (now (a .replies)) (now (a .report)) (c .before .before .before .before .before .before .before .before .before .before .before .before .before .before .before .if1 .left) h (c .before .before .before .before .before .before .before .before .before .before .before .if3 .left)) (c .before .before .before .before .before .before .run-good2 .ensures)
 
 pub pundaliket-run-spec : {M : Type 1} → statement M
 pundaliket-run-spec =
@@ -57,4 +66,9 @@ pundaliket-run-spec =
     (λ c. search needs)
     (λ c. search needs)
     (λ c. search needs)
-    returns-4)
+    returns-4
+    run-good-requires-2
+    (λ c. search needs)
+    (λ c. search needs)
+    (λ c. search needs)
+    returns-5)

@@ -1,35 +1,38 @@
 -- `stored::is_state` meets its contract: at each return the tests that led there say which it is. Assumes nothing.
-use native.Mathlib.Omega.{arith}
+use mathlib.Core.Path.{sym, _∙_}
 use denote.Ref.{now}
-use Rattle.stored.proofs.States.{bad-length, bad-pending, is-busy, bad-service, is-good}
+use Rattle.stored.proofs.States.{short-state, bad-length, long-state, long-bad}
 use borrow.Author.Needs.{needs}
 use Rattle.stored.proofs.is_state.Statement.{statement}
 use Rattle.stored.proofs.is_state.Tie as tie
 
 returns : tie.Need-returns
-returns c = bad-length (now (c .before .args .state)) (c .if1 .taken)
+returns c = c .is-chip .ensures ∙ sym (short-state (now (c .before .before .before .args .state)) (c .before .if1 .taken))
 
 returns-2 : tie.Need-returns-2
-returns-2 c = bad-pending (now (c .before .before .before .args .state)) (omega arith) (omega arith)
+returns-2 c = sym (bad-length (now (c .before .before .before .args .state)) (c .before .if1 .left) (c .if2 .taken))
 
 returns-3 : tie.Need-returns-3
-returns-3 c = is-busy (now (c .before .before .before .before .before .args .state)) (omega arith) (omega arith) (omega arith)
+returns-3 c =
+    let l = now (c .before .before .before .before .before .before .before .before .args .state) in
+    c .is-memory .ensures
+    ∙ sym (long-state l (c .before .before .before .before .before .if2 .left) (sym (c .before .before .before .before .is-chip2 .ensures) ∙ c .before .before .before .if3 .taken))
 
 returns-4 : tie.Need-returns-4
-returns-4 c = bad-service (now (c .before .before .before .before .before .before .before .args .state)) (omega arith) (omega arith) (omega arith) (omega arith)
-
-returns-5 : tie.Need-returns-5
-returns-5 c = is-good (now (c .before .before .before .before .before .before .before .args .state)) (omega arith) (omega arith) (omega arith) (omega arith)
+returns-4 c =
+    let l = now (c .before .before .before .before .before .args .state) in
+    sym (long-bad l (c .before .before .if2 .left) (sym (c .before .is-chip2 .ensures) ∙ c .if3 .left))
 
 pub is-state-spec : {M : Type 1} → statement M
 is-state-spec =
     tie.close
     (tie.spec
+    (λ c κs. search needs)
     returns
-    (λ c. search needs)
     returns-2
+    (λ c κs. search needs)
     (λ c. search needs)
+    (λ c. search needs)
+    (λ c κs. search needs)
     returns-3
-    (λ c. search needs)
-    returns-4
-    returns-5)
+    returns-4)

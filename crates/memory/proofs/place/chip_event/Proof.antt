@@ -8,7 +8,7 @@ use Rattle.memory.proofs.place.chip_event.Tie as tie
 returns : tie.Need-returns
 returns c =
     let a = c .before .before .before .before .before .before .before .args in
-    chip-placed (now (a .stack)) (a .f .pending) (a .f .status) (a .f .service) (a .m) (a .event) (c .before .before .before .before .event .result) (c .before .before .before .before .event .last .0) (c .before .before .before .before .event .ensures) (c .kept .ensures) (c .before .number .ensures .0)
+    chip-placed (now (a .stack)) (a .f) (a .event) (c .before .before .before .before .event .result) (c .before .before .before .before .event .last .0) (c .before .before .before .before .event .ensures) (c .kept .ensures) (c .before .number .ensures .0)
 
 pub chip-event-spec : {M : Type 1} → statement M
 chip-event-spec =

@@ -3,7 +3,7 @@ use mathlib.Core.Path.{sym, ap, _∙_}
 use denote.Ref.{now}
 use Rattle.memory.specs.declared.Event.{Event}
 use Rattle.memory.specs.Memory.{eventIn}
-use Rattle.memory.specs.Held.{coreOf}
+use Rattle.memory.specs.Held.{cardAt}
 use Rattle.memory.proofs.Placed.{recalled, forgotten}
 use borrow.Author.Needs.{needs}
 use Rattle.memory.proofs.place.event.Statement.{statement}
@@ -12,19 +12,19 @@ use Rattle.memory.proofs.place.event.Tie as tie
 returns : tie.Need-returns
 returns c =
     let a = c .before .before .before .before .before .before .before .before .args in
-    c .before .before .chip-event .ensures ∙ ap (λ (e : Event). eventIn (coreOf (now (a .stack)) (a .f .pending) (a .f .status) (a .f .service) (a .m .bits) (a .m .code)) e) (sym (c .before .before .before .before .before .event .given .1))
+    c .before .before .chip-event .ensures ∙ ap (λ (e : Event). eventIn (cardAt (now (a .stack)) (a .f)) e) (sym (c .before .before .before .before .before .event .given .1))
 
 returns-2 : tie.Need-returns-2
 returns-2 c =
     let a = c .before .before .before .args in
-    recalled (now (a .stack)) (a .f .pending) (a .f .status) (a .f .service) (a .m) (c .before .before .before .pre .1)
-    ∙ ap (λ (e : Event). eventIn (coreOf (now (a .stack)) (a .f .pending) (a .f .status) (a .f .service) (a .m .bits) (a .m .code)) e) (sym (c .enum-told .given .1))
+    recalled (now (a .stack)) (a .f) (c .before .before .before .pre .1)
+    ∙ ap (λ (e : Event). eventIn (cardAt (now (a .stack)) (a .f)) e) (sym (c .enum-told .given .1))
 
 returns-3 : tie.Need-returns-3
 returns-3 c =
     let a = c .before .before .before .args in
-    forgotten (now (a .stack)) (a .f .pending) (a .f .status) (a .f .service) (a .m) (c .before .before .before .pre .1)
-    ∙ ap (λ (e : Event). eventIn (coreOf (now (a .stack)) (a .f .pending) (a .f .status) (a .f .service) (a .m .bits) (a .m .code)) e) (sym (c .enum-told2 .given .1))
+    forgotten (now (a .stack)) (a .f) (c .before .before .before .pre .1)
+    ∙ ap (λ (e : Event). eventIn (cardAt (now (a .stack)) (a .f)) e) (sym (c .enum-told2 .given .1))
 
 pub event-spec : {M : Type 1} → statement M
 event-spec =

@@ -24,15 +24,23 @@ returns-6 : tie.Need-returns-6
 returns-6 c = c .bare3 .ensures ∙ rw (c .before .match .keys6)
 
 returns-7 : tie.Need-returns-7
-returns-7 c =
+returns-7 c = c .bare4 .ensures ∙ rw (c .before .match .keys7)
+
+returns-8 : tie.Need-returns-8
+returns-8 c = c .bare5 .ensures ∙ rw (c .before .match .keys8)
+
+returns-9 : tie.Need-returns-9
+returns-9 c =
     let k = c .before .before .args .kind in
     let r = c .match .rest in
-    simp (ne-eqb k 1 (r .0 .0 .0 .0 .0 .1), ne-eqb k 2 (r .0 .0 .0 .0 .1), ne-eqb k 3 (r .0 .0 .0 .1), ne-eqb k 4 (r .0 .0 .1), ne-eqb k 5 (r .0 .1), ne-eqb k 6 (r .1))
+    simp (ne-eqb k 1 (r .0 .0 .0 .0 .0 .0 .0 .1), ne-eqb k 2 (r .0 .0 .0 .0 .0 .0 .1), ne-eqb k 3 (r .0 .0 .0 .0 .0 .1), ne-eqb k 4 (r .0 .0 .0 .0 .1), ne-eqb k 5 (r .0 .0 .0 .1), ne-eqb k 6 (r .0 .0 .1), ne-eqb k 7 (r .0 .1), ne-eqb k 8 (r .1))
 
 pub row-spec : {M : Type 1} → statement M
 row-spec =
     tie.close
     (tie.spec
+    (λ c κs. search needs)
+    (λ c κs. search needs)
     (λ c κs. search needs)
     (λ c κs. search needs)
     (λ c κs. search needs)
@@ -45,4 +53,6 @@ row-spec =
     returns-4
     returns-5
     returns-6
-    returns-7)
+    returns-7
+    returns-8
+    returns-9)

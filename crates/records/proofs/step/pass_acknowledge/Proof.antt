@@ -1,13 +1,15 @@
 -- `records::step::pass_acknowledge` meets its contract: no room, a busy state, or the service line low. Assumes nothing.
-use mathlib.Core.Path.{refl}
+use mathlib.Core.Path.{refl, ap}
 use mathlib.Core.Bool.{false}
 use denote.Ref.{now}
+use Rattle.chip.specs.declared.Event.the-variants.{Acknowledge as AcknowledgeEvent}
 use Rattle.chip.specs.Step.{done}
 use Rattle.chip.specs.Place.{held}
 use Rattle.chip.proofs.InPlace.{acknowledged-one}
+use Rattle.memory.specs.Memory.{answerWith}
+use Rattle.memory.specs.Held.{cardAt}
 use Rattle.records.specs.declared.head.Event.the-variants.{Acknowledge}
-use Rattle.records.specs.Pass.{stateAt}
-use Rattle.records.proofs.Turning.{no-room, away, took}
+use Rattle.records.proofs.Turning.{memoryAt, no-room, away, took}
 use borrow.Author.Needs.{needs}
 use Rattle.records.proofs.step.pass_acknowledge.Statement.{statement}
 use Rattle.records.proofs.step.pass_acknowledge.Tie as tie
@@ -21,9 +23,9 @@ returns-2 c = λ stack file there. away stack (c .before .before .before .before
 returns-3 : tie.Need-returns-3
 returns-3 c =
     let f = c .before .before .before .before .before .before .before .before .args .f in
-    λ stack file there. took (stateAt stack f) Acknowledge (done 0 (held stack (f .pending) (f .status) false)) file (now (c .before .before .before .before .before .before .before .before .args .room))
-    (acknowledged-one stack (f .pending) (f .status) (f .service) (c .before .before .before .before .if2 .left))
-    refl refl (c .before .before .open-reply .ensures) there (c .before .before .before .before .before .before .if1 .left)
+    λ stack file there. took (cardAt stack f) Acknowledge (answerWith (memoryAt f) AcknowledgeEvent (done 0 (held stack (f .pending) (f .status) false))) file (now (c .before .before .before .before .before .before .before .before .args .room))
+    (ap (answerWith (memoryAt f) AcknowledgeEvent) (acknowledged-one stack (f .pending) (f .status) (f .service) (c .before .before .before .before .if2 .left)))
+    refl refl refl (c .before .before .open-reply .ensures) there (c .before .before .before .before .before .before .if1 .left)
 
 pub pass-acknowledge-spec : {M : Type 1} → statement M
 pass-acknowledge-spec =

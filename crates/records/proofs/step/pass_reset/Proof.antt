@@ -1,12 +1,14 @@
 -- `records::step::pass_reset` meets its contract: no room, a busy state, or the state of a reset. Assumes nothing.
-use mathlib.Core.Path.{refl}
+use mathlib.Core.Path.{refl, ap}
 use denote.Ref.{now}
+use Rattle.chip.specs.declared.Event.the-variants.{Reset as ResetEvent}
 use Rattle.chip.specs.Step.{done}
 use Rattle.chip.specs.Place.{held}
 use Rattle.chip.proofs.InPlace.{reset-one}
+use Rattle.memory.specs.Memory.{cardWith, answerWith}
+use Rattle.memory.specs.Held.{cardAt}
 use Rattle.records.specs.declared.head.Event.the-variants.{Reset}
-use Rattle.records.specs.Pass.{stateAt}
-use Rattle.records.proofs.Turning.{no-room, away, took}
+use Rattle.records.proofs.Turning.{memoryAt, no-room, away, took}
 use borrow.Author.Needs.{needs}
 use Rattle.records.proofs.step.pass_reset.Statement.{statement}
 use Rattle.records.proofs.step.pass_reset.Tie as tie
@@ -19,11 +21,12 @@ returns-2 c = λ file there. away (now (c .before .before .before .before .befor
 
 returns-3 : tie.Need-returns-3
 returns-3 c =
-    let a = c .before .before .before .before .before .before .before .before .before .before .before .before .before .args in
-    let k = c .before .before .before .before .before .before .reset in
-    λ file there. took (stateAt (now (a .stack)) (a .f)) Reset (done 0 (held (k .last .0) (k .result .pending) (k .result .status) (k .result .service))) file (now (a .room))
-    (reset-one (now (a .stack)) (a .f .pending) (a .f .status) (a .f .service) (c .before .before .before .before .before .before .before .before .if2 .left) (k .ensures))
-    refl refl (c .before .before .open-reply .ensures) there (c .before .before .before .before .before .before .before .before .before .before .if1 .left)
+    let a = c .before .before .before .before .before .before .before .before .before .before .before .before .before .before .args in
+    let k = c .before .before .before .before .before .before .before .reset in
+    let after = held (k .last .0) (k .result .pending) (k .result .status) (k .result .service) in
+    λ file there. took (cardAt (now (a .stack)) (a .f)) Reset (answerWith (memoryAt (a .f)) ResetEvent (done 0 after)) file (now (a .room))
+    (ap (answerWith (memoryAt (a .f)) ResetEvent) (reset-one (now (a .stack)) (a .f .pending) (a .f .status) (a .f .service) (c .before .before .before .before .before .before .before .before .before .if2 .left) (k .ensures)))
+    (ap (cardWith after) (c .before .before .before .before .empty .ensures)) refl refl (c .before .before .open-reply .ensures) there (c .before .before .before .before .before .before .before .before .before .before .before .if1 .left)
 
 pub pass-reset-spec : {M : Type 1} → statement M
 pass-reset-spec =
@@ -34,6 +37,7 @@ pass-reset-spec =
     (λ c κs. search needs)
     (λ c. search needs)
     returns-2
+    (λ c κs. search needs)
     (λ c κs. search needs)
     (λ c κs. search needs)
     (λ c. search needs)

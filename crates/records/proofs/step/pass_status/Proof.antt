@@ -4,11 +4,13 @@ use native.Mathlib.Omega.{arith}
 use lib.Dec.{lit≤}
 use lib.ListN.{length, set, length-drop, length-set}
 use denote.Ref.{now}
+use Rattle.chip.specs.declared.Event.the-variants.{Status as StatusEvent}
 use Rattle.chip.specs.Step.{done}
 use Rattle.chip.proofs.InPlace.{read-one}
+use Rattle.memory.specs.Memory.{answerWith}
+use Rattle.memory.specs.Held.{cardAt}
 use Rattle.records.specs.declared.head.Event.the-variants.{Status}
-use Rattle.records.specs.Pass.{stateAt}
-use Rattle.records.proofs.Turning.{no-room, away, took, status-data}
+use Rattle.records.proofs.Turning.{memoryAt, no-room, away, took, status-data}
 use borrow.Author.Needs.{needs}
 use Rattle.records.proofs.step.pass_status.Statement.{statement}
 use Rattle.records.proofs.step.pass_status.Tie as tie
@@ -33,9 +35,9 @@ returns-3 c =
     let f = c .before .before .before .before .before .before .before .before .args .f in
     let room = now (c .before .before .before .before .before .before .before .before .args .room) in
     λ stack file there.
-    let s = stateAt stack f in
+    let k = cardAt stack f in
     let e = read-one stack (f .pending) (f .status) (f .service) (c .before .before .before .before .if2 .left) in
-    took s Status (done (f .status) s) file room e refl (status-data s room (f .status) e (c .before .before .before .before .before .before .if1 .left)) (c .before .before .open-reply .ensures) there (c .before .before .before .before .before .before .if1 .left)
+    took k Status (answerWith (memoryAt f) StatusEvent (done (f .status) (k .chip))) file room (ap (answerWith (memoryAt f) StatusEvent) e) refl refl (status-data k room (f .status) e (c .before .before .before .before .before .before .if1 .left)) (c .before .before .open-reply .ensures) there (c .before .before .before .before .before .before .if1 .left)
 
 pub pass-status-spec : {M : Type 1} → statement M
 pass-status-spec =

@@ -1,0 +1,97 @@
+-- What events keep: the chip goes its way whatever is remembered, and a refused event leaves the card as it came. Assumes nothing.
+use mathlib.Core.Path.{_≡_, refl, ap, subst, _∙_}
+use mathlib.Core.Logic.{⊎-elim}
+use mathlib.Core.Bool.{Bool, true, false, cond}
+use mathlib.Core.List.{List, [], _∷_, map}
+use Prim.Native.Nat.{ℕ}
+use borrow.Author.Tests.{ne-eqb}
+use Rattle.terms.specs.declared.Refusal.the-variants.{Done, BadState}
+use Rattle.terms.specs.Refusal.{numberOf}
+use Rattle.chip.specs.declared.State.{State}
+use Rattle.chip.specs.declared.Event.{Event as ChipEvent}
+use Rattle.chip.specs.declared.Event.the-variants.{Push, Pop, Command, Status, Reset, Acknowledge}
+use Rattle.chip.specs.State.{busy}
+use Rattle.chip.specs.Commands.{baseRule}
+use Rattle.chip.specs.Step.{eventOf}
+use Rattle.chip.specs.Events.{afterEvents}
+use Rattle.chip.proofs.Kept.{event-keeps}
+use Rattle.memory.specs.declared.Memory.{Memory}
+use Rattle.memory.specs.declared.Event.{Event}
+use Rattle.memory.specs.declared.Event.the-variants.{Chip, Recall, Forget}
+use Rattle.memory.specs.Memory.{emptyMemory, Card, CardAnswer, keptBy, around, unlessBusy, eventIn}
+use Rattle.memory.specs.History.{afterAll}
+
+-- whether 13 turns it away or not
+pub either-way : (P : CardAnswer → Type 0) (c : Card) (a : CardAnswer) → P (record { refusal = BadState; byte = 0; card = c }) → P a → P (unlessBusy c a)
+either-way P c a p q = by (busy (c .chip))
+  where
+    by : (x : Bool) → P (cond x (record { refusal = BadState; byte = 0; card = c }) a)
+    by true = p
+    by false = q
+
+-- ---- the chip does not look at the memory
+-- events of the chip leave the chip that they leave without a memory
+pub chip-alone : (c : Card) (es : List ChipEvent) → afterAll c (map Chip es) .chip ≡ afterEvents baseRule (c .chip) es
+chip-alone c [] = refl
+chip-alone c (e ∷ es) = chip-alone (eventIn c (Chip e) .card) es
+
+-- two answers to an event: the refusal, the chip after, and but for the memory read the byte
+pub record Alike (e : Event) (a b : CardAnswer) : Type 0 where
+  pub refusal-same : a .refusal ≡ b .refusal
+  pub chip-same : a .card .chip ≡ b .card .chip
+  pub byte-same : (e ≡ Recall → ⊥) → a .byte ≡ b .byte
+
+-- one chip with two memories
+on-one-chip : (s : State) (m n : Memory) (e : Event) → Alike e (eventIn (record { chip = s; memory = m }) e) (eventIn (record { chip = s; memory = n }) e)
+on-one-chip s m n (Chip e) = record { refusal-same = refl; chip-same = refl; byte-same = λ z. refl }
+on-one-chip s m n Recall = by (busy s)
+  where
+    by : (x : Bool)
+        → Alike Recall (cond x (record { refusal = BadState; byte = 0; card = record { chip = s; memory = m } }) (record { refusal = Done; byte = m .bits; card = record { chip = s; memory = m } }))
+        (cond x (record { refusal = BadState; byte = 0; card = record { chip = s; memory = n } }) (record { refusal = Done; byte = n .bits; card = record { chip = s; memory = n } }))
+    by true = record { refusal-same = refl; chip-same = refl; byte-same = λ z. refl }
+    by false = record { refusal-same = refl; chip-same = refl; byte-same = λ z. absurd (z refl) }
+on-one-chip s m n Forget = by (busy s)
+  where
+    by : (x : Bool)
+        → Alike Forget (cond x (record { refusal = BadState; byte = 0; card = record { chip = s; memory = m } }) (record { refusal = Done; byte = 0; card = record { chip = s; memory = emptyMemory } }))
+        (cond x (record { refusal = BadState; byte = 0; card = record { chip = s; memory = n } }) (record { refusal = Done; byte = 0; card = record { chip = s; memory = emptyMemory } }))
+    by true = record { refusal-same = refl; chip-same = refl; byte-same = λ z. refl }
+    by false = record { refusal-same = refl; chip-same = refl; byte-same = λ z. refl }
+
+-- two cards with the same chip
+pub event-alike : (c d : Card) (e : Event) → c .chip ≡ d .chip → Alike e (eventIn c e) (eventIn d e)
+event-alike c d e h =
+    subst (λ (s : State). Alike e (eventIn c e) (eventIn (record { chip = s; memory = d .memory }) e)) h (on-one-chip (c .chip) (c .memory) (d .memory) e)
+
+-- events in turn
+pub same-chip : (c d : Card) (es : List Event) → c .chip ≡ d .chip → afterAll c es .chip ≡ afterAll d es .chip
+same-chip c d [] h = h
+same-chip c d (e ∷ es) h = same-chip (eventIn c e .card) (eventIn d e .card) es (event-alike c d e h .chip-same)
+
+-- ---- a refused event
+-- of the chip, it leaves the memory
+refused-memory : (m : Memory) (e : ChipEvent) (n status : ℕ) → (n ≡ 0 → ⊥) → keptBy m e n status ≡ m
+refused-memory m (Push b) n status z = refl
+refused-memory m Pop n status z = refl
+refused-memory m (Command code) n status z = rw (ne-eqb n 0 z)
+refused-memory m Status n status z = refl
+refused-memory m Reset n status z = rw (ne-eqb n 0 z)
+refused-memory m Acknowledge n status z = refl
+
+-- an answer with no byte and the card as it came, unless it is 0
+abbrev pub Keeps : Card → CardAnswer → Type 0
+Keeps c a = (numberOf (a .refusal) ≡ 0 → ⊥) → a ≡ record { refusal = a .refusal; byte = 0; card = c }
+
+-- every event
+pub event-keeps-card : (c : Card) (e : Event) → Keeps c (eventIn c e)
+event-keeps-card c (Chip e) z =
+    let a = eventOf (c .chip) e in
+    ap (λ (m : Memory). around m a) (refused-memory (c .memory) e (numberOf (a .refusal)) (a .state .status) z)
+    ∙ ⊎-elim (λ d. absurd (z (ap numberOf d))) (λ k. ap (around (c .memory)) k) (event-keeps (c .chip) e)
+event-keeps-card c Recall z = either-way (Keeps c) c (record { refusal = Done; byte = c .memory .bits; card = c }) (λ y. refl) (λ y. absurd (y refl)) z
+event-keeps-card c Forget z =
+    either-way (Keeps c) c (record { refusal = Done; byte = 0; card = record { chip = c .chip; memory = emptyMemory } }) (λ y. refl) (λ y. absurd (y refl)) z
+
+pub refused-leaves : (c : Card) (e : Event) → (numberOf (eventIn c e .refusal) ≡ 0 → ⊥) → eventIn c e .card ≡ c
+refused-leaves c e z = ap (λ (a : CardAnswer). a .card) (event-keeps-card c e z)
