@@ -37,7 +37,8 @@ enum {
     PUNDALIKET_TOO_SMALL = 12,     /* f32 not zero, magnitude under 2^-65 */
     PUNDALIKET_BAD_STATE = 13,     /* state not 19 or 21 bytes, a flag over 1, busy set, bits of the error memory outside
                                       4 to 1, its code without bits or bits without a code; only a report is written */
-    PUNDALIKET_BAD_REPORT = 14     /* report not 9 bytes; nothing is written at all */
+    PUNDALIKET_BAD_REPORT = 14,    /* report not 9 bytes; nothing is written at all */
+    PUNDALIKET_MINUS_ZERO = 15     /* the f32 is minus zero */
 };
 
 /* The kinds of a record and of a single event. */
@@ -181,9 +182,10 @@ uint32_t pundaliket_event(uint8_t *state, size_t state_length, uint32_t kind, ui
 uint32_t pundaliket_word_to_f32(uint32_t word, uint8_t *out, size_t out_length);
 
 /*
- * The chip word of an f32's value, where there is one. Returns the refusal: 8, then 10, 11, 12.
+ * The chip word of an f32's value, where there is one. Returns the refusal: 8, then 10, 15, 11, 12.
  *
- * bits     the 32 bits of the f32. Both zeros give the zero word.
+ * bits     the 32 bits of the f32. Plus zero gives the zero word; each accepted f32, and each proper word, comes back from
+ *          the other call bit for bit.
  * out      4 bytes: the word, little-endian, written on 0 alone.
  */
 uint32_t pundaliket_f32_to_word(uint32_t bits, uint8_t *out, size_t out_length);

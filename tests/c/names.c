@@ -4,7 +4,7 @@
 
 #define TIE(name, number) typedef char tied_##name[(name) == (number) ? 1 : -1]
 
-/* refusals, 01's table */
+/* refusals, 01's table and request 4 of 02 */
 TIE(PUNDALIKET_DONE, 0);
 TIE(PUNDALIKET_UNKNOWN_CODE, 1);
 TIE(PUNDALIKET_DERIVED_CODE, 2);
@@ -20,6 +20,7 @@ TIE(PUNDALIKET_TOO_LARGE, 11);
 TIE(PUNDALIKET_TOO_SMALL, 12);
 TIE(PUNDALIKET_BAD_STATE, 13);
 TIE(PUNDALIKET_BAD_REPORT, 14);
+TIE(PUNDALIKET_MINUS_ZERO, 15);
 
 /* kinds, 01's record files and request 3 of 02 */
 TIE(PUNDALIKET_PUSH, 1);

@@ -505,10 +505,12 @@ uint32_t plain_f32_to_word(uint32_t bits, uint8_t *out, size_t out_length)
         return 8;
     if (biased == 255)
         return 10;
+    if (magnitude == 0 && bits != 0)
+        return 15;
     if (biased >= 63 + 127)
         return 11;
     if (magnitude != 0 && biased < 127 - 65)
         return 12;
-    put_little(out, magnitude == 0 ? 0 : (bits & 0x807FFFFF) | 0x800000 | ((biased - 126) & 0x7F) << 24);
+    put_little(out, bits == 0 ? 0 : (bits & 0x807FFFFF) | 0x800000 | ((biased - 126) & 0x7F) << 24);
     return 0;
 }

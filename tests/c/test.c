@@ -165,7 +165,20 @@ static int conversions_agree(unsigned alignment, uint32_t x, size_t n)
     return good && a == b && same(&out, &plain_out) && guarded(&out);
 }
 
-/* ---- 01's example, and each refusal of 01's table: what must come is written out here */
+/* an f32 that is accepted, and a word that is, comes back bit for bit */
+static uint32_t little(const uint8_t *p)
+{
+    return p[0] | (uint32_t)p[1] << 8 | (uint32_t)p[2] << 16 | (uint32_t)p[3] << 24;
+}
+
+static int comes_back(uint32_t x)
+{
+    uint8_t there[4], back[4];
+    int good = pundaliket_f32_to_word(x, there, 4) != 0 || (pundaliket_word_to_f32(little(there), back, 4) == 0 && little(back) == x);
+    return good && (pundaliket_word_to_f32(x, there, 4) != 0 || (pundaliket_f32_to_word(little(there), back, 4) == 0 && little(back) == x));
+}
+
+/* ---- 01's example, and each refusal of the tables: what must come is written out here */
 
 static const uint8_t zeros[PUNDALIKET_LONG_STATE_BYTES];
 
@@ -314,7 +327,7 @@ static void refusals_of_conversions(void)
     expect_conversion("minus the least outward", 0, 0xC0800000, 4, 0, 0x9F000000);
     expect_conversion("minus the least inward", 1, 0x9F000000, 4, 0, 0xC0800000);
     expect_conversion("the zero word", 0, 0, 4, 0, 0);
-    expect_conversion("minus zero", 1, 0x80000000, 4, 0, 0);
+    expect_conversion("plus zero", 1, 0, 4, 0, 0);
     expect_conversion("refusal 4 of a conversion", 0, 0x01400000, 4, 4, 0);
     expect_conversion("refusal 4, a signed zero", 0, 0x80000000, 4, 4, 0);
     expect_conversion("refusal 8 before 4", 0, 0x01400000, 3, 8, 0);
@@ -322,6 +335,8 @@ static void refusals_of_conversions(void)
     expect_conversion("refusal 8, no bytes", 1, 0x3F800000, 0, 8, 0);
     expect_conversion("refusal 10, infinite", 1, 0xFF800000, 4, 10, 0);
     expect_conversion("refusal 10, not a number", 1, 0x7F800001, 4, 10, 0);
+    expect_conversion("refusal 15, minus zero", 1, 0x80000000, 4, 15, 0);
+    expect_conversion("refusal 8 before 15", 1, 0x80000000, 3, 8, 0);
     expect_conversion("refusal 11", 1, 0x5F000000, 4, 11, 0);
     expect_conversion("the largest", 1, 0x5EFFFFFF, 4, 0, 0x3FFFFFFF);
     expect_conversion("refusal 12", 1, 0x1EFFFFFF, 4, 12, 0);
@@ -689,9 +704,11 @@ static void all_conversions(void)
     static const uint32_t fractions[] = { 0, 1, 2, 0x3FFFFF, 0x400000, 0x7FFFFE, 0x7FFFFF };
     for (uint32_t top = 0; top < 512; top++) {
         for (unsigned k = 0; k < 7; k++)
-            check(conversions_agree(k, top << 23 | fractions[k], 4), "conversion, top bits", top);
-        for (unsigned k = 0; k < 40; k++)
-            check(conversions_agree(k & 7, top << 23 | (drawn() & 0x7FFFFF), 4), "conversion, drawn", top);
+            check(conversions_agree(k, top << 23 | fractions[k], 4) && comes_back(top << 23 | fractions[k]), "conversion, top bits", top);
+        for (unsigned k = 0; k < 40; k++) {
+            uint32_t x = top << 23 | (drawn() & 0x7FFFFF);
+            check(conversions_agree(k & 7, x, 4) && comes_back(x), "conversion, drawn", top);
+        }
     }
     for (size_t n = 0; n < 9; n++)
         for (unsigned k = 0; k < 50; k++)

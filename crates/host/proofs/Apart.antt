@@ -1,4 +1,4 @@
--- An f32 has the value of one proper word at most; and having one's value, being infinite or no number, being too large and being too small exclude each other. Assumes nothing.
+-- An f32 has the value of one proper word at most; having one's value, being infinite or no number, being too large and being too small exclude each other, and the last three exclude being minus zero. Assumes nothing.
 use mathlib.Core.Path.{_≡_, sym, ap, _∙_, subst}
 use mathlib.Core.Logic.{_⊎_, inl, inr, ⊎-elim}
 use Prim.Native.Nat.{ℕ, _*_, _^_, _≤_, _<_}
@@ -8,7 +8,7 @@ use lib.Ieee.{Float, nan, inf, fin, up, down}
 use lib.Ieee.Fits.{down-pos, up-pos}
 use Rattle.float.specs.Word.{negative, mantissa, size88, value}
 use Rattle.float.proofs.Kept.{same-word}
-use Rattle.host.specs.Values.{HasWord, Endless, Large, Small}
+use Rattle.host.specs.Values.{HasWord, Endless, IsMinusZero, Large, Small}
 use Rattle.host.proofs.Signs.{of-signed, parted}
 use Rattle.host.proofs.Words.{proper-cases, size-zero, size-some, size-lt}
 
@@ -81,3 +81,20 @@ large-small (fin s m e) l h =
     let r : 2 ^ 63 * down e * 2 ^ 65 ≡ 2 ^ 128 * down e = mul-right-comm (2 ^ 63) (down e) (2 ^ 65) in
     lt-irrefl (m * up e * 2 ^ 65)
     (lt-of-lt-of-le (h .1) (le-trans (le-of-eq (sym (one-mul (down e)))) (le-trans q (le-trans (le-of-eq (sym r)) p))))
+
+pub endless-minus : (x : Float) → Endless x → IsMinusZero x → ⊥
+endless-minus nan t h = h
+endless-minus (inf s) t h = h
+endless-minus (fin s m e) t h = t
+
+pub minus-large : (x : Float) → IsMinusZero x → Large x → ⊥
+minus-large nan t h = h
+minus-large (inf s) t h = h
+minus-large (fin s m e) t h =
+    let none : m * up e ≡ 0 = ap (λ (n : ℕ). n * up e) (t .1) ∙ zero-mul (up e) in
+    lt-irrefl 0 (lt-of-lt-of-le (mul-pos (pow-pos 63) (down-pos e)) (subst (λ (n : ℕ). 2 ^ 63 * down e ≤ n) none h))
+
+pub minus-small : (x : Float) → IsMinusZero x → Small x → ⊥
+minus-small nan t h = h
+minus-small (inf s) t h = h
+minus-small (fin s m e) t h = lt-irrefl 0 (subst (λ (n : ℕ). 0 < n) (t .1) (h .0))

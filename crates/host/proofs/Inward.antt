@@ -1,9 +1,9 @@
--- What `takenOf` answers is right for the f32's value: a word only where it is a proper word of that value, and each refusal only where 01 has it. Assumes nothing.
+-- What `takenOf` answers is right for the f32's value: a word only where it is a proper word of that value and the f32 is not minus zero, and each refusal only where 01 or 02 has it. Assumes nothing.
 use mathlib.Core.Path.{_≡_, refl, sym, ap, ap₂, _∙_, subst}
 use mathlib.Core.Logic.{_⊎_, inl, inr, ⊎-elim}
 use mathlib.Core.Bool.{Bool, true, false, _||_, cond}
 use Prim.Native.Nat.{ℕ, _+_, _-_, _*_, _%_, _^_, _≤_, _<_}
-use native.Mathlib.Nat.{eq-of-mul-eq-mul-right, mul-assoc, mul-comm, mul-right-comm, zero-mul, mul-le-mul-right, mul-le-mul-left, mul-le-mul, mul-lt-mul-of-pos-right, mul-pos, lt-of-le-of-lt, le-of-mul-le-mul-right, lt-of-mul-lt-mul-right, pos-of-ne-zero}
+use native.Mathlib.Nat.{eq-of-mul-eq-mul-right, mul-assoc, mul-comm, mul-right-comm, zero-mul, mul-le-mul-right, mul-le-mul-left, mul-le-mul, mul-lt-mul-of-pos-right, mul-pos, lt-of-le-of-lt, le-of-mul-le-mul-right, lt-of-mul-lt-mul-right, pos-of-ne-zero, eq-zero-or-pos, lt-irrefl}
 use native.Mathlib.Omega.{arith}
 use lib.Dec.{leb, ltb, eqb, lit<}
 use lib.Pow.{pow-add, pow-pos, pow-mono}
@@ -11,16 +11,17 @@ use borrow.Author.Tests.{le-leb, ltb-true, ltb-false, leb-true, leb-false, eqb-t
 use lib.Ieee.{Float, nan, inf, fin, binary32, ofBits, ofFields, up, down}
 use lib.Ieee.Exact.{HasValue}
 use lib.Ieee.Positive.{first-pos}
-use lib.Ieee.Fits.{down-pos}
-use Rattle.terms.specs.declared.Refusal.the-variants.{NotFinite, TooLarge, TooSmall}
+use lib.Ieee.Fits.{down-pos, up-pos}
+use Rattle.terms.specs.declared.Refusal.the-variants.{NotFinite, TooLarge, TooSmall, MinusZero}
 use Rattle.whole.proofs.Differences.{either}
 use Rattle.float.specs.Word.{negative, biased, mantissa, size88}
-use Rattle.host.specs.Host.{exponentField, fraction, wordOf, takenOf}
-use Rattle.host.specs.Values.{Same, HasWord, Endless, Large, Small}
+use Rattle.host.specs.Host.{exponentField, fraction, minusZero, wordOf, takenOf}
+use Rattle.host.specs.Values.{Same, HasWord, Endless, IsMinusZero, Large, Small}
 use Rattle.host.specs.declared.Taken.{Taken}
 use Rattle.host.specs.declared.Taken.the-variants.{Word, Refused}
 use Rattle.host.proofs.Signs.{united}
 use Rattle.host.proofs.Patterns.{of-bits, leading, leading-many, leading-lt, leading-none, leading-some, bits-value}
+use Rattle.host.proofs.Apart.{endless-minus}
 use Rattle.host.proofs.Words.{size-zero, packed, packed-mantissa, packed-biased, packed-negative, packed-lt, size-is}
 
 -- ---- from the fraction a / c that an f32 is in size
@@ -54,6 +55,23 @@ small-of (fin u m k) s a c p h q l =
           (subst (λ (n : ℕ). n < down k * c) e (subst (λ (n : ℕ). a * 2 ^ 65 * down k < n) (mul-comm c (down k)) (mul-lt-mul-of-pos-right l (down-pos k)))),
     )
 
+-- a product is 0 only where its first factor is, the second being none
+first-zero : (a b : ℕ) → 0 < b → a * b ≡ 0 → a ≡ 0
+first-zero a b h e = ⊎-elim (λ z. z) (λ (k : 0 < a). absurd (lt-irrefl 0 (subst (λ (n : ℕ). 0 < n) e (mul-pos k h)))) (eq-zero-or-pos a)
+
+minus-of : (x : Float) (s : Bool) (a c : ℕ) → 0 < c → HasValue x s a c → s ≡ true → a ≡ 0 → IsMinusZero x
+minus-of nan s a c p h e z = absurd h
+minus-of (inf u) s a c p h e z = absurd h
+minus-of (fin u m k) s a c p h e z =
+    (h .0 ∙ e, first-zero m (up k) (up-pos k) (first-zero (m * up k) c p (h .1 ∙ ap (λ (n : ℕ). n * down k) z ∙ zero-mul (down k))))
+
+pub of-minus : (x : Float) (s : Bool) (a c : ℕ) → HasValue x s a c → IsMinusZero x → (s ≡ true) × (a ≡ 0)
+of-minus nan s a c h t = absurd h
+of-minus (inf u) s a c h t = absurd h
+of-minus (fin u m k) s a c h t =
+    let none : m * up k * c ≡ 0 = ap (λ (n : ℕ). n * up k * c) (t .1) ∙ ap (λ (n : ℕ). n * c) (zero-mul (up k)) ∙ zero-mul c in
+    (sym (h .0) ∙ t .0, first-zero a (down k) (down-pos k) (sym (h .1) ∙ none))
+
 all-ones : (s : Bool) (x t : ℕ) → x ≡ 255 → Endless (ofFields binary32 s x t)
 unfolding ofFields
 all-ones s x t e = subst (λ (n : ℕ). Endless (ofFields binary32 s n t)) (sym e) (go (eqb t 0))
@@ -82,7 +100,10 @@ parts p l h =
       sign = ap negative shape ∙ packed-negative s y m (omega arith) (omega arith);
     }
 
--- ---- the five answers
+-- ---- the six answers
+below : (p : ℕ) → (exponentField p ≡ 255 → ⊥) → exponentField p < 255
+below p n = ⊎-elim (λ h. h) (λ (h : 255 ≤ exponentField p). absurd (n (omega arith))) (either (exponentField p) 255)
+
 module _ (p : ℕ) where
   endless-right : exponentField p ≡ 255 → Endless (ofBits binary32 p)
   endless-right e = subst Endless (sym (of-bits p)) (all-ones (negative p) (exponentField p) (fraction p) e)
@@ -94,7 +115,27 @@ module _ (p : ℕ) where
       large-of (ofBits binary32 p) (negative p) (a * 2 ^ (exponentField p - 1)) (2 ^ 149) (pow-pos 149) (bits-value p l)
       (mul-le-mul {n₁ = 8388608} {m₁ = 2 ^ 189} u (pow-mono {i = 189} {j = exponentField p - 1} (omega arith)))
 
-  zero-right : p % 2147483648 ≡ 0 → HasWord (ofBits binary32 p) 0
+  pub minus-right : p ≡ minusZero → IsMinusZero (ofBits binary32 p)
+  minus-right e =
+      let a = leading (exponentField p) (fraction p) in
+      let z : a ≡ 0 = leading-none (exponentField p) (fraction p) (omega arith) (omega arith) in
+      minus-of (ofBits binary32 p) (negative p) (a * 2 ^ (exponentField p - 1)) (2 ^ 149) (pow-pos 149) (bits-value p (omega arith)) (ap negative e)
+      (ap (λ (n : ℕ). n * 2 ^ (exponentField p - 1)) z ∙ zero-mul (2 ^ (exponentField p - 1)))
+
+  -- no other f32 is minus zero
+  pub minus-bits : p < 4294967296 → IsMinusZero (ofBits binary32 p) → p ≡ minusZero
+  minus-bits l t =
+      let h : exponentField p < 255 = below p (λ e. endless-minus (ofBits binary32 p) (endless-right e) t) in
+      let a = leading (exponentField p) (fraction p) in
+      let o = of-minus (ofBits binary32 p) (negative p) (a * 2 ^ (exponentField p - 1)) (2 ^ 149) (bits-value p h) t in
+      let z : a ≡ 0 = first-zero a (2 ^ (exponentField p - 1)) (pow-pos (exponentField p - 1)) (o .1) in
+      let n : 2147483648 ≤ p = leb-true 2147483648 p (o .0) in
+      ⊎-elim
+      (λ (k : p % 2147483648 ≡ 0). omega arith)
+      (λ (k : 0 < p % 2147483648). let u : 0 < a = leading-some (exponentField p) (fraction p) (omega arith) in absurd (lt-irrefl 0 (subst (λ (n : ℕ). 0 < n) z u)))
+      (eq-zero-or-pos (p % 2147483648))
+
+  pub zero-right : p % 2147483648 ≡ 0 → HasWord (ofBits binary32 p) 0
   zero-right e =
       let a = leading (exponentField p) (fraction p) in
       let z : a ≡ 0 = leading-none (exponentField p) (fraction p) (omega arith) (omega arith) in
@@ -144,22 +185,29 @@ module _ (p : ℕ) where
 
 -- an answer that is right for an f32's value
 pub data Right (x : Float) (r : Taken) : Type 0 where
-  held : (w : ℕ) → r ≡ Word w → HasWord x w → Right x r
+  held : (w : ℕ) → r ≡ Word w → HasWord x w → (IsMinusZero x → ⊥) → Right x r
   endless : r ≡ Refused NotFinite → Endless x → Right x r
+  minus : r ≡ Refused MinusZero → IsMinusZero x → Right x r
   large : r ≡ Refused TooLarge → Large x → Right x r
   small : r ≡ Refused TooSmall → Small x → Right x r
 
-below : (p : ℕ) → (exponentField p ≡ 255 → ⊥) → exponentField p < 255
-below p n = ⊎-elim (λ h. h) (λ (h : 255 ≤ exponentField p). absurd (n (omega arith))) (either (exponentField p) 255)
-
-pub right : (p : ℕ) → Right (ofBits binary32 p) (takenOf p)
+pub right : (p : ℕ) → p < 4294967296 → Right (ofBits binary32 p) (takenOf p)
 unfolding takenOf
-right p = go (eqb (exponentField p) 255) (leb 190 (exponentField p)) (eqb (p % 2147483648) 0) (ltb (exponentField p) 62) refl refl refl refl
+right p l = go (eqb (exponentField p) 255) (eqb p minusZero) (leb 190 (exponentField p)) (eqb p 0) (ltb (exponentField p) 62) refl refl refl refl refl
   where
-    go : (t₁ t₂ t₃ t₄ : Bool) → eqb (exponentField p) 255 ≡ t₁ → leb 190 (exponentField p) ≡ t₂ → eqb (p % 2147483648) 0 ≡ t₃ → ltb (exponentField p) 62 ≡ t₄
-        → Right (ofBits binary32 p) (cond t₁ (Refused NotFinite) (cond t₂ (Refused TooLarge) (cond t₃ (Word 0) (cond t₄ (Refused TooSmall) (Word (wordOf p))))))
-    go true t₂ t₃ t₄ e₁ e₂ e₃ e₄ = endless refl (endless-right p (eqb-true (exponentField p) 255 e₁))
-    go false true t₃ t₄ e₁ e₂ e₃ e₄ = large refl (large-right p (below p (eqb-false (exponentField p) 255 e₁)) (leb-true 190 (exponentField p) e₂))
-    go false false true t₄ e₁ e₂ e₃ e₄ = held 0 refl (zero-right p (eqb-true (p % 2147483648) 0 e₃))
-    go false false false true e₁ e₂ e₃ e₄ = small refl (small-right p (ltb-true (exponentField p) 62 e₄) (eqb-false (p % 2147483648) 0 e₃))
-    go false false false false e₁ e₂ e₃ e₄ = held (wordOf p) refl (word-right p (ltb-false (exponentField p) 62 e₄) (leb-false 190 (exponentField p) e₂))
+    not-minus : eqb p minusZero ≡ false → IsMinusZero (ofBits binary32 p) → ⊥
+    not-minus e₂ t = eqb-false p minusZero e₂ (minus-bits p l t)
+
+    some : eqb p minusZero ≡ false → eqb p 0 ≡ false → p % 2147483648 ≡ 0 → ⊥
+    some e₂ e₄ z = ⊎-elim (λ (k : p < 2147483648). eqb-false p 0 e₄ (omega arith)) (λ (k : 2147483648 ≤ p). eqb-false p minusZero e₂ (omega arith)) (either p 2147483648)
+
+    go : (t₁ t₂ t₃ t₄ t₅ : Bool) → eqb (exponentField p) 255 ≡ t₁ → eqb p minusZero ≡ t₂ → leb 190 (exponentField p) ≡ t₃ → eqb p 0 ≡ t₄ → ltb (exponentField p) 62 ≡ t₅
+        → Right (ofBits binary32 p)
+        (cond t₁ (Refused NotFinite) (cond t₂ (Refused MinusZero) (cond t₃ (Refused TooLarge) (cond t₄ (Word 0) (cond t₅ (Refused TooSmall) (Word (wordOf p)))))))
+    go true t₂ t₃ t₄ t₅ e₁ e₂ e₃ e₄ e₅ = endless refl (endless-right p (eqb-true (exponentField p) 255 e₁))
+    go false true t₃ t₄ t₅ e₁ e₂ e₃ e₄ e₅ = minus refl (minus-right p (eqb-true p minusZero e₂))
+    go false false true t₄ t₅ e₁ e₂ e₃ e₄ e₅ = large refl (large-right p (below p (eqb-false (exponentField p) 255 e₁)) (leb-true 190 (exponentField p) e₃))
+    go false false false true t₅ e₁ e₂ e₃ e₄ e₅ = held 0 refl (zero-right p (let z = eqb-true p 0 e₄ in omega arith)) (not-minus e₂)
+    go false false false false true e₁ e₂ e₃ e₄ e₅ = small refl (small-right p (ltb-true (exponentField p) 62 e₅) (some e₂ e₄))
+    go false false false false false e₁ e₂ e₃ e₄ e₅ =
+        held (wordOf p) refl (word-right p (ltb-false (exponentField p) 62 e₅) (leb-false 190 (exponentField p) e₃)) (not-minus e₂)

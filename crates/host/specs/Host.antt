@@ -1,9 +1,9 @@
--- Document 01's section 'Host floats' by the bits: what becomes of a word, what of an f32, and what each answer says. Definitions only. Assumes nothing.
+-- Document 01's section 'Host floats', with 02's exception of minus zero, by the bits: what becomes of a word, what of an f32, and what each answer says. Definitions only. Assumes nothing.
 use Prim.Native.Nat.{ℕ, _+_, _-_, _*_, _/_, _%_, _^_}
 use mathlib.Core.Bool.{cond}
 use lib.Dec.{leb, ltb, eqb}
 use lib.Ieee.{binary32, ofBits, toBits}
-use Rattle.terms.specs.declared.Refusal.the-variants.{Done, Improper, NotFinite, TooLarge, TooSmall}
+use Rattle.terms.specs.declared.Refusal.the-variants.{Done, Improper, NotFinite, TooLarge, TooSmall, MinusZero}
 use Rattle.float.specs.Word.{negative, biased, mantissa, proper}
 use Rattle.host.specs.declared.Host.{Host}
 use Rattle.host.specs.declared.Host.the-variants.{Float, Refused}
@@ -31,16 +31,21 @@ hostOf w = cond (proper w) (Float (ofBits binary32 (hostBits w))) (Refused Impro
 abbrev pub wordOf : ℕ → ℕ
 wordOf p = cond (negative p) (2 ^ 31) 0 + (exponentField p + 2) % 128 * 2 ^ 24 + 2 ^ 23 + fraction p
 
--- what becomes of an f32: infinite or not a number (10); 2 ^ 63 or more (11); both zeros are the zero word; under 2 ^ -65 (12); else its word
+-- the bits of f32 minus zero: bit 31 alone
+abbrev pub minusZero : ℕ
+minusZero = 2 ^ 31
+
+-- what becomes of an f32: infinite or not a number (10); minus zero (15); 2 ^ 63 or more (11); plus zero is the zero word; under 2 ^ -65 (12); else its word
 unfoldable pub takenOf : ℕ → Taken
 takenOf p =
     cond (eqb (exponentField p) 255) (Turned NotFinite)
+    (cond (eqb p minusZero) (Turned MinusZero)
     (cond (leb (127 + 63) (exponentField p)) (Turned TooLarge)
-    (cond (eqb (p % 2 ^ 31) 0) (Word 0)
+    (cond (eqb p 0) (Word 0)
     (cond (ltb (exponentField p) (127 - 65)) (Turned TooSmall)
-    (Word (wordOf p)))))
+    (Word (wordOf p))))))
 
--- what each case of an answer says: its refusal, whose number is 01's, and the 32 bits that it carries, 0 where it carries none
+-- what each case of an answer says: its refusal, and the 32 bits that it carries, 0 where it carries none
 abbrev pub hostReply : Host → Reply
 hostReply (Float x) = record { refusal = Done; bits = toBits binary32 x }
 hostReply (Refused r) = record { refusal = r; bits = 0 }

@@ -1,6 +1,7 @@
--- The value of an f32 against words and against the bounds of 01's refusals 10, 11 and 12, in whole numbers. Definitions only. Assumes nothing.
+-- The value of an f32 against words and against the bounds of the refusals 10, 15, 11 and 12, in whole numbers. Definitions only. Assumes nothing.
 use Prim.Native.Nat.{ℕ, _*_, _^_, _≤_, _<_}
 use mathlib.Core.Path.{_≡_}
+use mathlib.Core.Bool.{true}
 use lib.Ieee.{Float, nan, inf, fin, up, down}
 use Rattle.whole.specs.Signed.{withSign}
 use Rattle.float.specs.Word.{negative, size88, FloatWord}
@@ -21,6 +22,12 @@ abbrev pub Endless : Float → Type 0
 Endless nan = Unit
 Endless (inf s) = Unit
 Endless (fin s m e) = ⊥
+
+-- 15: zero with the minus sign
+abbrev pub IsMinusZero : Float → Type 0
+IsMinusZero nan = ⊥
+IsMinusZero (inf s) = ⊥
+IsMinusZero (fin s m e) = (s ≡ true) × (m ≡ 0)
 
 -- 11: finite, of magnitude 2 ^ 63 or more
 abbrev pub Large : Float → Type 0

@@ -61,7 +61,7 @@ fn word_of(bits: u32) -> u32
     sign_bit(bits) + exponent * 0x100_0000 + 0x80_0000 + bits % 0x80_0000
 }
 
-// The proper word of an f32's value, by its bits; where there is none, the refusal.
+// The proper word of an f32's value, by its bits; where there is none, and for minus zero, the refusal.
 pub fn f32_to_word(bits: u32) -> Taken
     ensures { λ r. ⌜ r ≡ takenOf bits ⌝ }
 {
@@ -69,10 +69,13 @@ pub fn f32_to_word(bits: u32) -> Taken
     if field == 255 {
         return Taken::Refused(Refusal::NotFinite);
     }
+    if bits == 0x8000_0000 {
+        return Taken::Refused(Refusal::MinusZero);
+    }
     if 190 <= field {
         return Taken::Refused(Refusal::TooLarge);
     }
-    if bits % 0x8000_0000 == 0 {
+    if bits == 0 {
         return Taken::Word(0);
     }
     if field < 62 {

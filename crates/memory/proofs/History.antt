@@ -8,7 +8,7 @@ use lib.Bits.{bitOr}
 use lib.Dec.{eqb}
 use borrow.Author.Tests.{ne-eqb, eqb-true, eqb-false}
 use Rattle.terms.specs.declared.Refusal.{Refusal}
-use Rattle.terms.specs.declared.Refusal.the-variants.{Done, UnknownCode, DerivedCode, HalfWord, Improper, NoSuchKind, CutShort, BadLength, NoRoom, InputTooLong, NotFinite, TooLarge, TooSmall, BadState, BadReport}
+use Rattle.terms.specs.declared.Refusal.the-variants.{Done, UnknownCode, DerivedCode, HalfWord, Improper, NoSuchKind, CutShort, BadLength, NoRoom, InputTooLong, NotFinite, TooLarge, TooSmall, BadState, BadReport, MinusZero}
 use Rattle.terms.specs.Refusal.{numberOf}
 use Rattle.codes.specs.declared.Kind.{Kind}
 use Rattle.codes.specs.declared.Kind.the-variants.{Known, Derived, Unknown}
@@ -46,6 +46,7 @@ done-of TooLarge e = let y : ⊥ = omega arith in absurd y
 done-of TooSmall e = let y : ⊥ = omega arith in absurd y
 done-of BadState e = let y : ⊥ = omega arith in absurd y
 done-of BadReport e = let y : ⊥ = omega arith in absurd y
+done-of MinusZero e = let y : ⊥ = omega arith in absurd y
 
 -- the status that a code's command leaves
 abbrev statusBy : Kind → List ℕ → ℕ

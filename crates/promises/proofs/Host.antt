@@ -3,20 +3,20 @@ use mathlib.Core.Path.{_≡_, refl, sym, ap, _∙_, subst}
 use mathlib.Core.Logic.{inl, inr}
 use mathlib.Core.Bool.{true, cond}
 use Prim.Native.Nat.{ℕ, _^_, _<_}
-use lib.Dec.{eqb, lit<}
+use lib.Dec.{eqb}
 use lib.Ieee.{Float, binary32, ofBits, toBits}
 use lib.Ieee.Bits.{ofBits-fits, ofBits-toBits, toBits-ofBits}
 use lib.Ieee.Exact.{HasValue}
 use Rattle.float.specs.Word.{negative, proper, size88}
 use Rattle.host.specs.Host.{hostBits, takenOf, hostReply, takenReply}
-use Rattle.host.specs.Values.{HasWord, Endless, Large, Small}
+use Rattle.host.specs.Values.{HasWord, Endless, IsMinusZero, Large, Small}
 use Rattle.host.specs.declared.Taken.{Taken}
 use Rattle.host.specs.declared.Taken.the-variants.{Word}
 use Rattle.host.proofs.Outward.{word-value, goes, stays, plain}
-use Rattle.host.proofs.Apart.{held-endless, held-large, held-small, endless-large, endless-small, large-small}
-use Rattle.host.proofs.Inward.{Right, held, endless, large, small, right}
-use Rattle.host.proofs.Back.{answers-word, answers-endless, answers-large, answers-small, word-back, bits-back}
-use Rattle.promises.specs.Host.{outward, inward, number, Gives, ValueKept, AcceptedExactly, Answered, RefusedExactly, WordBack, FloatBack}
+use Rattle.host.proofs.Apart.{held-endless, held-large, held-small, endless-minus, endless-large, endless-small, minus-large, minus-small, large-small}
+use Rattle.host.proofs.Inward.{minus-right, minus-bits, zero-right, Right, held, endless, minus, large, small, right}
+use Rattle.host.proofs.Back.{answers-word, answers-endless, answers-minus, answers-large, answers-small, word-back, bits-back}
+use Rattle.promises.specs.Host.{outward, inward, number, Gives, ValueKept, AcceptedExactly, OneException, Answered, RefusedExactly, WordBack, FloatBack}
 
 -- the f32 of a word
 abbrev out : ℕ → Float
@@ -40,51 +40,69 @@ numberIn r = number (takenReply r)
 abbrev bitsIn : Taken → ℕ
 bitsIn r = takenReply r .bits
 
--- why an answer to x has a number: 0 with a proper word of its value, or 10, 11, 12
+-- why an answer to x has a number: 0 with a proper word of its value and x not minus zero, or 10, 15, 11, 12
 abbrev Because : Float → Taken → ℕ → Type 0
 Because x r n =
-    cond (eqb n 0) ((r ≡ Word (bitsIn r)) × HasWord x (bitsIn r))
+    cond (eqb n 0) ((r ≡ Word (bitsIn r)) × HasWord x (bitsIn r) × (IsMinusZero x → ⊥))
     (cond (eqb n 10) (Endless x)
+    (cond (eqb n 15) (IsMinusZero x)
     (cond (eqb n 11) (Large x)
-    (cond (eqb n 12) (Small x) ⊥)))
+    (cond (eqb n 12) (Small x) ⊥))))
 
 module _ (x : Float) (r : Taken) where
   because : Right x r → Because x r (numberIn r)
-  because (held w e b) =
+  because (held w e b n) =
       let f : w ≡ bitsIn r = sym (ap bitsIn e) in
-      subst (Because x r) (sym (ap numberIn e)) (e ∙ ap Word f, subst (HasWord x) f b)
+      subst (Because x r) (sym (ap numberIn e)) (e ∙ ap Word f, subst (HasWord x) f b, n)
   because (endless e b) = subst (Because x r) (sym (ap numberIn e)) b
+  because (minus e b) = subst (Because x r) (sym (ap numberIn e)) b
   because (large e b) = subst (Because x r) (sym (ap numberIn e)) b
   because (small e b) = subst (Because x r) (sym (ap numberIn e)) b
 
   answered : Right x r → Answered (numberIn r)
-  answered (held w e b) = inl (ap numberIn e)
+  answered (held w e b n) = inl (ap numberIn e)
   answered (endless e b) = inr (inl (ap numberIn e))
-  answered (large e b) = inr (inr (inl (ap numberIn e)))
-  answered (small e b) = inr (inr (inr (ap numberIn e)))
+  answered (minus e b) = inr (inr (inl (ap numberIn e)))
+  answered (large e b) = inr (inr (inr (inl (ap numberIn e))))
+  answered (small e b) = inr (inr (inr (inr (ap numberIn e))))
 
-  gives-word : (w : ℕ) → HasWord x w → Right x r → Gives (takenReply r) w
+  gives-word : (w : ℕ) → HasWord x w × (IsMinusZero x → ⊥) → Right x r → Gives (takenReply r) w
   gives-word w a h =
-      let e : r ≡ Word w = answers-word x r w a h in
+      let e : r ≡ Word w = answers-word x r w (a .0) (a .1) h in
       record { done = ap numberIn e; bits-are = ap bitsIn e }
 
-  word-given : (w : ℕ) → Gives (takenReply r) w → Right x r → HasWord x w
-  word-given w g h = subst (HasWord x) (g .bits-are) (subst (Because x r) (g .done) (because h) .1)
+  word-given : (w : ℕ) → Gives (takenReply r) w → Right x r → HasWord x w × (IsMinusZero x → ⊥)
+  word-given w g h =
+      let b = subst (Because x r) (g .done) (because h) in
+      (subst (HasWord x) (g .bits-are) (b .1), b .2)
 
 pub accepted-exactly : AcceptedExactly
 accepted-exactly p l w =
     let x = ofBits binary32 p in
-    (λ g. word-given x (takenOf p) w g (right p), λ a. gives-word x (takenOf p) w a (right p))
+    (λ g. word-given x (takenOf p) w g (right p l), λ a. gives-word x (takenOf p) w a (right p l))
+
+pub one-exception : OneException
+one-exception = (λ p l. (λ t. minus-bits p l t, λ e. minus-right p e), zero-right (2 ^ 31) refl)
 
 pub refused-exactly : RefusedExactly
 refused-exactly p l =
     let x = ofBits binary32 p in
-    let r = takenOf p in (
-      answered x r (right p),
-      (λ d. subst (Because x r) d (because x r (right p)), λ a. ap numberIn (answers-endless x r a (right p))),
-      (λ d. subst (Because x r) d (because x r (right p)), λ a. ap numberIn (answers-large x r a (right p))),
-      (λ d. subst (Because x r) d (because x r (right p)), λ a. ap numberIn (answers-small x r a (right p))),
-      (endless-large x, endless-small x, large-small x, λ w a. (held-endless x w a, held-large x w a, held-small x w a)),
+    let r = takenOf p in
+    let h = right p l in (
+      answered x r h,
+      (λ d. subst (Because x r) d (because x r h), λ a. ap numberIn (answers-endless x r a h)),
+      (λ d. subst (Because x r) d (because x r h), λ a. ap numberIn (answers-minus x r a h)),
+      (λ d. subst (Because x r) d (because x r h), λ a. ap numberIn (answers-large x r a h)),
+      (λ d. subst (Because x r) d (because x r h), λ a. ap numberIn (answers-small x r a h)),
+      (
+        endless-minus x,
+        endless-large x,
+        endless-small x,
+        minus-large x,
+        minus-small x,
+        large-small x,
+        λ w a. (held-endless x w a, held-large x w a, held-small x w a),
+      ),
     )
 
 pub word-comes-back : WordBack
@@ -101,21 +119,11 @@ gives-float w p l e f =
     toBits-ofBits binary32 (hostBits w) (subst (λ (n : ℕ). n < 2 ^ 32) (sym f) l) (plain w (out w) (goes w e)) in
     record { done = ap (λ h. number (hostReply h)) (goes w e); bits-are = ap (λ h. hostReply h .bits) (goes w e) ∙ same ∙ f }
 
-minus-zero : inward (2 ^ 31) .bits ≡ 0
-unfolding takenOf
-minus-zero = refl
-
 -- the f32 that became a word comes back from it
-returned : (p : ℕ) → p < 2 ^ 32 → (p ≡ 2 ^ 31 → ⊥) → numberIn (takenOf p) ≡ 0 → Gives (outward (bitsIn (takenOf p))) p
-returned p l n d =
+pub float-comes-back : FloatBack
+float-comes-back p l d =
     let x = ofBits binary32 p in
     let r = takenOf p in
     let w = bitsIn r in
-    let b = subst (Because x r) d (because x r (right p)) in
-    gives-float w p l (b .1 .word .is-proper) (bits-back p w l n (b .0))
-
-pub float-comes-back : FloatBack
-float-comes-back = (
-  λ p l n d. returned p l n d,
-  subst (λ (w : ℕ). Gives (outward w) 0) (sym minus-zero) (gives-float 0 0 (lit< tt) refl refl),
-)
+    let b = subst (Because x r) d (because x r (right p l)) in
+    gives-float w p l (b .1 .word .is-proper) (bits-back p w l (b .0))

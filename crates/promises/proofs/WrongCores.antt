@@ -76,7 +76,7 @@ module _ (c : Core) (M : Meets c) where
   -- 1.0 as an f32
   float-told : (c .word-to-f32 0x01800000 (zeros 4)) .out ≡ 0 ∷ 0 ∷ 0x80 ∷ 0x3f ∷ []
   unfolding sentOf hostOf takenOf
-  float-told = M .word-to-f32 0x01800000 (zeros 4) (lit< tt) four-bytes .out-is ∙ ap (λ (n : ℕ). le4 n) (float-comes-back .0 0x3f800000 (lit< tt) (λ e. omega (arith, e)) refl .bits-are)
+  float-told = M .word-to-f32 0x01800000 (zeros 4) (lit< tt) four-bytes .out-is ∙ ap (λ (n : ℕ). le4 n) (float-comes-back 0x3f800000 (lit< tt) refl .bits-are)
 
 -- ---- what the definitions give
 tells : (c : Core) → Meets c → Tells c

@@ -1,4 +1,4 @@
--- Demand 2 for host floats, "with the value unchanged, wherever the other side has that value": what a conversion replies, in 01's numbers and by the bits. Each statement is proved by name in proofs/Host.antt. Assumes nothing.
+-- Demand 2 for host floats, "with the value unchanged, wherever the other side has that value": what a conversion replies, by the refusals' numbers and by the bits; 02's minus zero is turned away. Each statement is proved by name in proofs/Host.antt. Assumes nothing.
 use Prim.Native.Nat.{ℕ, _^_, _<_}
 use mathlib.Core.Path.{_≡_}
 use mathlib.Core.Logic.{_⊎_, _↔_}
@@ -8,7 +8,7 @@ use lib.Ieee.Exact.{HasValue}
 use Rattle.terms.specs.Refusal.{numberOf}
 use Rattle.float.specs.Word.{negative, proper, size88, FloatWord}
 use Rattle.host.specs.Host.{hostOf, takenOf, hostReply, takenReply}
-use Rattle.host.specs.Values.{HasWord, Endless, Large, Small}
+use Rattle.host.specs.Values.{HasWord, Endless, IsMinusZero, Large, Small}
 use Rattle.host.specs.declared.Reply.{Reply}
 
 -- the reply to a word that is to be made an f32, and to an f32's bits that are to be made a word
@@ -18,7 +18,7 @@ outward w = hostReply (hostOf w)
 abbrev pub inward : ℕ → Reply
 inward p = takenReply (takenOf p)
 
--- a reply's number in 01's table of refusals
+-- a reply's number
 abbrev pub number : Reply → ℕ
 number r = numberOf (r .refusal)
 
@@ -34,18 +34,26 @@ ValueKept =
     (proper w ≡ true → (number (outward w) ≡ 0) × HasValue (ofBits binary32 (outward w .bits)) (negative w) (size88 w) (2 ^ 88))
     × (proper w ≡ false → number (outward w) ≡ 4)
 
--- An f32 is answered 0 with a word exactly if that is a proper word of its value.
+-- An f32 is answered 0 with a word exactly if that is a proper word of its value and the f32 is not minus zero.
 abbrev pub AcceptedExactly : Type 0
-AcceptedExactly = (p : ℕ) → p < 2 ^ 32 → (w : ℕ) → Gives (inward p) w ↔ HasWord (ofBits binary32 p) w
+AcceptedExactly = (p : ℕ) → p < 2 ^ 32 → (w : ℕ) → Gives (inward p) w ↔ (HasWord (ofBits binary32 p) w × (IsMinusZero (ofBits binary32 p) → ⊥))
 
--- Every f32 is answered 0, 10, 11 or 12, and 10, 11 and 12 exactly where 01 has them; no f32 has two of these, nor one of them and a proper word of its value.
+-- The exception is one f32, 80000000, and it has the value of a proper word, zero.
+abbrev pub OneException : Type 0
+OneException = ((p : ℕ) → p < 2 ^ 32 → IsMinusZero (ofBits binary32 p) ↔ p ≡ 2 ^ 31) × HasWord (ofBits binary32 (2 ^ 31)) 0
+
+-- Every f32 is answered 0, 10, 15, 11 or 12, and 10, 15, 11 and 12 exactly where 01 and 02 have them. No f32 has two of these, so that the order of the tests
+-- is no choice of meaning; nor has one 10, 11 or 12 and a proper word of its value.
 abbrev pub Answered : ℕ → Type 0
-Answered n = (n ≡ 0) ⊎ (n ≡ 10) ⊎ (n ≡ 11) ⊎ (n ≡ 12)
+Answered n = (n ≡ 0) ⊎ (n ≡ 10) ⊎ (n ≡ 15) ⊎ (n ≡ 11) ⊎ (n ≡ 12)
 
 abbrev pub Apart : Float → Type 0
 Apart x =
-    (Endless x → Large x → ⊥)
+    (Endless x → IsMinusZero x → ⊥)
+    × (Endless x → Large x → ⊥)
     × (Endless x → Small x → ⊥)
+    × (IsMinusZero x → Large x → ⊥)
+    × (IsMinusZero x → Small x → ⊥)
     × (Large x → Small x → ⊥)
     × ((w : ℕ) → HasWord x w → (Endless x → ⊥) × (Large x → ⊥) × (Small x → ⊥))
 
@@ -54,6 +62,7 @@ RefusedExactly =
     (p : ℕ) → p < 2 ^ 32 →
     Answered (number (inward p))
     × (number (inward p) ≡ 10 ↔ Endless (ofBits binary32 p))
+    × (number (inward p) ≡ 15 ↔ IsMinusZero (ofBits binary32 p))
     × (number (inward p) ≡ 11 ↔ Large (ofBits binary32 p))
     × (number (inward p) ≡ 12 ↔ Small (ofBits binary32 p))
     × Apart (ofBits binary32 p)
@@ -62,8 +71,6 @@ RefusedExactly =
 abbrev pub WordBack : Type 0
 WordBack = (w : ℕ) → FloatWord w → Gives (inward (outward w .bits)) w
 
--- An f32 made a word and back is the f32, but -0 (80000000) comes back as +0.
+-- An f32 made a word and back is the f32.
 abbrev pub FloatBack : Type 0
-FloatBack =
-    ((p : ℕ) → p < 2 ^ 32 → (p ≡ 2 ^ 31 → ⊥) → number (inward p) ≡ 0 → Gives (outward (inward p .bits)) p)
-    × Gives (outward (inward (2 ^ 31) .bits)) 0
+FloatBack = (p : ℕ) → p < 2 ^ 32 → number (inward p) ≡ 0 → Gives (outward (inward p .bits)) p

@@ -3,7 +3,7 @@
 use crate::digits;
 use crate::float_words;
 
-// 01's number of the refusal, and the float's bits or the word.
+// The refusal's number, and the float's bits or the word.
 pub struct Host {
     pub refusal: u8,
     pub bits: u32,
@@ -33,7 +33,8 @@ pub fn word_to_f32(word: u32) -> Host {
     given(0, word & 2147483648 | field << 23 | k.digits % 8388608)
 }
 
-// A field of 255 is no finite value. Of the others, 2^63 has its digit at place 63 + 149, 2^-65 at 84.
+// A field of 255 is no finite value. Of the others, minus zero has a sign and no digit, 2^63 has its digit at place
+// 63 + 149, 2^-65 at 84.
 pub fn f32_to_word(bits: u32) -> Host {
     let field = bits / 8388608 % 256;
     let m = (bits % 8388608) as u64;
@@ -43,6 +44,8 @@ pub fn f32_to_word(bits: u32) -> Host {
     };
     if field == 255 {
         given(10, 0)
+    } else if (k.length == 0) & float_words::is_negative(bits) {
+        given(15, 0)
     } else if 212 < k.length {
         given(11, 0)
     } else if (0 < k.length) & (k.length < 85) {

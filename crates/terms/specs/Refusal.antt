@@ -1,9 +1,9 @@
--- Document 01's number of each refusal. Definitions only. Assumes nothing.
+-- The number of each refusal, from document 01 and from 02's requests. Definitions only. Assumes nothing.
 use Prim.Native.Nat.{ℕ}
 use Rattle.terms.specs.declared.Refusal.{Refusal}
-use Rattle.terms.specs.declared.Refusal.the-variants.{Done, UnknownCode, DerivedCode, HalfWord, Improper, NoSuchKind, CutShort, BadLength, NoRoom, InputTooLong, NotFinite, TooLarge, TooSmall, BadState, BadReport}
+use Rattle.terms.specs.declared.Refusal.the-variants.{Done, UnknownCode, DerivedCode, HalfWord, Improper, NoSuchKind, CutShort, BadLength, NoRoom, InputTooLong, NotFinite, TooLarge, TooSmall, BadState, BadReport, MinusZero}
 
--- the column 'no.' of 01's table of refusals
+-- the column 'no.' of 01's table of refusals, and the numbers that 02's requests add
 abbrev pub numberOf : Refusal → ℕ
 numberOf Done = 0
 numberOf UnknownCode = 1
@@ -20,3 +20,4 @@ numberOf TooLarge = 11
 numberOf TooSmall = 12
 numberOf BadState = 13
 numberOf BadReport = 14
+numberOf MinusZero = 15

@@ -34,7 +34,7 @@ pub const DIVIDE_BY_ZERO: u8 = 8;
 // Pi as a float word, cut.
 pub const PI: u32 = 0x02c9_0fda;
 
-// Every case of 01's table of refusals, in its order.
+// Every case of 01's table of refusals, in its order, then those of 02.
 pub enum Refusal {
     Done,
     UnknownCode,
@@ -51,6 +51,7 @@ pub enum Refusal {
     TooSmall,
     BadState,
     BadReport,
+    MinusZero,
 }
 
 // A stack word has 16 bits or 32.
@@ -66,9 +67,9 @@ pub enum Rule {
     Nearest,
 }
 
-// 01's number of a refusal.
+// The number that 01 or 02 gives a refusal.
 pub fn number(refusal: Refusal) -> u8
-    ensures { λ r. ⌜ (r ≡ numberOf refusal) × (r ≤ 14) ⌝ }
+    ensures { λ r. ⌜ (r ≡ numberOf refusal) × (r ≤ 15) ⌝ }
 {
     match refusal {
         Refusal::Done => 0,
@@ -86,6 +87,7 @@ pub fn number(refusal: Refusal) -> u8
         Refusal::TooSmall => 12,
         Refusal::BadState => 13,
         Refusal::BadReport => 14,
+        Refusal::MinusZero => 15,
     }
 }
 
