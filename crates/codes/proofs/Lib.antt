@@ -1,2 +1,3 @@
 -- The laws behind the decoder, and those about it.
+pub mod Bits
 pub mod Counts

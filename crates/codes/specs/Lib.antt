@@ -1,2 +1,3 @@
 -- What a command code stands for.
 pub mod Codes
+pub mod Format

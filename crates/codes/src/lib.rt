@@ -1,8 +1,9 @@
-// The command codes of the Am9511A, decoded to a kind: a command that
+// The command codes of the Am9511A, decoded by their bits to a kind: a command that
 // carries its width, a derived function, or an unknown code.
 ghost use mathlib.Core.Path.{_≡_};
-ghost use Prim.Native.Nat.{_%_};
+ghost use Prim.Native.Nat.{_+_, _%_, _≤_, _<_};
 ghost use Rattle.codes.specs.Codes.{sr, decoded};
+ghost use Rattle.codes.specs.Format.{widthOf, fixedCode};
 use terms::Width;
 
 // The four float operations on B and A.
@@ -40,63 +41,153 @@ pub enum Kind {
     Unknown,
 }
 
-// What a code without its bit 7 stands for: the rows of Figure 8, in its order.
-fn named(code: u8) -> Kind
-    ensures { λ r. ⌜ r ≡ decoded code ⌝ }
+// The width that one bit of a code selects: 16 where it is 1, else 32.
+fn width_of(bit: u8) -> Width
+    ensures { λ r. ⌜ r ≡ widthOf bit ⌝ }
 {
-    match code {
-        0x6c => Kind::Known(Command::Add(Width::Single)),
-        0x6d => Kind::Known(Command::Sub(Width::Single)),
-        0x6e => Kind::Known(Command::Mul(Width::Single)),
-        0x76 => Kind::Known(Command::Muu(Width::Single)),
-        0x6f => Kind::Known(Command::Div(Width::Single)),
-        0x2c => Kind::Known(Command::Add(Width::Double)),
-        0x2d => Kind::Known(Command::Sub(Width::Double)),
-        0x2e => Kind::Known(Command::Mul(Width::Double)),
-        0x36 => Kind::Known(Command::Muu(Width::Double)),
-        0x2f => Kind::Known(Command::Div(Width::Double)),
-        0x10 => Kind::Known(Command::Float(FloatOp::Add)),
-        0x11 => Kind::Known(Command::Float(FloatOp::Sub)),
-        0x12 => Kind::Known(Command::Float(FloatOp::Mul)),
-        0x13 => Kind::Known(Command::Float(FloatOp::Div)),
-        0x01 => Kind::Known(Command::Sqrt),
-        0x02 => Kind::Derived,
-        0x03 => Kind::Derived,
-        0x04 => Kind::Derived,
-        0x05 => Kind::Derived,
-        0x06 => Kind::Derived,
-        0x07 => Kind::Derived,
-        0x08 => Kind::Derived,
-        0x09 => Kind::Derived,
-        0x0a => Kind::Derived,
-        0x0b => Kind::Derived,
-        0x00 => Kind::Known(Command::Nop),
-        0x1f => Kind::Known(Command::Fix(Width::Single)),
-        0x1e => Kind::Known(Command::Fix(Width::Double)),
-        0x1d => Kind::Known(Command::Flt(Width::Single)),
-        0x1c => Kind::Known(Command::Flt(Width::Double)),
-        0x74 => Kind::Known(Command::Chs(Width::Single)),
-        0x34 => Kind::Known(Command::Chs(Width::Double)),
-        0x15 => Kind::Known(Command::Chsf),
-        0x77 => Kind::Known(Command::Pto(Width::Single)),
-        0x37 => Kind::Known(Command::Pto(Width::Double)),
-        0x17 => Kind::Known(Command::Pto(Width::Double)),
-        0x78 => Kind::Known(Command::Pop(Width::Single)),
-        0x38 => Kind::Known(Command::Pop(Width::Double)),
-        0x18 => Kind::Known(Command::Pop(Width::Double)),
-        0x79 => Kind::Known(Command::Xch(Width::Single)),
-        0x39 => Kind::Known(Command::Xch(Width::Double)),
-        0x19 => Kind::Known(Command::Xch(Width::Double)),
-        0x1a => Kind::Known(Command::Pupi),
+    if bit == 1 {
+        Width::Single
+    } else {
+        Width::Double
+    }
+}
+
+// Operations 17 to 19, in every format: PTO, POP, XCH.
+fn moved(operation: u8, width: Width) -> Kind
+    requires { ⌜ (0x17 ≤ operation) × (operation < 0x1a) ⌝ }
+    ensures { λ r. ⌜ r ≡ decoded (fixedCode width operation) ⌝ }
+{
+    match operation {
+        0x17 => Kind::Known(Command::Pto(width)),
+        0x18 => Kind::Known(Command::Pop(width)),
+        _ => Kind::Known(Command::Xch(width)),
+    }
+}
+
+// Fixed-point operations 0C to 0F by their bits 1 and 0: ADD, SUB, MUL, DIV.
+fn arithmetic(low: u8, width: Width) -> Kind
+    requires { ⌜ low < 4 ⌝ }
+    ensures { λ r. ⌜ r ≡ decoded (fixedCode width (0x0c + low)) ⌝ }
+{
+    let odd = low % 2 == 1;
+    if low / 2 == 1 {
+        if odd {
+            Kind::Known(Command::Div(width))
+        } else {
+            Kind::Known(Command::Mul(width))
+        }
+    } else if odd {
+        Kind::Known(Command::Sub(width))
+    } else {
+        Kind::Known(Command::Add(width))
+    }
+}
+
+// The operations of the fixed-point formats, at the width that bit 6 selects.
+fn fixed(operation: u8, width: Width) -> Kind
+    requires { ⌜ operation < 32 ⌝ }
+    ensures { λ r. ⌜ r ≡ decoded (fixedCode width operation) ⌝ }
+{
+    if operation / 4 == 3 {
+        return arithmetic(operation % 4, width);
+    }
+    if 0x1a <= operation {
+        return Kind::Unknown;
+    }
+    if 0x17 <= operation {
+        return moved(operation, width);
+    }
+    match operation {
+        0x14 => Kind::Known(Command::Chs(width)),
+        0x16 => Kind::Known(Command::Muu(width)),
         _ => Kind::Unknown,
     }
 }
 
-// What a code stands for, whatever its bit 7.
+// Float operations 10 to 13 by their bits 1 and 0: FADD, FSUB, FMUL, FDIV.
+fn primary(low: u8) -> Kind
+    requires { ⌜ low < 4 ⌝ }
+    ensures { λ r. ⌜ r ≡ decoded (0x10 + low) ⌝ }
+{
+    match low {
+        0 => Kind::Known(Command::Float(FloatOp::Add)),
+        1 => Kind::Known(Command::Float(FloatOp::Sub)),
+        2 => Kind::Known(Command::Float(FloatOp::Mul)),
+        _ => Kind::Known(Command::Float(FloatOp::Div)),
+    }
+}
+
+// Float operations 00 to 0F: NOP, SQRT, and the derived functions 02 to 0B.
+fn derived(operation: u8) -> Kind
+    requires { ⌜ operation < 0x10 ⌝ }
+    ensures { λ r. ⌜ r ≡ decoded operation ⌝ }
+{
+    if 0x0c <= operation {
+        return Kind::Unknown;
+    }
+    match operation {
+        0x00 => Kind::Known(Command::Nop),
+        0x01 => Kind::Known(Command::Sqrt),
+        _ => Kind::Derived,
+    }
+}
+
+// Float operations 1C to 1F by their bits 1 and 0: FIX or FLT, and its width.
+fn conversion(low: u8) -> Kind
+    requires { ⌜ low < 4 ⌝ }
+    ensures { λ r. ⌜ r ≡ decoded (0x1c + low) ⌝ }
+{
+    let width = width_of(low % 2);
+    if low / 2 == 1 {
+        Kind::Known(Command::Fix(width))
+    } else {
+        Kind::Known(Command::Flt(width))
+    }
+}
+
+// The operations of the float format.
+fn float(operation: u8) -> Kind
+    requires { ⌜ operation < 32 ⌝ }
+    ensures { λ r. ⌜ r ≡ decoded operation ⌝ }
+{
+    if operation / 4 == 4 {
+        return primary(operation % 4);
+    }
+    if operation < 0x10 {
+        return derived(operation);
+    }
+    if 0x1c <= operation {
+        return conversion(operation % 4);
+    }
+    if operation < 0x17 {
+        if operation == 0x15 {
+            return Kind::Known(Command::Chsf);
+        }
+        return Kind::Unknown;
+    }
+    if operation < 0x1a {
+        return moved(operation, Width::Double);
+    }
+    if operation == 0x1a {
+        Kind::Known(Command::Pupi)
+    } else {
+        Kind::Unknown
+    }
+}
+
+// What a code stands for, whatever its bit 7: bit 5 is 1 for fixed point, bit 6 then selects the width and is 0 for
+// floats, bits 4 to 0 are the operation.
 pub fn decode(code: u8) -> Kind
     ensures { λ r. ⌜ r ≡ decoded (code % 128) ⌝ }
 {
-    named(code % 128)
+    let operation = code % 32;
+    if code / 32 % 2 == 1 {
+        return fixed(operation, width_of(code / 64 % 2));
+    }
+    if code / 64 % 2 == 1 {
+        return Kind::Unknown;
+    }
+    float(operation)
 }
 
 // Bit 7 of a code: the service line after an accepted command.

@@ -19,6 +19,7 @@ pub mod EventFiles
 pub mod TwosComplement
 pub mod Listings
 pub mod Figures
+pub mod Format
 pub mod WrongCores
 pub mod OldLimits
 pub mod LongBlocks

@@ -1,0 +1,13 @@
+-- `codes::width_of` meets its contract: by the test. Assumes nothing.
+use borrow.Author.Tests.{eq-eqb, ne-eqb}
+use Rattle.codes.proofs.width_of.Statement.{statement}
+use Rattle.codes.proofs.width_of.Tie as tie
+
+returns : tie.Need-returns
+returns c = rw (eq-eqb _ _ (c .if1 .taken))
+
+returns-2 : tie.Need-returns-2
+returns-2 c = rw (ne-eqb _ _ (c .if1 .left))
+
+pub width-of-spec : {M : Type 1} → statement M
+width-of-spec = tie.close (tie.spec returns returns-2)
