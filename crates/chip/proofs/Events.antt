@@ -7,7 +7,7 @@ use borrow.Author.Tests.{lt-leb, leb-false, eqb-true}
 use lib.Dec.{eqb}
 use lib.ListN.{take}
 use Rattle.terms.specs.declared.Width.the-variants.{Double}
-use Rattle.terms.specs.declared.Rule.{Rule}
+use Rattle.terms.specs.Settings.{Settings}
 use Rattle.terms.specs.Refusal.{numberOf}
 use Rattle.float.specs.declared.Flagged.{Flagged}
 use Rattle.float.specs.Word.{FloatWord}
@@ -31,22 +31,22 @@ use Rattle.chip.proofs.InTurn.{push-done}
 use Rattle.chip.proofs.OnTop.{idle, floated}
 
 -- ---- events joined
-module _ (rule : Rule) where
-  pub after-append : (s : State) (xs ys : List Event) → afterEvents rule s (xs ++ ys) ≡ afterEvents rule (afterEvents rule s xs) ys
+module _ (on : Settings) where
+  pub after-append : (s : State) (xs ys : List Event) → afterEvents on s (xs ++ ys) ≡ afterEvents on (afterEvents on s xs) ys
   after-append s [] ys = refl
-  after-append s (x ∷ xs) ys = after-append ((answerTo rule s x) .state) xs ys
+  after-append s (x ∷ xs) ys = after-append ((answerTo on s x) .state) xs ys
 
-  pub answered-append : (s : State) (xs ys : List Event) → answered rule s xs ≡ true → answered rule (afterEvents rule s xs) ys ≡ true → answered rule s (xs ++ ys) ≡ true
+  pub answered-append : (s : State) (xs ys : List Event) → answered on s xs ≡ true → answered on (afterEvents on s xs) ys ≡ true → answered on s (xs ++ ys) ≡ true
   answered-append s [] ys a b = b
   answered-append s (x ∷ xs) ys a b =
-      let h = both-of (eqb (numberOf ((answerTo rule s x) .refusal)) 0) (answered rule ((answerTo rule s x) .state) xs) a in
-      rw (h .0) (answered-append ((answerTo rule s x) .state) xs ys (h .1) b)
+      let h = both-of (eqb (numberOf ((answerTo on s x) .refusal)) 0) (answered on ((answerTo on s x) .state) xs) a in
+      rw (h .0) (answered-append ((answerTo on s x) .state) xs ys (h .1) b)
 
-  pub quiet-append : (s : State) (xs ys : List Event) → quiet rule s (xs ++ ys) ≡ true → (quiet rule s xs ≡ true) × (quiet rule (afterEvents rule s xs) ys ≡ true)
+  pub quiet-append : (s : State) (xs ys : List Event) → quiet on s (xs ++ ys) ≡ true → (quiet on s xs ≡ true) × (quiet on (afterEvents on s xs) ys ≡ true)
   quiet-append s [] ys q = (refl, q)
   quiet-append s (x ∷ xs) ys q =
-      let h = both-of (leavesClear rule s x) (quiet rule ((answerTo rule s x) .state) (xs ++ ys)) q in
-      let r = quiet-append ((answerTo rule s x) .state) xs ys (h .1) in
+      let h = both-of (leavesClear on s x) (quiet on ((answerTo on s x) .state) (xs ++ ys)) q in
+      let r = quiet-append ((answerTo on s x) .state) xs ys (h .1) in
       (rw (h .0) (r .0), r .1)
 
 -- ---- a state at rest, and one with a word on top, written out
@@ -68,26 +68,26 @@ abbrev pub underWord : List ℕ → List ℕ
 underWord t = take 8 (take 9 (take 10 (take 11 t)))
 
 -- ---- what events do
-module _ (rule : Rule) where
+module _ (on : Settings) where
   -- nothing more happens
-  pub does-none : (s : State) (w : ℕ) → Tops w s → Does rule s [] (record { word = w; error = 0 })
+  pub does-none : (s : State) (w : ℕ) → Tops w s → Does on s [] (record { word = w; error = 0 })
   does-none s w T = record { all-answered = refl; tops = T; no-error = λ q. refl }
 
   -- an event that is answered 0 comes first
-  pub does-then : {s s' : State} {e : Event} {es : List Event} {r : Flagged} → answerTo rule s e ≡ done 0 s' → Does rule s' es r → Does rule s (e ∷ es) r
+  pub does-then : {s s' : State} {e : Event} {es : List Event} {r : Flagged} → answerTo on s e ≡ done 0 s' → Does on s' es r → Does on s (e ∷ es) r
   does-then {s} {s'} {e} {es} {r} h d = record {
-    all-answered = subst (λ (x : Answer). (eqb (numberOf (x .refusal)) 0 && answered rule (x .state) es) ≡ true) (sym h) (d .all-answered);
-    tops = subst (λ (x : Answer). Tops (r .word) (afterEvents rule (x .state) es)) (sym h) (d .tops);
-    no-error = λ q. d .no-error (subst (λ (x : Answer). quiet rule (x .state) es ≡ true) h (both-of (leavesClear rule s e) (quiet rule ((answerTo rule s e) .state) es) q .1));
+    all-answered = subst (λ (x : Answer). (eqb (numberOf (x .refusal)) 0 && answered on (x .state) es) ≡ true) (sym h) (d .all-answered);
+    tops = subst (λ (x : Answer). Tops (r .word) (afterEvents on (x .state) es)) (sym h) (d .tops);
+    no-error = λ q. d .no-error (subst (λ (x : Answer). quiet on (x .state) es ≡ true) h (both-of (leavesClear on s e) (quiet on ((answerTo on s e) .state) es) q .1));
   }
 
   -- four bytes pushed come first
-  pub does-pushes : (c : ℕ) {l : List ℕ} {u : ℕ} {v : Bool} {es : List Event} {r : Flagged} → u < 128 → Does rule (idle (bytesOf 4 c ++ under l) u v) es r → Does rule (idle l u v) (pushesOf 4 c ++ es) r
+  pub does-pushes : (c : ℕ) {l : List ℕ} {u : ℕ} {v : Bool} {es : List Event} {r : Flagged} → u < 128 → Does on (idle (bytesOf 4 c ++ under l) u v) es r → Does on (idle l u v) (pushesOf 4 c ++ es) r
   does-pushes c h d = does-then (push-done _ _ h) (does-then (push-done _ _ h) (does-then (push-done _ _ h) (does-then (push-done _ _ h) d)))
 
   -- one command that ends with a word on top and an error
   pub does-command : {s : State} {code : ℕ} {r : Flagged} {t : List ℕ} {v : Bool} → Result r
-      → commandUnder rule s code ≡ done 0 (idle (bytesOf 4 (r .word) ++ t) (statusOf Double (bytesOf 4 (r .word) ++ t) (r .error) false) v) → Does rule s (Command code ∷ []) r
+      → commandUnder (on .rule) s code ≡ done 0 (idle (bytesOf 4 (r .word) ++ t) (statusOf Double (bytesOf 4 (r .word) ++ t) (r .error) false) v) → Does on s (Command code ∷ []) r
   does-command {s} {code} {r} {t} {v} F e =
       let l = bytesOf 4 (r .word) ++ t in
       record {
@@ -97,20 +97,20 @@ module _ (rule : Rule) where
             (record { rest = t; stack-is = refl; at-rest = at-rest l (statusOf Double l (r .error) false) v (status-lt Double l (r .error) false (F .small)) });
         no-error =
             λ q. sym (status-error Double l (r .error) false (F .small)) ∙ sym (ap (λ (x : Answer). errorOf (x .state .status)) e)
-            ∙ eqb-true (errorOf ((commandUnder rule s code) .state .status)) 0 (both-of (eqb (errorOf ((commandUnder rule s code) .state .status)) 0) (true) q .0);
+            ∙ eqb-true (errorOf ((commandUnder (on .rule) s code) .state .status)) 0 (both-of (eqb (errorOf ((commandUnder (on .rule) s code) .state .status)) 0) (true) q .0);
       }
 
   -- a constant pushed, and a float command on the word below it
-  pub does-float : (op : FloatOp) (code c w : ℕ) (t : List ℕ) (u : ℕ) (v : Bool) → decoded (code % 128) ≡ Known (Float op) → u < 128 → FloatWord c → FloatWord w → Result (floatOf rule op w c)
-      → Does rule (idle (bytesOf 4 w ++ t) u v) (pushesOf 4 c ++ (Command code ∷ [])) (floatOf rule op w c)
-  does-float op code c w t u v k h C W F = does-pushes c h (does-command F (floated rule op code w c (underWord t) u v k h W C))
+  pub does-float : (op : FloatOp) (code c w : ℕ) (t : List ℕ) (u : ℕ) (v : Bool) → decoded (code % 128) ≡ Known (Float op) → u < 128 → FloatWord c → FloatWord w → Result (floatOf (on .rule) op w c)
+      → Does on (idle (bytesOf 4 w ++ t) u v) (pushesOf 4 c ++ (Command code ∷ [])) (floatOf (on .rule) op w c)
+  does-float op code c w t u v k h C W F = does-pushes c h (does-command F (floated (on .rule) op code w c (underWord t) u v k h W C))
 
 -- four pushes put a word on top of any state at rest
-pub pushes-do : (rule : Rule) (s : State) (w : ℕ) → AtRest s → Does rule s (pushesOf 4 w) (record { word = w; error = 0 })
-pushes-do rule s w R =
+pub pushes-do : (on : Settings) (s : State) (w : ℕ) → AtRest s → Does on s (pushesOf 4 w) (record { word = w; error = 0 })
+pushes-do on s w R =
     let h = at-rest-lt R in
     let l = bytesOf 4 w ++ under (s .stack) in
-    subst (λ (x : State). Does rule x (pushesOf 4 w) (record { word = w; error = 0 }))
+    subst (λ (x : State). Does on x (pushesOf 4 w) (record { word = w; error = 0 }))
     (sym (ap (λ (p : Bool). record { stack = s .stack; pending = p; status = s .status; service = s .service }) (R .whole)))
-    (does-pushes rule w h
-    (does-none rule (idle l (s .status) (s .service)) w (record { rest = under (s .stack); stack-is = refl; at-rest = at-rest l (s .status) (s .service) h })))
+    (does-pushes on w h
+    (does-none on (idle l (s .status) (s .service)) w (record { rest = under (s .stack); stack-is = refl; at-rest = at-rest l (s .status) (s .service) h })))

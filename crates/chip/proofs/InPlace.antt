@@ -6,6 +6,8 @@ use Prim.Native.Nat.{ℕ, zero, suc, _*_, _/_, _%_, _≤_, _<_}
 use native.Mathlib.Omega.{arith}
 use native.Mathlib.Nat.{not-suc-le-zero}
 use borrow.Author.Tests.{lt-leb, le-leb, lt-ltb, le-ltb}
+use Rattle.terms.specs.declared.Mode.{Mode}
+use Rattle.terms.specs.declared.Mode.the-variants.{Am9511A, Am9511}
 use Rattle.terms.specs.declared.Refusal.{Refusal}
 use Rattle.terms.specs.declared.Refusal.the-variants.{Improper, BadState}
 use Rattle.terms.specs.Refusal.{numberOf}
@@ -19,7 +21,7 @@ use Rattle.chip.specs.declared.Event.{Event}
 use Rattle.chip.specs.declared.Event.the-variants.{Push, Pop, Command as CommandEvent, Status, Reset, Acknowledge}
 use Rattle.chip.specs.declared.commands.Obeyed.{Obeyed}
 use Rattle.chip.specs.declared.commands.Obeyed.the-variants.{Done, Refused}
-use Rattle.chip.specs.State.{resetState}
+use Rattle.chip.specs.State.{afterReset}
 use Rattle.chip.specs.Commands.{baseRule, outcomeOf, properOperands}
 use Rattle.chip.specs.Step.{done, refused, pushOf, popOf, resetOf, acknowledgeOf, readOf, commandUnder, commandOf, eventOf}
 use Rattle.chip.specs.Place.{held, flipped, Obeys, refusalOf, obeyedAs, Keeps, Commanded, answerObeyed}
@@ -38,37 +40,44 @@ flips (suc (suc n)) p =
     twice true = refl
     twice false = refl
 
+-- what a reset leaves beside the stack
+pub reset-held : (mode : Mode) (stack : List ℕ) (p : Bool) {after : List ℕ} → after ≡ afterReset mode (held stack p 0 false) .stack → held after false 0 false ≡ afterReset mode (held stack p 0 false)
+reset-held Am9511A stack p e = ap (λ (l : List ℕ). held l false 0 false) e
+reset-held Am9511 stack p e = ap (λ (l : List ℕ). held l false 0 false) e
+
 -- ---- single events of a state that is not busy
 module _ (stack : List ℕ) (p : Bool) (t : ℕ) (v : Bool) (h : t < 128) where
-  pub pushed-one : (b : ℕ) {after : List ℕ} {q : Bool} → q ≡ flipped 1 p → after ≡ pushed stack b → done 0 (held after q t v) ≡ eventOf (held stack p t v) (Push b)
+  pub pushed-one : (b : ℕ) {after : List ℕ} {q : Bool} → q ≡ flipped 1 p → after ≡ pushed stack b → done 0 (held after q t v) ≡ pushOf (held stack p t v) b
   pushed-one b eq ea = ap₂ (λ (l : List ℕ) (x : Bool). done 0 (held l x t v)) ea eq ∙ sym (push-done (held stack p t v) b h)
 
-  pub popped-one : (after : List ℕ) (q : Bool) {b : ℕ} → q ≡ flipped 1 p → after ≡ popped stack → b ≡ topByte stack → done b (held after q t v) ≡ eventOf (held stack p t v) Pop
+  pub popped-one : (after : List ℕ) (q : Bool) {b : ℕ} → q ≡ flipped 1 p → after ≡ popped stack → b ≡ topByte stack → done b (held after q t v) ≡ popOf (held stack p t v)
   popped-one after q eq ea eb =
       ap (λ (x : ℕ). done x (held after q t v)) eb
       ∙ ap₂ (λ (l : List ℕ) (x : Bool). done (topByte stack) (held l x t v)) ea eq ∙ sym (pop-done (held stack p t v) h)
 
-  pub read-one : done t (held stack p t v) ≡ eventOf (held stack p t v) Status
+  pub read-one : done t (held stack p t v) ≡ readOf (held stack p t v)
   unfolding readOf
   read-one = rw (lt-leb 128 t h)
 
-  pub reset-one : {s : State} → s ≡ resetState → done 0 s ≡ eventOf (held stack p t v) Reset
+  -- what it leaves does not depend on status and service line
+  pub reset-one : (mode : Mode) {s : State} → s ≡ afterReset mode (held stack p 0 false) → done 0 s ≡ resetOf mode (held stack p t v)
   unfolding resetOf
-  reset-one e = ap (done 0) e ∙ rw (lt-leb 128 t h)
+  reset-one Am9511A e = ap (done 0) e ∙ rw (lt-leb 128 t h)
+  reset-one Am9511 e = ap (done 0) e ∙ rw (lt-leb 128 t h)
 
-  pub acknowledged-one : done 0 (held stack p t false) ≡ eventOf (held stack p t v) Acknowledge
+  pub acknowledged-one : done 0 (held stack p t false) ≡ acknowledgeOf (held stack p t v)
   unfolding acknowledgeOf
   acknowledged-one = rw (lt-leb 128 t h)
 
 -- a busy state is handed back by every event
-pub busy-event : (s : State) (e : Event) → 128 ≤ s .status → refused BadState s ≡ eventOf s e
+pub busy-event : (mode : Mode) (s : State) (e : Event) → 128 ≤ s .status → refused BadState s ≡ eventOf mode s e
 unfolding pushOf popOf resetOf acknowledgeOf readOf commandUnder
-busy-event s (Push b) h = rw (le-leb 128 (s .status) h)
-busy-event s Pop h = rw (le-leb 128 (s .status) h)
-busy-event s (CommandEvent code) h = rw (le-leb 128 (s .status) h)
-busy-event s Status h = rw (le-leb 128 (s .status) h)
-busy-event s Reset h = rw (le-leb 128 (s .status) h)
-busy-event s Acknowledge h = rw (le-leb 128 (s .status) h)
+busy-event mode s (Push b) h = rw (le-leb 128 (s .status) h)
+busy-event mode s Pop h = rw (le-leb 128 (s .status) h)
+busy-event mode s (CommandEvent code) h = rw (le-leb 128 (s .status) h)
+busy-event mode s Status h = rw (le-leb 128 (s .status) h)
+busy-event mode s Reset h = rw (le-leb 128 (s .status) h)
+busy-event mode s Acknowledge h = rw (le-leb 128 (s .status) h)
 
 -- ---- a code
 -- a known command with nothing pending is answered as its row says

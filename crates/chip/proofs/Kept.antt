@@ -3,6 +3,7 @@ use mathlib.Core.Path.{_≡_, refl}
 use mathlib.Core.Logic.{_⊎_, inl, inr}
 use mathlib.Core.Bool.{Bool, true, false, cond}
 use Prim.Native.Nat.{ℕ, _%_}
+use Rattle.terms.specs.declared.Mode.{Mode}
 use Rattle.terms.specs.declared.Refusal.the-variants.{Done, BadState}
 use Rattle.terms.specs.declared.Rule.{Rule}
 use Rattle.codes.specs.declared.Command.{Command}
@@ -36,9 +37,9 @@ pub pop-keeps : (s : State) → Keeps s (popOf s)
 unfolding popOf
 pop-keeps s = unless-busy s _ (inl refl)
 
-pub reset-keeps : (s : State) → Keeps s (resetOf s)
+pub reset-keeps : (mode : Mode) (s : State) → Keeps s (resetOf mode s)
 unfolding resetOf
-reset-keeps s = unless-busy s _ (inl refl)
+reset-keeps mode s = unless-busy s _ (inl refl)
 
 pub acknowledge-keeps : (s : State) → Keeps s (acknowledgeOf s)
 unfolding acknowledgeOf
@@ -62,10 +63,10 @@ unfolding commandUnder
 command-keeps rule s code = unless-busy s _ (answer-keeps rule s (sr code) (decoded (code % 128)))
 
 -- every event of the bus
-pub event-keeps : (s : State) (e : Event) → Keeps s (eventOf s e)
-event-keeps s (Push b) = push-keeps s b
-event-keeps s Pop = pop-keeps s
-event-keeps s (CommandEvent code) = command-keeps baseRule s code
-event-keeps s Status = read-keeps s
-event-keeps s Reset = reset-keeps s
-event-keeps s Acknowledge = acknowledge-keeps s
+pub event-keeps : (mode : Mode) (s : State) (e : Event) → Keeps s (eventOf mode s e)
+event-keeps mode s (Push b) = push-keeps s b
+event-keeps mode s Pop = pop-keeps s
+event-keeps mode s (CommandEvent code) = command-keeps baseRule s code
+event-keeps mode s Status = read-keeps s
+event-keeps mode s Reset = reset-keeps mode s
+event-keeps mode s Acknowledge = acknowledge-keeps s

@@ -2,18 +2,21 @@
 use mathlib.Core.Path.{_≡_, sym, subst}
 use mathlib.Core.Bool.{Bool, true, false, cond}
 use mathlib.Core.Logic.{⊎-elim}
+use mathlib.Core.List.{List}
 use Prim.Native.Nat.{ℕ, _%_, _≤_, _<_}
 use borrow.Author.Tests.{lt-leb}
 use lib.Dec.{lit≤, lit<}
+use Rattle.terms.specs.declared.Mode.{Mode}
+use Rattle.terms.specs.declared.Mode.the-variants.{Am9511A, Am9511}
 use Rattle.terms.specs.Refusal.{numberOf}
 use Rattle.stack.specs.Stack.{IsStack}
-use Rattle.stack.proofs.Layouts.{zeros-stack, pushed-stack, rotated-stack}
+use Rattle.stack.proofs.Layouts.{zeros-stack, pushed-stack, rotated-stack, realigned-stack}
 use Rattle.codes.specs.declared.Kind.{Kind}
 use Rattle.codes.specs.declared.Kind.the-variants.{Known, Derived, Unknown}
 use Rattle.codes.specs.Codes.{sr, decoded}
 use Rattle.chip.specs.declared.State.{State}
 use Rattle.chip.specs.declared.Answer.{Answer}
-use Rattle.chip.specs.State.{busy}
+use Rattle.chip.specs.State.{busy, keptStack, afterReset}
 use Rattle.chip.specs.Commands.{baseRule, properOperands}
 use Rattle.chip.specs.Step.{pushOf, popOf, readOf, resetOf, acknowledgeOf, carried, answerByKind, commandUnder, commandOf}
 use Rattle.chip.proofs.Kept.{command-keeps}
@@ -28,6 +31,19 @@ pub record Ready (s : State) : Type 0 where
 pub record Fair (a : Answer) : Type 0 where
   pub left : Ready (a .state)
   pub small : numberOf (a .refusal) ≤ 4
+
+-- a reset leaves 16 bytes and status 0
+kept-stack : (pending : Bool) (l : List ℕ) → IsStack l → IsStack (keptStack pending l)
+kept-stack true l h = realigned-stack l h
+kept-stack false l h = h
+
+reset-stack : (mode : Mode) (s : State) → IsStack (s .stack) → IsStack (afterReset mode s .stack)
+reset-stack Am9511A s h = zeros-stack
+reset-stack Am9511 s h = kept-stack (s .pending) (s .stack) h
+
+reset-status : (mode : Mode) (s : State) → afterReset mode s .status < 128
+reset-status Am9511A s = lit< tt
+reset-status Am9511 s = lit< tt
 
 module _ (s : State) (r : Ready s) where
   idle : busy s ≡ false
@@ -45,9 +61,9 @@ module _ (s : State) (r : Ready s) where
   unfolding readOf
   read-fair = rw idle record { left = r; small = lit≤ tt }
 
-  pub reset-fair : Fair (resetOf s)
+  pub reset-fair : (mode : Mode) → Fair (resetOf mode s)
   unfolding resetOf
-  reset-fair = rw idle record { left = record { stack = zeros-stack; ready = lit< tt }; small = lit≤ tt }
+  reset-fair mode = rw idle record { left = record { stack = reset-stack mode s (r .stack); ready = reset-status mode s }; small = lit≤ tt }
 
   pub acknowledge-fair : Fair (acknowledgeOf s)
   unfolding acknowledgeOf

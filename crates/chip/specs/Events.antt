@@ -5,7 +5,7 @@ use mathlib.Core.Bool.{Bool, true, false, _&&_}
 use mathlib.Core.List.{List, [], _∷_, _++_, map}
 use lib.Dec.{eqb}
 use Rattle.terms.specs.Refusal.{numberOf}
-use Rattle.terms.specs.declared.Rule.{Rule}
+use Rattle.terms.specs.Settings.{Settings}
 use Rattle.float.specs.declared.Flagged.{Flagged}
 use Rattle.stack.specs.Stack.{bytesOf, lowFirst}
 use Rattle.chip.specs.declared.State.{State}
@@ -15,29 +15,29 @@ use Rattle.chip.specs.State.{busy}
 use Rattle.chip.specs.Status.{errorOf}
 use Rattle.chip.specs.Step.{commandUnder, answerTo}
 
--- the state after events in turn, float results being formed under a rule; under baseRule this is the chip of demand 2
-abbrev pub afterEvents : Rule → State → List Event → State
-afterEvents rule s [] = s
-afterEvents rule s (e ∷ es) = afterEvents rule ((answerTo rule s e) .state) es
+-- the state after events in turn; under baseRule this is the chip of demand 2
+abbrev pub afterEvents : Settings → State → List Event → State
+afterEvents on s [] = s
+afterEvents on s (e ∷ es) = afterEvents on ((answerTo on s e) .state) es
 
 -- whether every event is answered 0
-abbrev pub answered : Rule → State → List Event → Bool
-answered rule s [] = true
-answered rule s (e ∷ es) = eqb (numberOf ((answerTo rule s e) .refusal)) 0 && answered rule ((answerTo rule s e) .state) es
+abbrev pub answered : Settings → State → List Event → Bool
+answered on s [] = true
+answered on s (e ∷ es) = eqb (numberOf ((answerTo on s e) .refusal)) 0 && answered on ((answerTo on s e) .state) es
 
 -- whether a command leaves a status with bits 4 to 1 clear; no other event of a run sets the status
-abbrev pub leavesClear : Rule → State → Event → Bool
-leavesClear rule s (Command code) = eqb (errorOf ((commandUnder rule s code) .state .status)) 0
-leavesClear rule s (Push byte) = true
-leavesClear rule s Pop = true
-leavesClear rule s Status = true
-leavesClear rule s Reset = true
-leavesClear rule s Acknowledge = true
+abbrev pub leavesClear : Settings → State → Event → Bool
+leavesClear on s (Command code) = eqb (errorOf ((commandUnder (on .rule) s code) .state .status)) 0
+leavesClear on s (Push byte) = true
+leavesClear on s Pop = true
+leavesClear on s Status = true
+leavesClear on s Reset = true
+leavesClear on s Acknowledge = true
 
 -- whether each command of the events does so
-abbrev pub quiet : Rule → State → List Event → Bool
-quiet rule s [] = true
-quiet rule s (e ∷ es) = leavesClear rule s e && quiet rule ((answerTo rule s e) .state) es
+abbrev pub quiet : Settings → State → List Event → Bool
+quiet on s [] = true
+quiet on s (e ∷ es) = leavesClear on s e && quiet on ((answerTo on s e) .state) es
 
 -- the n bytes of a word pushed, low byte first
 abbrev pub pushesOf : ℕ → ℕ → List Event
@@ -56,7 +56,7 @@ pub record Tops (w : ℕ) (s : State) : Type 0 where
   pub at-rest : AtRest s
 
 -- what events do to a state: each is answered 0, the word of r stands on top afterwards, and where they are quiet r has no error
-pub record Does (rule : Rule) (s : State) (es : List Event) (r : Flagged) : Type 0 where
-  pub all-answered : answered rule s es ≡ true
-  pub tops : Tops (r .word) (afterEvents rule s es)
-  pub no-error : quiet rule s es ≡ true → r .error ≡ 0
+pub record Does (on : Settings) (s : State) (es : List Event) (r : Flagged) : Type 0 where
+  pub all-answered : answered on s es ≡ true
+  pub tops : Tops (r .word) (afterEvents on s es)
+  pub no-error : quiet on s es ≡ true → r .error ≡ 0

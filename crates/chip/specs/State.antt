@@ -1,9 +1,12 @@
 -- The state of document 01 by value, and what becomes of it. Definitions only. Assumes nothing.
 use Prim.Native.Nat.{ℕ}
-use mathlib.Core.Bool.{Bool, false, not}
-use mathlib.Core.List.{List}
+use mathlib.Core.Bool.{Bool, false, not, cond}
+use mathlib.Core.List.{List, _++_}
 use lib.Dec.{leb}
-use Rattle.stack.specs.Stack.{zeros}
+use lib.ListN.{take}
+use Rattle.terms.specs.declared.Mode.{Mode}
+use Rattle.terms.specs.declared.Mode.the-variants.{Am9511A, Am9511}
+use Rattle.stack.specs.Stack.{zeros, popped}
 use Rattle.chip.specs.declared.State.{State}
 
 -- status bit 7
@@ -17,6 +20,15 @@ moved s stack = record { stack = stack; pending = not (s .pending); status = s .
 -- after a reset: stack all zero, nothing pending, status 0, service line low
 abbrev pub resetState : State
 resetState = record { stack = zeros 16; pending = false; status = 0; service = false }
+
+-- 02, ask 6: in the older mode "reset keeps all 16 bytes if no half word is pending. If one is, the top byte goes to the bottom and the bottom two bytes become zero"
+abbrev pub keptStack : Bool → List ℕ → List ℕ
+keptStack pending stack = cond pending (take 14 (popped stack) ++ zeros 2) stack
+
+-- after a reset of either part; "Pending, status and service line as in 01"
+abbrev pub afterReset : Mode → State → State
+afterReset Am9511A s = resetState
+afterReset Am9511 s = record { stack = keptStack (s .pending) (s .stack); pending = false; status = 0; service = false }
 
 -- after an acknowledge: the service line low
 abbrev pub acknowledged : State → State

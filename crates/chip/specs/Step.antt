@@ -8,12 +8,14 @@ use Rattle.codes.specs.declared.Command.{Command}
 use Rattle.codes.specs.declared.Kind.{Kind}
 use Rattle.codes.specs.declared.Kind.the-variants.{Known, Derived, Unknown}
 use Rattle.codes.specs.Codes.{sr, decoded}
+use Rattle.terms.specs.declared.Mode.{Mode}
 use Rattle.terms.specs.declared.Rule.{Rule}
+use Rattle.terms.specs.Settings.{Settings}
 use Rattle.chip.specs.declared.State.{State}
 use Rattle.chip.specs.declared.Answer.{Answer}
 use Rattle.chip.specs.declared.Event.{Event}
 use Rattle.chip.specs.declared.Event.the-variants.{Push, Pop, Command as CommandEvent, Status, Reset, Acknowledge}
-use Rattle.chip.specs.State.{busy, moved, resetState, acknowledged, settled}
+use Rattle.chip.specs.State.{busy, moved, afterReset, acknowledged, settled}
 use Rattle.chip.specs.Commands.{baseRule, outcomeOf, properOperands}
 
 -- 0, the byte read, and the state after
@@ -34,8 +36,8 @@ pushOf s byte = unlessBusy s (done 0 (moved s (pushed (s .stack) byte)))
 unfoldable pub popOf : State → Answer
 popOf s = unlessBusy s (done (topByte (s .stack)) (moved s (popped (s .stack))))
 
-unfoldable pub resetOf : State → Answer
-resetOf s = unlessBusy s (done 0 resetState)
+unfoldable pub resetOf : Mode → State → Answer
+resetOf mode s = unlessBusy s (done 0 (afterReset mode s))
 
 unfoldable pub acknowledgeOf : State → Answer
 acknowledgeOf s = unlessBusy s (done 0 (acknowledged s))
@@ -63,15 +65,18 @@ commandUnder rule s code = unlessBusy s (answerByKind rule s (sr code) (decoded 
 abbrev pub commandOf : State → ℕ → Answer
 commandOf s code = commandUnder baseRule s code
 
--- ---- an event of the bus, float results being formed under a rule
-abbrev pub answerTo : Rule → State → Event → Answer
-answerTo rule s (Push byte) = pushOf s byte
-answerTo rule s Pop = popOf s
-answerTo rule s (CommandEvent code) = commandUnder rule s code
-answerTo rule s Status = readOf s
-answerTo rule s Reset = resetOf s
-answerTo rule s Acknowledge = acknowledgeOf s
+-- ---- an event of the bus, a reset being of one part or the other and float results being formed under a rule
+abbrev pub answerTo : Settings → State → Event → Answer
+answerTo on s (Push byte) = pushOf s byte
+answerTo on s Pop = popOf s
+answerTo on s (CommandEvent code) = commandUnder (on .rule) s code
+answerTo on s Status = readOf s
+answerTo on s Reset = resetOf (on .mode) s
+answerTo on s Acknowledge = acknowledgeOf s
 
--- and under the one rule of the base
-abbrev pub eventOf : State → Event → Answer
-eventOf s e = answerTo baseRule s e
+-- a mode, and the one rule of the base
+abbrev pub under : Mode → Settings
+under mode = record { mode = mode; rule = baseRule }
+
+abbrev pub eventOf : Mode → State → Event → Answer
+eventOf mode s e = answerTo (under mode) s e

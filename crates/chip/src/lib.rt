@@ -7,6 +7,7 @@ pub mod status;
 pub mod words;
 
 use place::Flags;
+use terms::Mode;
 use terms::Refusal;
 ghost use mathlib.Core.Path.{_≡_};
 ghost use Rattle.chip.specs.Step.{refused, pushOf, popOf, resetOf, acknowledgeOf, readOf, commandOf, eventOf};
@@ -48,9 +49,9 @@ pub fn refuse(refusal: Refusal, state: State) -> Answer
 }
 
 impl State {
-    // One event; 13 where the state is busy.
-    pub fn event(self, event: Event) -> Answer
-        ensures { λ a. ⌜ a ≡ eventOf self event ⌝ }
+    // One event; 13 where the state is busy. The mode is that of a reset.
+    pub fn event(self, mode: Mode, event: Event) -> Answer
+        ensures { λ a. ⌜ a ≡ eventOf mode self event ⌝ }
     {
         let status = self.status;
         if 128 <= status {
@@ -62,7 +63,7 @@ impl State {
             status,
             service: self.service,
         };
-        let left = place::event(&mut stack, f, event);
+        let left = place::event(&mut stack, f, mode, event);
         let refusal = left.refusal;
         Answer {
             refusal,
@@ -80,41 +81,41 @@ impl State {
     pub fn push(self, byte: u8) -> Answer
         ensures { λ a. ⌜ a ≡ pushOf self byte ⌝ }
     {
-        self.event(Event::Push(byte))
+        self.event(Mode::Am9511A, Event::Push(byte))
     }
 
     // Pop byte: the top byte is handed out and goes to the bottom.
     pub fn pop(self) -> Answer
         ensures { λ a. ⌜ a ≡ popOf self ⌝ }
     {
-        self.event(Event::Pop)
+        self.event(Mode::Am9511A, Event::Pop)
     }
 
-    // Reset: stack all zero, nothing pending, status 0, service line low.
-    pub fn reset(self) -> Answer
-        ensures { λ a. ⌜ a ≡ resetOf self ⌝ }
+    // Reset: the stack all zero, or as the older part leaves it; nothing pending, status 0, service line low.
+    pub fn reset(self, mode: Mode) -> Answer
+        ensures { λ a. ⌜ a ≡ resetOf mode self ⌝ }
     {
-        self.event(Event::Reset)
+        self.event(mode, Event::Reset)
     }
 
     // Acknowledge: the service line goes low.
     pub fn acknowledge(self) -> Answer
         ensures { λ a. ⌜ a ≡ acknowledgeOf self ⌝ }
     {
-        self.event(Event::Acknowledge)
+        self.event(Mode::Am9511A, Event::Acknowledge)
     }
 
     // A status read.
     pub fn status(self) -> Answer
         ensures { λ a. ⌜ a ≡ readOf self ⌝ }
     {
-        self.event(Event::Status)
+        self.event(Mode::Am9511A, Event::Status)
     }
 
     // A command by its code: refusals in the order 13, 1, 2, 3, 4.
     pub fn command(self, code: u8) -> Answer
         ensures { λ a. ⌜ a ≡ commandOf self code ⌝ }
     {
-        self.event(Event::Command(code))
+        self.event(Mode::Am9511A, Event::Command(code))
     }
 }

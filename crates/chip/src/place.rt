@@ -6,16 +6,18 @@ use super::commands::perform;
 use codes::Command;
 use codes::Kind;
 use stack::shift;
+use terms::Mode;
 use terms::Refusal;
 use terms::number;
 ghost use mathlib.Core.Path.{_≡_};
+ghost use mathlib.Core.Bool.{false};
 ghost use mathlib.Core.List.{_++_};
 ghost use Prim.Native.Nat.{_*_, _≤_, _<_};
 ghost use lib.ListN.{length, drop};
 ghost use Rattle.terms.specs.Refusal.{numberOf};
 ghost use Rattle.stack.specs.Stack.{pushedAll, poppedAll, handedOut};
-ghost use Rattle.chip.specs.State.{resetState};
-ghost use Rattle.chip.specs.Step.{eventOf};
+ghost use Rattle.chip.specs.State.{keptStack, afterReset};
+ghost use Rattle.chip.specs.Step.{pushOf, popOf, resetOf, commandOf, eventOf};
 ghost use Rattle.chip.specs.Place.{held, flipped, Obeys, Commanded, refusalOf, obeyedAs, answerBy};
 
 // The state without its stack.
@@ -110,7 +112,7 @@ fn refusal_of(n: u16) -> Refusal
 
 fn push_one(stack: &mut [u8], f: Flags, byte: u8) -> Left
     requires { ⌜ (length (now stack) ≡ 16) × (f .status < 128) ⌝ }
-    ensures { λ r. ⌜ answerBy r (now (stack .exit)) ≡ eventOf (held (now (stack .entry)) (f .pending) (f .status) (f .service)) (Event.Push byte) ⌝ }
+    ensures { λ r. ⌜ answerBy r (now (stack .exit)) ≡ pushOf (held (now (stack .entry)) (f .pending) (f .status) (f .service)) byte ⌝ }
 {
     let bytes = [byte];
     let pending = push(stack, f.pending, &bytes);
@@ -125,7 +127,7 @@ fn push_one(stack: &mut [u8], f: Flags, byte: u8) -> Left
 
 fn pop_one(stack: &mut [u8], f: Flags) -> Left
     requires { ⌜ (length (now stack) ≡ 16) × (f .status < 128) ⌝ }
-    ensures { λ r. ⌜ answerBy r (now (stack .exit)) ≡ eventOf (held (now (stack .entry)) (f .pending) (f .status) (f .service)) Event.Pop ⌝ }
+    ensures { λ r. ⌜ answerBy r (now (stack .exit)) ≡ popOf (held (now (stack .entry)) (f .pending) (f .status) (f .service)) ⌝ }
 {
     let mut bytes = [0u8; 1];
     let pending = pop(stack, f.pending, 1, &mut bytes);
@@ -140,7 +142,7 @@ fn pop_one(stack: &mut [u8], f: Flags) -> Left
 
 fn obey(stack: &mut [u8], f: Flags, code: u8) -> Left
     requires { ⌜ (length (now stack) ≡ 16) × (f .status < 128) ⌝ }
-    ensures { λ r. ⌜ answerBy r (now (stack .exit)) ≡ eventOf (held (now (stack .entry)) (f .pending) (f .status) (f .service)) (Event.Command code) ⌝ }
+    ensures { λ r. ⌜ answerBy r (now (stack .exit)) ≡ commandOf (held (now (stack .entry)) (f .pending) (f .status) (f .service)) code ⌝ }
 {
     let answer = command(stack, f.pending, code);
     if answer < 256 {
@@ -161,12 +163,33 @@ fn obey(stack: &mut [u8], f: Flags, code: u8) -> Left
     }
 }
 
-// Reset: stack all zero, nothing pending, status 0, service line low.
-pub fn reset(stack: &mut [u8]) -> Flags
+// The older part's reset: all bytes stay, or with half a word pending it goes and the words below stand aligned.
+fn older(stack: &mut [u8], pending: bool)
     requires { ⌜ length (now stack) ≡ 16 ⌝ }
-    ensures { λ r. ⌜ held (now (stack .exit)) (r .pending) (r .status) (r .service) ≡ resetState ⌝ }
+    ensures { λ _. ⌜ now (stack .exit) ≡ keptStack pending (now (stack .entry)) ⌝ }
 {
-    shift::clear(stack);
+    if pending {
+        shift::realign(stack);
+    }
+}
+
+// What a reset leaves of the stack.
+fn settle(stack: &mut [u8], mode: Mode, pending: bool)
+    requires { ⌜ length (now stack) ≡ 16 ⌝ }
+    ensures { λ _. ⌜ now (stack .exit) ≡ afterReset mode (held (now (stack .entry)) pending 0 false) .stack ⌝ }
+{
+    match mode {
+        Mode::Am9511A => shift::clear(stack),
+        Mode::Am9511 => older(stack, pending),
+    }
+}
+
+// Reset: the stack all zero, or as the older part leaves it; nothing pending, status 0, service line low.
+pub fn reset(stack: &mut [u8], mode: Mode, pending: bool) -> Flags
+    requires { ⌜ length (now stack) ≡ 16 ⌝ }
+    ensures { λ r. ⌜ held (now (stack .exit)) (r .pending) (r .status) (r .service) ≡ afterReset mode (held (now (stack .entry)) pending 0 false) ⌝ }
+{
+    settle(stack, mode, pending);
     Flags {
         pending: false,
         status: 0,
@@ -174,11 +197,11 @@ pub fn reset(stack: &mut [u8]) -> Flags
     }
 }
 
-fn clear(stack: &mut [u8], f: Flags) -> Left
+fn clear(stack: &mut [u8], f: Flags, mode: Mode) -> Left
     requires { ⌜ (length (now stack) ≡ 16) × (f .status < 128) ⌝ }
-    ensures { λ r. ⌜ answerBy r (now (stack .exit)) ≡ eventOf (held (now (stack .entry)) (f .pending) (f .status) (f .service)) Event.Reset ⌝ }
+    ensures { λ r. ⌜ answerBy r (now (stack .exit)) ≡ resetOf mode (held (now (stack .entry)) (f .pending) (f .status) (f .service)) ⌝ }
 {
-    let after = reset(stack);
+    let after = reset(stack, mode, f.pending);
     Left {
         refusal: Refusal::Done,
         byte: 0,
@@ -189,9 +212,9 @@ fn clear(stack: &mut [u8], f: Flags) -> Left
 }
 
 // One event.
-pub fn event(stack: &mut [u8], f: Flags, event: Event) -> Left
+pub fn event(stack: &mut [u8], f: Flags, mode: Mode, event: Event) -> Left
     requires { ⌜ (length (now stack) ≡ 16) × (f .status < 128) ⌝ }
-    ensures { λ r. ⌜ answerBy r (now (stack .exit)) ≡ eventOf (held (now (stack .entry)) (f .pending) (f .status) (f .service)) event ⌝ }
+    ensures { λ r. ⌜ answerBy r (now (stack .exit)) ≡ eventOf mode (held (now (stack .entry)) (f .pending) (f .status) (f .service)) event ⌝ }
 {
     match event {
         Event::Push(byte) => push_one(stack, f, byte),
@@ -204,7 +227,7 @@ pub fn event(stack: &mut [u8], f: Flags, event: Event) -> Left
             status: f.status,
             service: f.service,
         },
-        Event::Reset => clear(stack, f),
+        Event::Reset => clear(stack, f, mode),
         Event::Acknowledge => Left {
             refusal: Refusal::Done,
             byte: 0,

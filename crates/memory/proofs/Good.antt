@@ -8,6 +8,7 @@ use native.Mathlib.Omega.{arith}
 use lib.Bits.{bitOr, or-lt, or-step, or-add-and, and-le-r}
 use lib.Dec.{eqb, ltb, lit≤}
 use borrow.Author.Tests.{le-ltb, ltb-false, ne-eqb, eqb-true, eqb-false, not-true, lt-leb}
+use Rattle.terms.specs.declared.Mode.the-variants.{Am9511A}
 use Rattle.terms.specs.declared.Refusal.the-variants.{Done}
 use Rattle.terms.specs.Refusal.{numberOf}
 use Rattle.chip.specs.declared.State.{State}
@@ -103,7 +104,7 @@ module _ (m : Memory) (code status : ℕ) where
 
 -- ---- every event
 -- of the chip
-chip-good : (s : State) (m : Memory) (e : ChipEvent) → GoodMemory m → GoodMemory (keptAfter m e (eventOf s e))
+chip-good : (s : State) (m : Memory) (e : ChipEvent) → GoodMemory m → GoodMemory (keptAfter m e (eventOf Am9511A s e))
 chip-good s m (Push b) h = h
 chip-good s m Pop h = h
 chip-good s m (Command code) h = by (accepted (commandOf s code)) refl
@@ -116,7 +117,7 @@ chip-good s m (Command code) h = by (accepted (commandOf s code)) refl
     }
     by false e = h
 chip-good s m Status h = h
-chip-good s m Reset h = by (accepted (eventOf s Reset))
+chip-good s m Reset h = by (accepted (eventOf Am9511A s Reset))
   where
     by : (x : Bool) → GoodMemory (cond x emptyMemory m)
     by true = empty-good
@@ -155,12 +156,12 @@ Sendable (Chip Acknowledge) = Unit
 Sendable Recall = Unit
 Sendable Forget = Unit
 
-chip-fair : (s : State) (e : ChipEvent) → Ready s → Sendable (Chip e) → Fair (eventOf s e)
+chip-fair : (s : State) (e : ChipEvent) → Ready s → Sendable (Chip e) → Fair (eventOf Am9511A s e)
 chip-fair s (Push b) r h = push-fair s r b h
 chip-fair s Pop r h = pop-fair s r
 chip-fair s (Command code) r h = command-fair s code r
 chip-fair s Status r h = read-fair s r
-chip-fair s Reset r h = reset-fair s r
+chip-fair s Reset r h = reset-fair s r Am9511A
 chip-fair s Acknowledge r h = acknowledge-fair s r
 
 pub event-fair : (c : Card) (e : Event) → ReadyCard c → Sendable e → FairCard (eventIn c e)

@@ -7,6 +7,7 @@ use native.Mathlib.Omega.{arith}
 use lib.Bits.{bitOr}
 use lib.Dec.{eqb}
 use borrow.Author.Tests.{ne-eqb, eqb-true, eqb-false}
+use Rattle.terms.specs.declared.Mode.the-variants.{Am9511A}
 use Rattle.terms.specs.declared.Refusal.{Refusal}
 use Rattle.terms.specs.declared.Refusal.the-variants.{Done, UnknownCode, DerivedCode, HalfWord, Improper, NoSuchKind, CutShort, BadLength, NoRoom, InputTooLong, NotFinite, TooLarge, TooSmall, BadState, BadReport, MinusZero}
 use Rattle.terms.specs.Refusal.{numberOf}
@@ -131,12 +132,12 @@ reset-agrees a m h g = by (accepted a)
     by true = starts emptyMemory
     by false = g
 
-chip-agrees : (s : State) (e : ChipEvent) (m : Memory) (h : History) → Agrees m h → Agrees (keptAfter m e (eventOf s e)) (chipTells e (eventOf s e) h)
+chip-agrees : (s : State) (e : ChipEvent) (m : Memory) (h : History) → Agrees m h → Agrees (keptAfter m e (eventOf Am9511A s e)) (chipTells e (eventOf Am9511A s e) h)
 chip-agrees s (Push b) m h g = g
 chip-agrees s Pop m h g = g
 chip-agrees s (Command code) m h g = command-agrees s code m h g
 chip-agrees s Status m h g = g
-chip-agrees s Reset m h g = reset-agrees (eventOf s Reset) m h g
+chip-agrees s Reset m h g = reset-agrees (eventOf Am9511A s Reset) m h g
 chip-agrees s Acknowledge m h g = g
 
 event-agrees : (c : Card) (e : Event) (h : History) → Agrees (c .memory) h → Agrees (eventIn c e .card .memory) (tells c e h)

@@ -5,6 +5,7 @@ use mathlib.Core.Bool.{Bool, true, false, cond}
 use mathlib.Core.List.{List, [], _∷_, map}
 use Prim.Native.Nat.{ℕ}
 use borrow.Author.Tests.{ne-eqb}
+use Rattle.terms.specs.declared.Mode.the-variants.{Am9511A}
 use Rattle.terms.specs.declared.Refusal.the-variants.{Done, BadState}
 use Rattle.terms.specs.Refusal.{numberOf}
 use Rattle.chip.specs.declared.State.{State}
@@ -12,7 +13,7 @@ use Rattle.chip.specs.declared.Event.{Event as ChipEvent}
 use Rattle.chip.specs.declared.Event.the-variants.{Push, Pop, Command, Status, Reset, Acknowledge}
 use Rattle.chip.specs.State.{busy}
 use Rattle.chip.specs.Commands.{baseRule}
-use Rattle.chip.specs.Step.{eventOf}
+use Rattle.chip.specs.Step.{under, eventOf}
 use Rattle.chip.specs.Events.{afterEvents}
 use Rattle.chip.proofs.Kept.{event-keeps}
 use Rattle.memory.specs.declared.Memory.{Memory}
@@ -31,7 +32,7 @@ either-way P c a p q = by (busy (c .chip))
 
 -- ---- the chip does not look at the memory
 -- events of the chip leave the chip that they leave without a memory
-pub chip-alone : (c : Card) (es : List ChipEvent) → afterAll c (map Chip es) .chip ≡ afterEvents baseRule (c .chip) es
+pub chip-alone : (c : Card) (es : List ChipEvent) → afterAll c (map Chip es) .chip ≡ afterEvents (under Am9511A) (c .chip) es
 chip-alone c [] = refl
 chip-alone c (e ∷ es) = chip-alone (eventIn c (Chip e) .card) es
 
@@ -86,9 +87,9 @@ Keeps c a = (numberOf (a .refusal) ≡ 0 → ⊥) → a ≡ record { refusal = a
 -- every event
 pub event-keeps-card : (c : Card) (e : Event) → Keeps c (eventIn c e)
 event-keeps-card c (Chip e) z =
-    let a = eventOf (c .chip) e in
+    let a = eventOf Am9511A (c .chip) e in
     ap (λ (m : Memory). around m a) (refused-memory (c .memory) e (numberOf (a .refusal)) (a .state .status) z)
-    ∙ ⊎-elim (λ d. absurd (z (ap numberOf d))) (λ k. ap (around (c .memory)) k) (event-keeps (c .chip) e)
+    ∙ ⊎-elim (λ d. absurd (z (ap numberOf d))) (λ k. ap (around (c .memory)) k) (event-keeps Am9511A (c .chip) e)
 event-keeps-card c Recall z = either-way (Keeps c) c (record { refusal = Done; byte = c .memory .bits; card = c }) (λ y. refl) (λ y. absurd (y refl)) z
 event-keeps-card c Forget z =
     either-way (Keeps c) c (record { refusal = Done; byte = 0; card = record { chip = c .chip; memory = emptyMemory } }) (λ y. refl) (λ y. absurd (y refl)) z

@@ -3,6 +3,7 @@ use mathlib.Core.Path.{_≡_, ap, _∙_}
 use mathlib.Core.List.{List}
 use Prim.Native.Nat.{ℕ, _<_}
 use borrow.Author.Tests.{lt-leb}
+use Rattle.terms.specs.declared.Mode.the-variants.{Am9511A}
 use Rattle.terms.specs.declared.Refusal.the-variants.{Done}
 use Rattle.terms.specs.Refusal.{numberOf}
 use Rattle.chip.specs.declared.Event.{Event as ChipEvent}
@@ -16,7 +17,7 @@ use Rattle.memory.specs.Memory.{keptBy, around, answerWith, eventIn}
 use Rattle.memory.specs.Held.{cardOf, cardAt}
 
 module _ (stack : List ℕ) (f : Rest) where
-  pub chip-placed : (e : ChipEvent) (l : ChipLeft) (after : List ℕ) {k : Memory} {n : ℕ} → answerBy l after ≡ eventOf (held stack (f .pending) (f .status) (f .service)) e
+  pub chip-placed : (e : ChipEvent) (l : ChipLeft) (after : List ℕ) {k : Memory} {n : ℕ} → answerBy l after ≡ eventOf Am9511A (held stack (f .pending) (f .status) (f .service)) e
       → k ≡ keptBy (record { bits = f .bits; code = f .code }) e n (l .status) → n ≡ numberOf (l .refusal) → around k (answerBy l after) ≡ eventIn (cardAt stack f) (Chip e)
   chip-placed e l after a ek en =
       ap (λ (m : Memory). around m (answerBy l after)) (ek ∙ ap (λ (j : ℕ). keptBy (record { bits = f .bits; code = f .code }) e j (l .status)) en)

@@ -3,6 +3,7 @@ use Prim.Native.Nat.{ℕ, _*_, _/_, _%_}
 use mathlib.Core.Bool.{Bool, false, cond, not}
 use lib.Bits.{bitOr}
 use lib.Dec.{eqb, ltb}
+use Rattle.terms.specs.declared.Mode.the-variants.{Am9511A}
 use Rattle.terms.specs.declared.Refusal.{Refusal}
 use Rattle.terms.specs.declared.Refusal.the-variants.{Done, BadState}
 use Rattle.terms.specs.Refusal.{numberOf}
@@ -79,6 +80,6 @@ abbrev pub unlessBusy : Card → CardAnswer → CardAnswer
 unlessBusy c answer = cond (busy (c .chip)) (record { refusal = BadState; byte = 0; card = c }) answer
 
 abbrev pub eventIn : Card → Event → CardAnswer
-eventIn c (Chip e) = answerWith (c .memory) e (eventOf (c .chip) e)
+eventIn c (Chip e) = answerWith (c .memory) e (eventOf Am9511A (c .chip) e)
 eventIn c Recall = unlessBusy c (record { refusal = Done; byte = c .memory .bits; card = c })
 eventIn c Forget = unlessBusy c (record { refusal = Done; byte = 0; card = cardWith (c .chip) emptyMemory })

@@ -5,6 +5,7 @@ use super::Memory;
 use super::empty;
 use super::remember;
 use chip::place::Flags;
+use terms::Mode;
 use terms::Refusal;
 use terms::number;
 ghost use mathlib.Core.Path.{_≡_};
@@ -82,7 +83,7 @@ fn chip_event(stack: &mut [u8], f: Rest, event: chip::Event) -> Left
         bits: f.bits,
         code: f.code,
     };
-    let left = chip::place::event(stack, flags, event);
+    let left = chip::place::event(stack, flags, Mode::Am9511A, event);
     let refusal = left.refusal;
     let after = kept(m, event, number(refusal), left.status);
     Left {

@@ -11,6 +11,7 @@ use lib.ListN.{take}
 use lib.Signed.{leZ-yes}
 use Rattle.terms.specs.declared.Width.the-variants.{Double}
 use Rattle.terms.specs.declared.Rule.{Rule}
+use Rattle.terms.specs.Settings.{Settings}
 use Rattle.float.specs.Word.{value, FloatWord}
 use Rattle.float.specs.Order.{Le, LeBy}
 use Rattle.float.specs.Float.{Result, add, sub, mul, div}
@@ -29,8 +30,8 @@ use Rattle.codes.proofs.Counts.{either-way}
 use Rattle.chip.specs.declared.State.{State}
 use Rattle.chip.specs.declared.Event.{Event}
 use Rattle.chip.specs.Status.{statusOf}
-use Rattle.chip.specs.Commands.{baseRule, floats}
-use Rattle.chip.specs.Step.{pushOf, carried, commandUnder}
+use Rattle.chip.specs.Commands.{floats}
+use Rattle.chip.specs.Step.{pushOf, carried, commandUnder, under}
 use Rattle.chip.specs.Events.{afterEvents, answered, quiet, pushesOf, Tops, Does}
 use Rattle.chip.proofs.Outcomes.{status-lt}
 use Rattle.chip.proofs.OnTop.{idle, floated, exchanged-words, sign-changed}
@@ -61,25 +62,25 @@ coded-is : (b : Bool) (code : ℕ) {k : Kind} → decoded (code % 128) ≡ k →
 coded-is true code e = either-way code ∙ e
 coded-is false code e = e
 
-module _ (rule : Rule) (bit : ℕ → Bool) where
+module _ (on : Settings) (bit : ℕ → Bool) where
   -- on a state that is written out
-  on-idle : (k : Step) (w : ℕ) (t : List ℕ) (u : ℕ) (v : Bool) → u < 128 → Constant k → FloatWord w → Does rule (idle (bytesOf 4 w ++ t) u v) (eventsOf bit k) (workOf rule k w)
-  on-idle (Add c) w t u v h C W = does-float rule FAdd (coded (bit 0) 0x10) c w t u v (coded-is (bit 0) 0x10 (codes .0)) h C W (work-result rule (Add c) w C W)
-  on-idle (Subtract c) w t u v h C W = does-float rule FSub (coded (bit 0) 0x11) c w t u v (coded-is (bit 0) 0x11 (codes .1)) h C W (work-result rule (Subtract c) w C W)
-  on-idle (Multiply c) w t u v h C W = does-float rule FMul (coded (bit 0) 0x12) c w t u v (coded-is (bit 0) 0x12 (codes .2)) h C W (work-result rule (Multiply c) w C W)
-  on-idle (Divide c) w t u v h C W = does-float rule FDiv (coded (bit 0) 0x13) c w t u v (coded-is (bit 0) 0x13 (codes .3)) h C W (work-result rule (Divide c) w C W)
+  on-idle : (k : Step) (w : ℕ) (t : List ℕ) (u : ℕ) (v : Bool) → u < 128 → Constant k → FloatWord w → Does on (idle (bytesOf 4 w ++ t) u v) (eventsOf bit k) (workOf (on .rule) k w)
+  on-idle (Add c) w t u v h C W = does-float on FAdd (coded (bit 0) 0x10) c w t u v (coded-is (bit 0) 0x10 (codes .0)) h C W (work-result (on .rule) (Add c) w C W)
+  on-idle (Subtract c) w t u v h C W = does-float on FSub (coded (bit 0) 0x11) c w t u v (coded-is (bit 0) 0x11 (codes .1)) h C W (work-result (on .rule) (Subtract c) w C W)
+  on-idle (Multiply c) w t u v h C W = does-float on FMul (coded (bit 0) 0x12) c w t u v (coded-is (bit 0) 0x12 (codes .2)) h C W (work-result (on .rule) (Multiply c) w C W)
+  on-idle (Divide c) w t u v h C W = does-float on FDiv (coded (bit 0) 0x13) c w t u v (coded-is (bit 0) 0x13 (codes .3)) h C W (work-result (on .rule) (Divide c) w C W)
   on-idle (TakeFrom c) w t u v h C W =
       let l = bytesOf 4 w ++ (bytesOf 4 c ++ underWord t) in
-      does-pushes rule c h
-      (does-then rule (exchanged-words rule (coded (bit 0) 0x19) w c (underWord t) u v (coded-is (bit 0) 0x19 (codes .5)) h)
-      (does-command rule (work-result rule (TakeFrom c) w C W)
-      (floated rule FSub (coded (bit 1) 0x11) c w (underWord t) (statusOf Double l 0 false) (sr (coded (bit 0) 0x19)) (coded-is (bit 1) 0x11 (codes .1)) (status-lt Double l 0 false (omega arith)) C W)))
-  on-idle Change w t u v h C W = does-command rule (work-result rule Change w C W) (sign-changed rule (coded (bit 0) 0x15) w t u v (coded-is (bit 0) 0x15 (codes .4)) h W)
+      does-pushes on c h
+      (does-then on (exchanged-words (on .rule) (coded (bit 0) 0x19) w c (underWord t) u v (coded-is (bit 0) 0x19 (codes .5)) h)
+      (does-command on (work-result (on .rule) (TakeFrom c) w C W)
+      (floated (on .rule) FSub (coded (bit 1) 0x11) c w (underWord t) (statusOf Double l 0 false) (sr (coded (bit 0) 0x19)) (coded-is (bit 1) 0x11 (codes .1)) (status-lt Double l 0 false (omega arith)) C W)))
+  on-idle Change w t u v h C W = does-command on (work-result (on .rule) Change w C W) (sign-changed (on .rule) (coded (bit 0) 0x15) w t u v (coded-is (bit 0) 0x15 (codes .4)) h W)
 
   -- on any state with a word on top
-  step-does : (k : Step) (w : ℕ) (s : State) → Constant k → FloatWord w → Tops w s → Does rule s (eventsOf bit k) (workOf rule k w)
+  step-does : (k : Step) (w : ℕ) (s : State) → Constant k → FloatWord w → Tops w s → Does on s (eventsOf bit k) (workOf (on .rule) k w)
   step-does k w s C W T =
-      subst (λ (x : State). Does rule x (eventsOf bit k) (workOf rule k w)) (sym (tops-idle T))
+      subst (λ (x : State). Does on x (eventsOf bit k) (workOf (on .rule) k w)) (sym (tops-idle T))
       (on-idle k w (T .rest) (s .status) (s .service) (at-rest-lt (T .at-rest)) C W)
 
 -- ---- chains
@@ -89,61 +90,61 @@ NoErrors rule w [] = Unit
 NoErrors rule w (k ∷ ks) = ((workOf rule k w) .error ≡ 0) × NoErrors rule ((workOf rule k w) .word) ks
 
 -- what the events of a chain do to a state that has the word on top
-record Chained (rule : Rule) (s : State) (es : List Event) (w : ℕ) (ks : List Step) : Type 0 where
-  all-answered : answered rule s es ≡ true
-  tops : Tops (wordAfter rule w ks) (afterEvents rule s es)
-  no-errors : quiet rule s es ≡ true → NoErrors rule w ks
+record Chained (on : Settings) (s : State) (es : List Event) (w : ℕ) (ks : List Step) : Type 0 where
+  all-answered : answered on s es ≡ true
+  tops : Tops (wordAfter (on .rule) w ks) (afterEvents on s es)
+  no-errors : quiet on s es ≡ true → NoErrors (on .rule) w ks
 
 -- n reversing steps keep the order of two words, or turn it round
 abbrev Ordered : ℕ → ℕ → ℕ → Type 0
 Ordered n v w = (n % 2 ≡ 0 → Le v w) × (n % 2 ≡ 1 → Le w v)
 
-module _ (rule : Rule) where
-  word-proper : (ks : List Step) (w : ℕ) → Constants ks → FloatWord w → FloatWord (wordAfter rule w ks)
+module _ (on : Settings) where
+  word-proper : (ks : List Step) (w : ℕ) → Constants ks → FloatWord w → FloatWord (wordAfter (on .rule) w ks)
   word-proper [] w C W = W
-  word-proper (k ∷ ks) w C W = word-proper ks ((workOf rule k w) .word) (C .1) (work-result rule k w (C .0) W .word)
+  word-proper (k ∷ ks) w C W = word-proper ks ((workOf (on .rule) k w) .word) (C .1) (work-result (on .rule) k w (C .0) W .word)
 
-  chained : (ks : List Step) (sr : ℕ → Bool) (w : ℕ) (s : State) → Constants ks → FloatWord w → Tops w s → Chained rule s (chainOf sr ks) w ks
+  chained : (ks : List Step) (sr : ℕ → Bool) (w : ℕ) (s : State) → Constants ks → FloatWord w → Tops w s → Chained on s (chainOf sr ks) w ks
   chained [] sr w s C W T = record { all-answered = refl; tops = T; no-errors = λ q. tt }
   chained (k ∷ ks) sr w s C W T =
-      let d = step-does rule sr k w s (C .0) W T in
+      let d = step-does on sr k w s (C .0) W T in
       let rest = chainOf (λ (n : ℕ). sr (commandsIn k + n)) ks in
-      let i = chained ks (λ (n : ℕ). sr (commandsIn k + n)) ((workOf rule k w) .word) (afterEvents rule s (eventsOf sr k)) (C .1) (work-result rule k w (C .0) W .word) (d .tops) in
+      let i = chained ks (λ (n : ℕ). sr (commandsIn k + n)) ((workOf (on .rule) k w) .word) (afterEvents on s (eventsOf sr k)) (C .1) (work-result (on .rule) k w (C .0) W .word) (d .tops) in
       record {
-        all-answered = answered-append rule s (eventsOf sr k) rest (d .all-answered) (i .all-answered);
-        tops = subst (λ (x : State). Tops (wordAfter rule w (k ∷ ks)) x) (sym (after-append rule s (eventsOf sr k) rest)) (i .tops);
-        no-errors = λ q. let p = quiet-append rule s (eventsOf sr k) rest q in (d .no-error (p .0), i .no-errors (p .1));
+        all-answered = answered-append on s (eventsOf sr k) rest (d .all-answered) (i .all-answered);
+        tops = subst (λ (x : State). Tops (wordAfter (on .rule) w (k ∷ ks)) x) (sym (after-append on s (eventsOf sr k) rest)) (i .tops);
+        no-errors = λ q. let p = quiet-append on s (eventsOf sr k) rest q in (d .no-error (p .0), i .no-errors (p .1));
       }
 
-  run : (x : Run) (ks : List Step) → Starts x → Constants ks → Chained rule (x .state) (eventsIn x ks) (x .word) ks
+  run : (x : Run) (ks : List Step) → Starts x → Constants ks → Chained on (x .state) (eventsIn x ks) (x .word) ks
   run x ks S C =
       let s = x .state in
       let w = x .word in
       let rest = chainOf (x .sr) ks in
-      let d = pushes-do rule s w (S .at-rest) in
-      let i = chained ks (x .sr) w (afterEvents rule s (pushesOf 4 w)) C (S .proper) (d .tops) in
+      let d = pushes-do on s w (S .at-rest) in
+      let i = chained ks (x .sr) w (afterEvents on s (pushesOf 4 w)) C (S .proper) (d .tops) in
       record {
-        all-answered = answered-append rule s (pushesOf 4 w) rest (d .all-answered) (i .all-answered);
-        tops = subst (λ (y : State). Tops (wordAfter rule w ks) y) (sym (after-append rule s (pushesOf 4 w) rest)) (i .tops);
-        no-errors = λ q. i .no-errors (quiet-append rule s (pushesOf 4 w) rest q .1);
+        all-answered = answered-append on s (pushesOf 4 w) rest (d .all-answered) (i .all-answered);
+        tops = subst (λ (y : State). Tops (wordAfter (on .rule) w ks) y) (sym (after-append on s (pushesOf 4 w) rest)) (i .tops);
+        no-errors = λ q. i .no-errors (quiet-append on s (pushesOf 4 w) rest q .1);
       }
 
   -- the result is the word that the chain makes
-  pub result-is : (x : Run) (ks : List Step) → Starts x → Constants ks → resultOf rule x ks ≡ wordAfter rule (x .word) ks
-  result-is x ks S C = ap (λ (l : List ℕ). tos 4 l) (run x ks S C .tops .stack-is) ∙ number-bytes 4 (wordAfter rule (x .word) ks) (word-proper ks (x .word) C (S .proper) .fits)
+  pub result-is : (x : Run) (ks : List Step) → Starts x → Constants ks → resultOf on x ks ≡ wordAfter (on .rule) (x .word) ks
+  result-is x ks S C = ap (λ (l : List ℕ). tos 4 l) (run x ks S C .tops .stack-is) ∙ number-bytes 4 (wordAfter (on .rule) (x .word) ks) (word-proper ks (x .word) C (S .proper) .fits)
 
   -- its bytes lie on top at the end
-  pub on-top : (x : Run) (ks : List Step) → Starts x → Constants ks → (below : List ℕ) → take 4 ((stateAtEnd rule x ks) .stack ++ below) ≡ bytesOf 4 (wordAfter rule (x .word) ks)
+  pub on-top : (x : Run) (ks : List Step) → Starts x → Constants ks → (below : List ℕ) → take 4 ((stateAtEnd on x ks) .stack ++ below) ≡ bytesOf 4 (wordAfter (on .rule) (x .word) ks)
   on-top x ks S C below = ap (λ (l : List ℕ). take 4 (l ++ below)) (run x ks S C .tops .stack-is)
 
   -- ---- the order
-  step-order : (k : Step) (v w : ℕ) → FloatWord v → FloatWord w → Le v w → (workOf rule k v) .error ≡ 0 → (workOf rule k w) .error ≡ 0
-      → LeBy (isReversing k) ((workOf rule k v) .word) ((workOf rule k w) .word)
-  step-order (Add c) v w A B l e f = add-keeps rule v w c l e f
-  step-order (Subtract c) v w A B l e f = sub-keeps rule v w c l e f
-  step-order (Multiply c) v w A B l e f = mul-order rule v w c l e f
-  step-order (Divide c) v w A B l e f = div-order rule v w c l e f
-  step-order (TakeFrom c) v w A B l e f = sub-turns rule c v w l e f
+  step-order : (k : Step) (v w : ℕ) → FloatWord v → FloatWord w → Le v w → (workOf (on .rule) k v) .error ≡ 0 → (workOf (on .rule) k w) .error ≡ 0
+      → LeBy (isReversing k) ((workOf (on .rule) k v) .word) ((workOf (on .rule) k w) .word)
+  step-order (Add c) v w A B l e f = add-keeps (on .rule) v w c l e f
+  step-order (Subtract c) v w A B l e f = sub-keeps (on .rule) v w c l e f
+  step-order (Multiply c) v w A B l e f = mul-order (on .rule) v w c l e f
+  step-order (Divide c) v w A B l e f = div-order (on .rule) v w c l e f
+  step-order (TakeFrom c) v w A B l e f = sub-turns (on .rule) c v w l e f
   step-order Change v w A B l e f = chsf-turns v w A B l
 
   -- one step that reverses or does not, and the rest of the chain
@@ -151,37 +152,37 @@ module _ (rule : Rule) where
   one-more true n v w x y h keep turn = (λ e. turn h .1 (omega arith), λ e. turn h .0 (omega arith))
   one-more false n v w x y h keep turn = (λ e. keep h .0 (omega arith), λ e. keep h .1 (omega arith))
 
-  word-order : (ks : List Step) (v w : ℕ) → Constants ks → FloatWord v → FloatWord w → Le v w → NoErrors rule v ks → NoErrors rule w ks → Ordered (reversing ks) (wordAfter rule v ks) (wordAfter rule w ks)
+  word-order : (ks : List Step) (v w : ℕ) → Constants ks → FloatWord v → FloatWord w → Le v w → NoErrors (on .rule) v ks → NoErrors (on .rule) w ks → Ordered (reversing ks) (wordAfter (on .rule) v ks) (wordAfter (on .rule) w ks)
   word-order [] v w C A B l e f = (λ z. l, λ z. absurd (omega arith))
   word-order (k ∷ ks) v w C A B l e f =
-      let v' = (workOf rule k v) .word in
-      let w' = (workOf rule k w) .word in
-      let A' = work-result rule k v (C .0) A .word in
-      let B' = work-result rule k w (C .0) B .word in
-      one-more (isReversing k) (reversing ks) v' w' (wordAfter rule v' ks) (wordAfter rule w' ks) (step-order k v w A B l (e .0) (f .0))
+      let v' = (workOf (on .rule) k v) .word in
+      let w' = (workOf (on .rule) k w) .word in
+      let A' = work-result (on .rule) k v (C .0) A .word in
+      let B' = work-result (on .rule) k w (C .0) B .word in
+      one-more (isReversing k) (reversing ks) v' w' (wordAfter (on .rule) v' ks) (wordAfter (on .rule) w' ks) (step-order k v w A B l (e .0) (f .0))
       (λ h. word-order ks v' w' (C .1) A' B' h (e .1) (f .1))
       (λ h. word-order ks w' v' (C .1) B' A' h (f .1) (e .1))
 
-  ordered : (x y : Run) (ks : List Step) → Starts x → Starts y → Constants ks → Quiet rule x ks → Quiet rule y ks → Le (x .word) (y .word) → Ordered (reversing ks) (resultOf rule x ks) (resultOf rule y ks)
+  ordered : (x y : Run) (ks : List Step) → Starts x → Starts y → Constants ks → Quiet on x ks → Quiet on y ks → Le (x .word) (y .word) → Ordered (reversing ks) (resultOf on x ks) (resultOf on y ks)
   ordered x y ks S T C q p l =
       subst₂ (λ (v w : ℕ). Ordered (reversing ks) v w) (sym (result-is x ks S C)) (sym (result-is y ks T C))
       (word-order ks (x .word) (y .word) C (S .proper) (T .proper) l (run x ks S C .no-errors q) (run y ks T C .no-errors p))
 
 -- ---- the statement
-pub chains : (rule : Rule) → Chains rule
-chains rule = record {
-  every-answered = λ x ks S C. run rule x ks S C .all-answered;
-  by-word-alone = λ x ks S C. result-is rule x ks S C;
-  equal-words = λ x y ks S T C e. result-is rule x ks S C ∙ ap (λ (w : ℕ). wordAfter rule w ks) e ∙ sym (result-is rule y ks T C);
-  no-steps = λ x S. result-is rule x [] S tt;
-  proper-result = λ x ks S C. subst (λ (w : ℕ). FloatWord w) (sym (result-is rule x ks S C)) (word-proper rule ks (x .word) C (S .proper));
-  ready-again = λ x ks S C. run rule x ks S C .tops .at-rest;
-  even-keeps = λ x y ks S T C q p l e. ordered rule x y ks S T C q p l .0 e;
-  odd-turns = λ x y ks S T C q p l e. ordered rule x y ks S T C q p l .1 e;
+pub chains : (on : Settings) → Chains on
+chains on = record {
+  every-answered = λ x ks S C. run on x ks S C .all-answered;
+  by-word-alone = λ x ks S C. result-is on x ks S C;
+  equal-words = λ x y ks S T C e. result-is on x ks S C ∙ ap (λ (w : ℕ). wordAfter (on .rule) w ks) e ∙ sym (result-is on y ks T C);
+  no-steps = λ x S. result-is on x [] S tt;
+  proper-result = λ x ks S C. subst (λ (w : ℕ). FloatWord w) (sym (result-is on x ks S C)) (word-proper on ks (x .word) C (S .proper));
+  ready-again = λ x ks S C. run on x ks S C .tops .at-rest;
+  even-keeps = λ x y ks S T C q p l e. ordered on x y ks S T C q p l .0 e;
+  odd-turns = λ x y ks S T C q p l e. ordered on x y ks S T C q p l .1 e;
 }
 
 pub demand-3 : Demand3
-demand-3 = chains baseRule
+demand-3 mode = chains (under mode)
 
 -- ---- the examples
 pub chain-examples : Examples

@@ -10,6 +10,7 @@ use native.Mathlib.Omega.{arith}
 use borrow.Author.Tests.{lt-leb, eq-eqb, eqb-true}
 use lib.Dec.{eqb, lit<}
 use lib.ListN.{length, take, getD}
+use Rattle.terms.specs.declared.Mode.the-variants.{Am9511A}
 use Rattle.terms.specs.declared.Refusal.{Refusal}
 use Rattle.terms.specs.declared.Refusal.the-variants.{BadState}
 use Rattle.terms.specs.Refusal.{numberOf}
@@ -24,7 +25,7 @@ use Rattle.chip.specs.declared.Event.the-variants.{Push, Pop, Command, Status, 
 use Rattle.chip.specs.State.{busy, moved}
 use Rattle.chip.specs.Status.{errorOf}
 use Rattle.chip.specs.Commands.{baseRule}
-use Rattle.chip.specs.Step.{done, refused, pushOf, commandOf, answerTo}
+use Rattle.chip.specs.Step.{done, refused, pushOf, commandOf, answerTo, under}
 use Rattle.chip.specs.Events.{afterEvents, answered, pushesOf, leavesClear, quiet}
 use Rattle.chip.proofs.Rows.{both-of}
 use Rattle.files.proofs.Tests.{either-eq}
@@ -230,11 +231,11 @@ push-byte s b = go (busy s)
 -- the chip's answers as the calls give them
 abbrev chipAnswers : State → List ChipEvent → List ℕ
 chipAnswers s [] = []
-chipAnswers s (e ∷ es) = joinedOf (numberOf ((answerTo baseRule s e) .refusal)) ((answerTo baseRule s e) .byte) ∷ chipAnswers ((answerTo baseRule s e) .state) es
+chipAnswers s (e ∷ es) = joinedOf (numberOf ((answerTo (under Am9511A) s e) .refusal)) ((answerTo (under Am9511A) s e) .byte) ∷ chipAnswers ((answerTo (under Am9511A) s e) .state) es
 
 card-answers : (k : Card) (es : List ChipEvent) → answersOf k (onBus es) ≡ chipAnswers (k .chip) es
 card-answers k [] = refl
-card-answers k (e ∷ es) = ap (λ (l : List ℕ). joinedOf (numberOf ((answerTo baseRule (k .chip) e) .refusal)) ((answerTo baseRule (k .chip) e) .byte) ∷ l) (card-answers ((eventIn k (Chip e)) .card) es)
+card-answers k (e ∷ es) = ap (λ (l : List ℕ). joinedOf (numberOf ((answerTo (under Am9511A) (k .chip) e) .refusal)) ((answerTo (under Am9511A) (k .chip) e) .byte) ∷ l) (card-answers ((eventIn k (Chip e)) .card) es)
 
 -- bytes pushed and commands alone: no event reads a byte
 abbrev ReadsNone : List ChipEvent → Type 0
@@ -252,14 +253,14 @@ one-zero r byte rest all z h a =
     ap₂ _&&_ (eq-eqb (256 * r + byte) 0 (omega arith)) a
 
 -- the first returns 0, and the rest
-more-zero : (s : State) (e : ChipEvent) (es : List ChipEvent) → (answerTo baseRule s e) .byte ≡ 0 → answered baseRule s (e ∷ es) ≡ true
-    → (answered baseRule ((answerTo baseRule s e) .state) es ≡ true → allZero (chipAnswers ((answerTo baseRule s e) .state) es) ≡ true) → allZero (chipAnswers s (e ∷ es)) ≡ true
+more-zero : (s : State) (e : ChipEvent) (es : List ChipEvent) → (answerTo (under Am9511A) s e) .byte ≡ 0 → answered (under Am9511A) s (e ∷ es) ≡ true
+    → (answered (under Am9511A) ((answerTo (under Am9511A) s e) .state) es ≡ true → allZero (chipAnswers ((answerTo (under Am9511A) s e) .state) es) ≡ true) → allZero (chipAnswers s (e ∷ es)) ≡ true
 more-zero s e es z h f =
-    let r = numberOf ((answerTo baseRule s e) .refusal) in
-    let t = (answerTo baseRule s e) .state in
-    one-zero r ((answerTo baseRule s e) .byte) (answered baseRule t es) (allZero (chipAnswers t es)) z h (f (both-of (eqb r 0) (answered baseRule t es) h .1))
+    let r = numberOf ((answerTo (under Am9511A) s e) .refusal) in
+    let t = (answerTo (under Am9511A) s e) .state in
+    one-zero r ((answerTo (under Am9511A) s e) .byte) (answered (under Am9511A) t es) (allZero (chipAnswers t es)) z h (f (both-of (eqb r 0) (answered (under Am9511A) t es) h .1))
 
-all-zero : (s : State) (es : List ChipEvent) → ReadsNone es → answered baseRule s es ≡ true → allZero (chipAnswers s es) ≡ true
+all-zero : (s : State) (es : List ChipEvent) → ReadsNone es → answered (under Am9511A) s es ≡ true → allZero (chipAnswers s es) ≡ true
 all-zero s [] n h = refl
 all-zero s (Push b ∷ es) n h = more-zero s (Push b) es (push-byte s b) h (λ g. all-zero ((pushOf s b) .state) es n g)
 all-zero s (Command k ∷ es) n h = more-zero s (Command k) es (command-byte s k) h (λ g. all-zero ((commandOf s k) .state) es n g)
@@ -290,7 +291,7 @@ chain-none sr [] = tt
 chain-none sr (k ∷ ks) = none-append (eventsOf sr k) (chainOf (λ (n : ℕ). sr (commandsIn k + n)) ks) (step-none sr k) (chain-none (λ (n : ℕ). sr (commandsIn k + n)) ks)
 
 -- ---- error bits
-clear-told : (n : ℕ) (k : Card) (e : ChipEvent) → ReadyCard k → byteOf (Chip e) < 256 → clearAfter (Chip e) (laidOut n ((eventIn k (Chip e)) .card)) ≡ leavesClear baseRule (k .chip) e
+clear-told : (n : ℕ) (k : Card) (e : ChipEvent) → ReadyCard k → byteOf (Chip e) < 256 → clearAfter (Chip e) (laidOut n ((eventIn k (Chip e)) .card)) ≡ leavesClear (under Am9511A) (k .chip) e
 clear-told n k (Command code) r h = ap (λ (u : ℕ). eqb (errorOf u) 0) (laid-at ((eventIn k (Chip (Command code))) .card) (leaves-good k (Chip (Command code)) r h .chip .stack .sixteen) n 1)
 clear-told n k (Push b) r h = refl
 clear-told n k Pop r h = refl
@@ -298,7 +299,7 @@ clear-told n k Status r h = refl
 clear-told n k Reset r h = refl
 clear-told n k Acknowledge r h = refl
 
-quietly : (c : Core) → Meets c → (n : ℕ) → (n ≡ 19) ⊎ (n ≡ 21) → (k : Card) → ReadyCard k → (es : List ChipEvent) → Sendable (onBus es) → drivenQuietly c (laidOut n k) (onBus es) ≡ quiet baseRule (k .chip) es
+quietly : (c : Core) → Meets c → (n : ℕ) → (n ≡ 19) ⊎ (n ≡ 21) → (k : Card) → ReadyCard k → (es : List ChipEvent) → Sendable (onBus es) → drivenQuietly c (laidOut n k) (onBus es) ≡ quiet (under Am9511A) (k .chip) es
 quietly c M n h k r [] S = refl
 quietly c M n h k r (e ∷ es) S =
     ap (λ (l : List ℕ). clearAfter (Chip e) l && drivenQuietly c l (onBus es)) (state-told c M n h k (Chip e) r (S .0))
@@ -340,35 +341,35 @@ module _ (c : Core) (M : Meets c) where
       (⊎-elim (λ a. ⊎-elim (λ b. absurd (let y : ⊥ = omega arith in y)) (λ b. subst (λ (m : ℕ). returned c (laidOut m k) es ≡ answersOf k es) (sym a) (numbers-short c M k r es S b)) o)
       (λ a. subst (λ (m : ℕ). returned c (laidOut m k) es ≡ answersOf k es) (sym a) (numbers-long c M k r es S)) (good-states state .0 g .size))
 
-  calls-quiet : (state : List ℕ) (es : List ChipEvent) → Bytes state → isState state ≡ true → Sendable (onBus es) → drivenQuietly c state (onBus es) ≡ true → quiet baseRule (stateOf state) es ≡ true
+  calls-quiet : (state : List ℕ) (es : List ChipEvent) → Bytes state → isState state ≡ true → Sendable (onBus es) → drivenQuietly c state (onBus es) ≡ true → quiet (under Am9511A) (stateOf state) es ≡ true
   calls-quiet state es B g S q =
-      sym (from-bytes (λ (l : List ℕ). drivenQuietly c l (onBus es) ≡ quiet baseRule (stateOf state) es) state g
+      sym (from-bytes (λ (l : List ℕ). drivenQuietly c l (onBus es) ≡ quiet (under Am9511A) (stateOf state) es) state g
       (quietly c M (length state) (good-states state .0 g .size) (cardIn state) (card-ready state B g) es S)) ∙ q
 
   module _ (state : List ℕ) (w : ℕ) (sr : ℕ → Bool) (ks : List Step) (B : Begins state w) (C : Constants ks) where
     answers : allZero (returned c state (busRun w sr ks)) ≡ true
     answers =
         ap allZero (calls-return state (busRun w sr ks) (B .bytes) (B .good) (sent w sr ks) (inr (bus-told (runEvents w sr ks))) ∙ card-answers (cardIn state) (runEvents w sr ks))
-        ∙ all-zero (stateOf state) (runEvents w sr ks) (none-append (pushesOf 4 w) (chainOf sr ks) tt (chain-none sr ks)) (demand-3 .every-answered (runFrom state w sr) ks (starts state w sr B) C)
+        ∙ all-zero (stateOf state) (runEvents w sr ks) (none-append (pushesOf 4 w) (chainOf sr ks) tt (chain-none sr ks)) (demand-3 Am9511A .every-answered (runFrom state w sr) ks (starts state w sr B) C)
 
     top-bytes : take 4 (driven c state (busRun w sr ks)) ≡ bytesOf 4 (wordAfter baseRule w ks)
     top-bytes =
         let k = afterAll (cardIn state) (busRun w sr ks) in
         ap (λ (l : List ℕ). take 4 l) (calls-states state (busRun w sr ks) (B .bytes) (B .good) (sent w sr ks) ∙ laid-is (length state) k)
         ∙ ap (λ (s : State). take 4 (s .stack ++ behind (length state) k)) (chip-alone (cardIn state) (runEvents w sr ks))
-        ∙ on-top baseRule (runFrom state w sr) ks (starts state w sr B) C _
+        ∙ on-top (under Am9511A) (runFrom state w sr) ks (starts state w sr B) C _
 
     top-word : wordLeft c state (busRun w sr ks) ≡ wordAfter baseRule w ks
     top-word =
-        let r = demand-3 .by-word-alone (runFrom state w sr) ks (starts state w sr B) C in
-        let p = subst (λ (x : ℕ). FloatWord x) r (demand-3 .proper-result (runFrom state w sr) ks (starts state w sr B) C) in
+        let r = demand-3 Am9511A .by-word-alone (runFrom state w sr) ks (starts state w sr B) C in
+        let p = subst (λ (x : ℕ). FloatWord x) r (demand-3 Am9511A .proper-result (runFrom state w sr) ks (starts state w sr B) C) in
         ap (λ (l : List ℕ). numberFrom 0 l) top-bytes ∙ number-bytes 4 (wordAfter baseRule w ks) (p .fits)
 
     -- what the statement's result is at the calls
-    result-told : resultOf baseRule (runFrom state w sr) ks ≡ wordLeft c state (busRun w sr ks)
-    result-told = demand-3 .by-word-alone (runFrom state w sr) ks (starts state w sr B) C ∙ sym top-word
+    result-told : resultOf (under Am9511A) (runFrom state w sr) ks ≡ wordLeft c state (busRun w sr ks)
+    result-told = demand-3 Am9511A .by-word-alone (runFrom state w sr) ks (starts state w sr B) C ∙ sym top-word
 
-    quiet-told : drivenQuietly c state (busRun w sr ks) ≡ true → Quiet baseRule (runFrom state w sr) ks
+    quiet-told : drivenQuietly c state (busRun w sr ks) ≡ true → Quiet (under Am9511A) (runFrom state w sr) ks
     quiet-told q = calls-quiet state (runEvents w sr ks) (B .bytes) (B .good) (sent w sr ks) q
 
 -- ---- the statement
@@ -381,8 +382,8 @@ cores c M = record {
   chain-word = λ state w sr ks B C. top-word c M state w sr ks B C;
   chain-even = λ state state' v w sr sr' ks B B' C q q' l e.
       subst₂ Le (result-told c M state v sr ks B C) (result-told c M state' w sr' ks B' C)
-      (demand-3 .even-keeps (runFrom state v sr) (runFrom state' w sr') ks (starts state v sr B) (starts state' w sr' B') C (quiet-told c M state v sr ks B C q) (quiet-told c M state' w sr' ks B' C q') l e);
+      (demand-3 Am9511A .even-keeps (runFrom state v sr) (runFrom state' w sr') ks (starts state v sr B) (starts state' w sr' B') C (quiet-told c M state v sr ks B C q) (quiet-told c M state' w sr' ks B' C q') l e);
   chain-odd = λ state state' v w sr sr' ks B B' C q q' l e.
       subst₂ Le (result-told c M state' w sr' ks B' C) (result-told c M state v sr ks B C)
-      (demand-3 .odd-turns (runFrom state v sr) (runFrom state' w sr') ks (starts state v sr B) (starts state' w sr' B') C (quiet-told c M state v sr ks B C q) (quiet-told c M state' w sr' ks B' C q') l e);
+      (demand-3 Am9511A .odd-turns (runFrom state v sr) (runFrom state' w sr') ks (starts state v sr B) (starts state' w sr' B') C (quiet-told c M state v sr ks B C q) (quiet-told c M state' w sr' ks B' C q') l e);
 }

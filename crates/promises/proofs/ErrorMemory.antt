@@ -10,6 +10,7 @@ use borrow.Author.Tests.{lt-leb, lt-ltb, le-ltb, eq-eqb, ne-eqb}
 use lib.Dec.{eqb, ltb, lit<}
 use lib.ListN.{length, take, drop, getD, replicate, length-append, List·getD-append}
 use lib.Seq.{take-at, drop-append-seam, take-append-le, getD-append-add}
+use Rattle.terms.specs.declared.Mode.the-variants.{Am9511A}
 use Rattle.terms.specs.declared.Refusal.{Refusal}
 use Rattle.terms.specs.declared.Refusal.the-variants.{Done, InputTooLong, BadState}
 use Rattle.terms.specs.Refusal.{numberOf}
@@ -66,8 +67,8 @@ noted-told k r (Chip (Command code)) h =
     ap (λ (x : Bool). cond x (told h code (a .state .status)) h) (below (numberOf (a .refusal)) (a .byte) (command-byte (k .chip) code))
 noted-told k r (Chip Status) h = refl
 noted-told k r (Chip Reset) h =
-    let a = eventOf (k .chip) Reset in
-    let g = bus-events .reset-leaves (k .chip .stack) (k .chip .pending) (k .chip .status) (k .chip .service) (r .chip .ready) in
+    let a = eventOf Am9511A (k .chip) Reset in
+    let g = bus-events Am9511A .reset-leaves refl (k .chip .stack) (k .chip .pending) (k .chip .status) (k .chip .service) (r .chip .ready) in
     ap (λ (x : Bool). cond x (from emptyMemory) h) (below (numberOf (a .refusal)) (a .byte) (g .byte-read))
 noted-told k r (Chip Acknowledge) h = refl
 noted-told k r Recall h = refl

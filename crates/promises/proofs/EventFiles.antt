@@ -9,6 +9,7 @@ use native.Mathlib.Omega.{arith}
 use borrow.Author.Tests.{lt-leb, eqb-true}
 use lib.Dec.{eqb, lit<, lit≤}
 use lib.ListN.{length, take, drop, getD, length-append}
+use Rattle.terms.specs.declared.Mode.the-variants.{Am9511A}
 use Rattle.terms.specs.Refusal.{numberOf}
 use Rattle.float.specs.Order.{Le}
 use Rattle.stack.specs.Stack.{Bytes, tos}
@@ -66,7 +67,7 @@ module _ (s : State) (m : Memory) (G : ReadyCard (cardWith s m)) (room : ℕ) wh
 
   pushes : (b : ℕ) → 5 ≤ room → Alike (cardWith s m) (Chip (Push b)) room
   pushes b h =
-      let z = refusals .push-done s b calm in
+      let z = refusals Am9511A .push-done s b calm in
       let y = push-byte s b in
       push-record s m (b ∷ []) room calm (omega arith) (omega arith) h
       ∙ ap (λ (n : ℕ). took (cardWith ((pushOf s b) .state) m) 5 (3 ∷ 0 ∷ 129 ∷ 0 ∷ n ∷ [])) (sym (refusal-in (numberOf ((pushOf s b) .refusal)) ((pushOf s b) .byte) (omega arith) ∙ z))
@@ -81,14 +82,14 @@ module _ (s : State) (m : Memory) (G : ReadyCard (cardWith s m)) (room : ℕ) wh
   pops h =
       let a = popOf s in
       let e = pop-done s (G .chip .ready) in
-      let z : numberOf (a .refusal) ≡ 0 = refusals .pop-done s calm in
+      let z : numberOf (a .refusal) ≡ 0 = refusals Am9511A .pop-done s calm in
       let y : a .byte < 256 = subst (λ (n : ℕ). n < 256) (sym (ap (λ (x : Answer). x .byte) e)) (byte-at (s .stack) (G .chip .stack .bytes) 0) in
       pop-record s m 1 room calm (omega arith) (omega arith) h
       ∙ ap₂ (λ (n b : ℕ). took (cardWith (a .state) m) 5 (4 ∷ 0 ∷ 130 ∷ 0 ∷ n ∷ b ∷ [])) (sym (refusal-in (numberOf (a .refusal)) (a .byte) y ∙ z)) (sym (byte-in (numberOf (a .refusal)) (a .byte) y))
 
   reads : 6 ≤ room → Alike (cardWith s m) (Chip Status) room
   reads h =
-      let r = refusals .read-done s calm in
+      let r = refusals Am9511A .read-done s calm in
       let low = G .chip .ready in
       let y : (readOf s) .byte < 256 = subst (λ (n : ℕ). n < 256) (sym (r .1)) (omega arith) in
       status-record s m room calm h
@@ -98,16 +99,16 @@ module _ (s : State) (m : Memory) (G : ReadyCard (cardWith s m)) (room : ℕ) wh
 
   resets : 5 ≤ room → Alike (cardWith s m) (Chip Reset) room
   resets h =
-      let g = bus-events .reset-leaves (s .stack) (s .pending) (s .status) (s .service) (G .chip .ready) in
+      let g = bus-events Am9511A .reset-leaves refl (s .stack) (s .pending) (s .status) (s .service) (G .chip .ready) in
       let y = g .byte-read in
-      let e : eventIn (cardWith s m) (Chip Reset) .card ≡ cardWith ((resetOf s) .state) emptyMemory = rw (g .number) in
+      let e : eventIn (cardWith s m) (Chip Reset) .card ≡ cardWith ((resetOf Am9511A s) .state) emptyMemory = rw (g .number) in
       reset-record s m room calm h
       ∙ ap (λ (t : State). took (cardWith t emptyMemory) 4 (3 ∷ 0 ∷ 133 ∷ 0 ∷ 0 ∷ [])) (sym (g .state))
-      ∙ ap₂ (λ (k : Card) (n : ℕ). took k 4 (3 ∷ 0 ∷ 133 ∷ 0 ∷ n ∷ [])) (sym e) (sym (refusal-in (numberOf ((resetOf s) .refusal)) ((resetOf s) .byte) (omega arith) ∙ g .number))
+      ∙ ap₂ (λ (k : Card) (n : ℕ). took k 4 (3 ∷ 0 ∷ 133 ∷ 0 ∷ n ∷ [])) (sym e) (sym (refusal-in (numberOf ((resetOf Am9511A s) .refusal)) ((resetOf Am9511A s) .byte) (omega arith) ∙ g .number))
 
   acknowledges : 5 ≤ room → Alike (cardWith s m) (Chip Acknowledge) room
   acknowledges h =
-      let g = bus-events .acknowledge-leaves (s .stack) (s .pending) (s .status) (s .service) (G .chip .ready) in
+      let g = bus-events Am9511A .acknowledge-leaves (s .stack) (s .pending) (s .status) (s .service) (G .chip .ready) in
       let y = g .byte-read in
       acknowledge-record s m room calm h
       ∙ ap (λ (t : State). took (cardWith t m) 4 (3 ∷ 0 ∷ 134 ∷ 0 ∷ 0 ∷ [])) (sym (g .state))

@@ -8,14 +8,17 @@ use native.Mathlib.Omega.{arith}
 use borrow.Author.Tests.{lt-leb, le-leb, eqb-true, eqb-false}
 use lib.Dec.{eqb}
 use lib.ListN.{length, take, getD}
+use lib.Seq.{take-append-le}
+use Rattle.terms.specs.declared.Mode.{Mode}
+use Rattle.terms.specs.declared.Mode.the-variants.{Am9511A, Am9511}
 use Rattle.terms.specs.declared.Rule.{Rule}
-use Rattle.stack.specs.Stack.{IsStack}
+use Rattle.terms.specs.Settings.{Settings}
+use Rattle.stack.specs.Stack.{IsStack, zeros}
 use Rattle.chip.specs.declared.State.{State}
 use Rattle.chip.specs.declared.Answer.{Answer}
 use Rattle.chip.specs.declared.Event.{Event}
 use Rattle.chip.specs.declared.Event.the-variants.{Push, Pop, Command, Status, Reset, Acknowledge}
-use Rattle.chip.specs.Commands.{baseRule}
-use Rattle.chip.specs.Step.{pushOf, popOf, readOf, resetOf, acknowledgeOf, commandUnder, answerTo}
+use Rattle.chip.specs.Step.{pushOf, popOf, readOf, resetOf, acknowledgeOf, commandUnder, answerTo, under}
 use Rattle.chip.specs.Events.{afterEvents}
 use Rattle.chip.proofs.Kept.{command-keeps}
 use Rattle.chip.proofs.Accepted.{leaves}
@@ -42,7 +45,7 @@ module _ (l : List ℕ) (p : Bool) (u : ℕ) (v : Bool) (h : u < 128) where
   unfolding popOf
   pops b = rw (lt-leb 128 u h) (record { number = refl; byte-read = refl; state = refl })
 
-  resets : Answers (resetOf (stateWith l p u v)) 0 0 (0 ∷ 0 ∷ 0 ∷ 0 ∷ 0 ∷ 0 ∷ 0 ∷ 0 ∷ 0 ∷ 0 ∷ 0 ∷ 0 ∷ 0 ∷ 0 ∷ 0 ∷ 0 ∷ []) false 0 false
+  resets : Answers (resetOf Am9511A (stateWith l p u v)) 0 0 (0 ∷ 0 ∷ 0 ∷ 0 ∷ 0 ∷ 0 ∷ 0 ∷ 0 ∷ 0 ∷ 0 ∷ 0 ∷ 0 ∷ 0 ∷ 0 ∷ 0 ∷ 0 ∷ []) false 0 false
   unfolding resetOf
   resets = rw (lt-leb 128 u h) (record { number = refl; byte-read = refl; state = refl })
 
@@ -53,6 +56,22 @@ module _ (l : List ℕ) (p : Bool) (u : ℕ) (v : Bool) (h : u < 128) where
   reads : Answers (readOf (stateWith l p u v)) 0 u l p u v
   unfolding readOf
   reads = rw (lt-leb 128 u h) (record { number = refl; byte-read = refl; state = refl })
+
+-- of the older part
+older-keeps : (l : List ℕ) (u : ℕ) (v : Bool) → u < 128 → Answers (resetOf Am9511 (stateWith l false u v)) 0 0 l false 0 false
+unfolding resetOf
+older-keeps l u v h = rw (lt-leb 128 u h) (record { number = refl; byte-read = refl; state = refl })
+
+older-realigns : (b : ℕ) (l : List ℕ) (u : ℕ) (v : Bool) → length l ≡ 15 → u < 128 → Answers (resetOf Am9511 (stateWith (b ∷ l) true u v)) 0 0 (take 14 l ++ (0 ∷ 0 ∷ [])) false 0 false
+unfolding resetOf
+older-realigns b l u v n h =
+    rw (lt-leb 128 u h) (record { number = refl; byte-read = refl; state = ap (λ (k : List ℕ). stateWith (k ++ (0 ∷ 0 ∷ [])) false 0 false) (take-append-le 14 l (b ∷ []) (omega arith)) })
+
+-- a reset of either part leaves nothing pending
+unpending : (mode : Mode) (s : State) → s .status < 128 → (resetOf mode s) .state .pending ≡ false
+unfolding resetOf
+unpending Am9511A s h = rw (lt-leb 128 (s .status) h)
+unpending Am9511 s h = rw (lt-leb 128 (s .status) h)
 
 -- ---- parity
 -- a flag turned is set where the next number is odd
@@ -79,8 +98,8 @@ command-good : (rule : Rule) (s : State) (code : ℕ) → Ready s → Ready ((co
 command-good rule s code r =
     ⊎-elim (λ d. let l = leaves rule s code (r .stack) d in record { stack = l .stack; ready = l .not-busy }) (λ e. subst (λ (a : Answer). Ready (a .state)) (sym e) r) (command-keeps rule s code)
 
-module _ (rule : Rule) where
-  parity : (es : List Event) (s : State) (n : ℕ) → Ready s → Sendable (onBus es) → Odd (s .pending) n → Odd ((afterEvents rule s es) .pending) (movedSince n es)
+module _ (on : Settings) where
+  parity : (es : List Event) (s : State) (n : ℕ) → Ready s → Sendable (onBus es) → Odd (s .pending) n → Odd ((afterEvents on s es) .pending) (movedSince n es)
   parity [] s n r S o = o
   parity (Push b ∷ es) s n r S o =
       let a = pushes (s .stack) (s .pending) (s .status) (s .service) (r .ready) b in
@@ -89,37 +108,38 @@ module _ (rule : Rule) where
       parity es ((popOf s) .state) (suc n) (pop-fair s r .left) (S .1)
       (subst (λ (p : Bool). Odd p (suc n)) (sym (ap (λ (a : Answer). a .state .pending) (pop-done s (r .ready)))) (turned (s .pending) n o))
   parity (Command code ∷ es) s n r S o =
-      parity es ((commandUnder rule s code) .state) n (command-good rule s code r) (S .1) (subst (λ (p : Bool). Odd p n) (sym (command-flag rule s code (r .stack))) o)
+      parity es ((commandUnder (on .rule) s code) .state) n (command-good (on .rule) s code r) (S .1) (subst (λ (p : Bool). Odd p n) (sym (command-flag (on .rule) s code (r .stack))) o)
   parity (Status ∷ es) s n r S o =
       let a = reads (s .stack) (s .pending) (s .status) (s .service) (r .ready) in
       parity es ((readOf s) .state) n (read-fair s r .left) (S .1) (subst (λ (p : Bool). Odd p n) (sym (flag-of a)) o)
   parity (Reset ∷ es) s n r S o =
-      let a = resets (s .stack) (s .pending) (s .status) (s .service) (r .ready) in
-      parity es ((resetOf s) .state) 0 (reset-fair s r .left) (S .1) (subst (λ (p : Bool). Odd p 0) (sym (flag-of a)) none)
+      parity es ((resetOf (on .mode) s) .state) 0 (reset-fair s r (on .mode) .left) (S .1) (subst (λ (p : Bool). Odd p 0) (sym (unpending (on .mode) s (r .ready))) none)
   parity (Acknowledge ∷ es) s n r S o =
       let a = acknowledges (s .stack) (s .pending) (s .status) (s .service) (r .ready) in
       parity es ((acknowledgeOf s) .state) n (acknowledge-fair s r .left) (S .1) (subst (λ (p : Bool). Odd p n) (sym (flag-of a)) o)
 
 -- a busy state
-busies : (rule : Rule) (e : Event) (l : List ℕ) (p : Bool) (u : ℕ) (v : Bool) → 128 ≤ u → Answers (answerTo rule (stateWith l p u v) e) 13 0 l p u v
-busies rule e l p u v h =
-    let t = numbers rule .busy-state (stateWith l p u v) e (le-leb 128 u h) in
+busies : (on : Settings) (e : Event) (l : List ℕ) (p : Bool) (u : ℕ) (v : Bool) → 128 ≤ u → Answers (answerTo on (stateWith l p u v) e) 13 0 l p u v
+busies on e l p u v h =
+    let t = numbers on .busy-state (stateWith l p u v) e (le-leb 128 u h) in
     record { number = t .number; byte-read = t .byte; state = t .state }
 
 -- ---- the statement
-pub bus : (rule : Rule) → Bus rule
-bus rule = record {
+pub bus : (on : Settings) → Bus on
+bus on = record {
   push-leaves = λ b l p u v h. pushes l p u v h b;
   pop-leaves = λ b l p u v h. pops l p u v h b;
-  reset-leaves = λ l p u v h. resets l p u v h;
+  reset-leaves = λ m l p u v h. subst (λ (x : Mode). Answers (resetOf x (stateWith l p u v)) 0 0 (zeros 16) false 0 false) (sym m) (resets l p u v h);
+  older-reset-keeps = λ m l u v h. subst (λ (x : Mode). Answers (resetOf x (stateWith l false u v)) 0 0 l false 0 false) (sym m) (older-keeps l u v h);
+  older-reset-realigns = λ m b l u v n h. subst (λ (x : Mode). Answers (resetOf x (stateWith (b ∷ l) true u v)) 0 0 (take 14 l ++ (0 ∷ 0 ∷ [])) false 0 false) (sym m) (older-realigns b l u v n h);
   acknowledge-leaves = λ l p u v h. acknowledges l p u v h;
   read-leaves = λ l p u v h. reads l p u v h;
-  busy-answers = λ e l p u v h. busies rule e l p u v h;
-  half-pending = λ s n es S h sent o. parity rule es s n (record { stack = S; ready = h }) sent o;
+  busy-answers = λ e l p u v h. busies on e l p u v h;
+  half-pending = λ s n es S h sent o. parity on es s n (record { stack = S; ready = h }) sent o;
 }
 
 pub bus-events : BusEvents
-bus-events = bus baseRule
+bus-events mode = bus (under mode)
 
 -- byte 16 of a state's bytes is the flag
 flag-odd : (x : ℕ) → x ≤ 1 → Odd (eqb x 1) x
@@ -137,8 +157,8 @@ pub pending-byte : PendingByte
 pending-byte c M state es B g S =
     let r = card-ready state B g in
     let k = afterAll (cardIn state) (onBus es) in
-    let o = parity baseRule es (stateOf state) (getD state 16 0) (r .chip) S (flag-odd (getD state 16 0) (good-states state .0 g .pending)) in
+    let o = parity (under Am9511A) es (stateOf state) (getD state 16 0) (r .chip) S (flag-odd (getD state 16 0) (good-states state .0 g .pending)) in
     ap (λ (l : List ℕ). getD l 16 0) (cores c M .states state (onBus es) B g S)
     ∙ laid-at k (all-good (onBus es) (cardIn state) r S .chip .stack .sixteen) (length state) 0
     ∙ ap (λ (s : State). flagOf (s .pending)) (chip-alone (cardIn state) es)
-    ∙ odd-flag ((afterEvents baseRule (stateOf state) es) .pending) (movedSince (getD state 16 0) es) o
+    ∙ odd-flag ((afterEvents (under Am9511A) (stateOf state) es) .pending) (movedSince (getD state 16 0) es) o

@@ -9,6 +9,7 @@ use borrow.Author.Tests.{lt-leb, eq-eqb, ne-eqb, eqb-true, eqb-false}
 use lib.Dec.{eqb, leb, lit≤}
 use lib.ListN.{length, take, getD, length-append}
 use lib.Seq.{take-at, getD-append-add}
+use Rattle.terms.specs.declared.Mode.the-variants.{Am9511A}
 use Rattle.stack.specs.Stack.{zeros}
 use Rattle.chip.specs.declared.State.{State}
 use Rattle.chip.specs.declared.Event.the-variants.{Reset}
@@ -161,7 +162,7 @@ module _ (l : List ℕ) (p u v : ℕ) (t : List ℕ) (P : Parts l p u v t) where
   unfolding readOf
   statuses = rw ready
 
-  resets : resetOf (stood l p u v) ≡ done 0 (record { stack = zeros 16; pending = false; status = 0; service = false })
+  resets : resetOf Am9511A (stood l p u v) ≡ done 0 (record { stack = zeros 16; pending = false; status = 0; service = false })
   unfolding resetOf
   resets = rw ready
 

@@ -12,7 +12,7 @@ use Rattle.terms.specs.declared.Refusal.the-variants.{Done, HalfWord}
 use Rattle.terms.specs.declared.Width.{Width}
 use Rattle.terms.specs.declared.Width.the-variants.{Single, Double}
 use Rattle.terms.specs.Width.{sizeOf}
-use Rattle.terms.specs.declared.Rule.{Rule}
+use Rattle.terms.specs.Settings.{Settings}
 use Rattle.stack.specs.Stack.{numberFrom, bytesOf, Bytes, pushed, popped}
 use Rattle.stack.proofs.Words.{bytes-take, bytes-drop, number-below}
 use Rattle.codes.specs.declared.Command.{Command}
@@ -22,8 +22,7 @@ use Rattle.chip.specs.declared.State.{State}
 use Rattle.chip.specs.declared.Answer.{Answer}
 use Rattle.chip.specs.declared.Event.{Event}
 use Rattle.chip.specs.State.{busy, moved}
-use Rattle.chip.specs.Commands.{baseRule}
-use Rattle.chip.specs.Step.{refused, carried, commandUnder}
+use Rattle.chip.specs.Step.{refused, carried, commandUnder, under}
 use Rattle.chip.specs.Events.{afterEvents}
 use Rattle.chip.proofs.Accepted.{accepted}
 use Rattle.chip.proofs.InTurn.{push-done, pop-done, word-pushed, word-popped, result-popped}
@@ -35,43 +34,43 @@ once true true = refl
 once true false = refl
 once false q = refl
 
-module _ (rule : Rule) where
+module _ (on : Settings) where
   -- each byte pushed or popped turns pending
-  turns : {es : List Event} {n : ℕ} (m : Moves es n) (s : State) → s .status < 128 → (afterEvents rule s es) .pending ≡ cond (odd n) (not (s .pending)) (s .pending)
+  turns : {es : List Event} {n : ℕ} (m : Moves es n) (s : State) → s .status < 128 → (afterEvents on s es) .pending ≡ cond (odd n) (not (s .pending)) (s .pending)
   turns none s h = refl
   turns (pushing {es = es} {n = n} b m) s h =
-      ap (λ (a : Answer). (afterEvents rule (a .state) es) .pending) (push-done s b h) ∙ turns m (moved s (pushed (s .stack) b)) h ∙ once (odd n) (s .pending)
+      ap (λ (a : Answer). (afterEvents on (a .state) es) .pending) (push-done s b h) ∙ turns m (moved s (pushed (s .stack) b)) h ∙ once (odd n) (s .pending)
   turns (popping {es = es} {n = n} m) s h =
-      ap (λ (a : Answer). (afterEvents rule (a .state) es) .pending) (pop-done s h) ∙ turns m (moved s (popped (s .stack))) h ∙ once (odd n) (s .pending)
+      ap (λ (a : Answer). (afterEvents on (a .state) es) .pending) (pop-done s h) ∙ turns m (moved s (popped (s .stack))) h ∙ once (odd n) (s .pending)
 
   plain : (o p : Bool) → p ≡ false → cond o (not p) p ≡ o
   plain true p e = ap not e
   plain false p e = e
 
-  refuses : (s : State) (code : ℕ) (k : Command) → decoded (code % 128) ≡ Known k → busy s ≡ false → s .pending ≡ true → commandUnder rule s code ≡ refused HalfWord s
+  refuses : (s : State) (code : ℕ) (k : Command) → decoded (code % 128) ≡ Known k → busy s ≡ false → s .pending ≡ true → commandUnder (on .rule) s code ≡ refused HalfWord s
   unfolding commandUnder carried
   refuses s code k e b p = rw (b, e, p)
 
-  found-nothing : (s : State) (code : ℕ) → (commandUnder rule s code) .refusal ≡ Done → (s .pending ≡ false) × ((commandUnder rule s code) .state .pending ≡ false)
-  found-nothing s code d = let a = accepted rule s code d in (a .whole, ap (λ (x : Answer). x .state .pending) (a .answer) ∙ a .whole)
+  found-nothing : (s : State) (code : ℕ) → (commandUnder (on .rule) s code) .refusal ≡ Done → (s .pending ≡ false) × ((commandUnder (on .rule) s code) .state .pending ≡ false)
+  found-nothing s code d = let a = accepted (on .rule) s code d in (a .whole, ap (λ (x : Answer). x .state .pending) (a .answer) ∙ a .whole)
 
 -- ---- the statement
-pub whole : (rule : Rule) → Whole rule
-whole rule = record {
+pub whole : (on : Settings) → Whole on
+whole on = record {
   push-answer = λ s byte b. push-done s byte (leb-false 128 (s .status) b);
   pop-answer = λ s b. pop-done s (leb-false 128 (s .status) b);
-  parity = λ s es n m b p. turns rule m s (leb-false 128 (s .status) b) ∙ plain rule (odd n) (s .pending) p;
+  parity = λ s es n m b p. turns on m s (leb-false 128 (s .status) b) ∙ plain on (odd n) (s .pending) p;
   lies-on-top = λ w s x b p.
       word-pushed w x s (leb-false 128 (s .status) b)
       ∙ ap (λ (q : Bool). record { stack = bytesOf (sizeOf w) x ++ take (16 - sizeOf w) (s .stack); pending = q; status = s .status; service = s .service }) p;
   handed-back = λ w s x b. word-popped w x s (leb-false 128 (s .status) b);
-  after-command = λ s code k S e d. result-popped rule s code k S e d;
-  nothing-pending = λ s code d. found-nothing rule s code d;
-  half-refused = λ s code k e b p. refuses rule s code k e b p;
+  after-command = λ s code k S e d. result-popped (on .rule) s code k S e d;
+  nothing-pending = λ s code d. found-nothing on s code d;
+  half-refused = λ s code k e b p. refuses on s code k e b p;
 }
 
 pub whole-words : WholeWords
-whole-words = whole baseRule
+whole-words mode = whole (under mode)
 
 -- ---- every 16 bytes are words
 -- bytes are those of the number that they stand for, after the bytes of the number before them

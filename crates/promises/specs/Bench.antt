@@ -3,6 +3,7 @@
 use Prim.Native.Nat.{ℕ, _+_, _-_}
 use mathlib.Core.Path.{_≡_}
 use mathlib.Core.List.{List, [], _∷_, _++_, map}
+use Rattle.terms.specs.declared.Mode.the-variants.{Am9511A}
 use Rattle.terms.specs.declared.Width.{Width}
 use Rattle.terms.specs.declared.Width.the-variants.{Single, Double}
 use Rattle.terms.specs.Width.{sizeOf}
@@ -12,8 +13,7 @@ use Rattle.chip.specs.declared.Answer.{Answer}
 use Rattle.chip.specs.declared.Event.{Event}
 use Rattle.chip.specs.declared.Event.the-variants.{Push, Command}
 use Rattle.chip.specs.State.{resetState}
-use Rattle.chip.specs.Commands.{baseRule}
-use Rattle.chip.specs.Step.{commandOf}
+use Rattle.chip.specs.Step.{commandOf, under}
 use Rattle.chip.specs.Events.{afterEvents, pushesOf}
 
 -- the events from reset, the code that follows them, and what it must give: the refusal, the whole stack, the status
@@ -110,7 +110,7 @@ abbrev pub rows : List BenchRow
 rows = benchValues ++ (fixedConflicts ++ (floatDecisions ++ otherDecisions))
 
 abbrev pub rowAnswer : BenchRow → Answer
-rowAnswer x = commandOf (afterEvents baseRule resetState (x .events)) (x .code)
+rowAnswer x = commandOf (afterEvents (under Am9511A) resetState (x .events)) (x .code)
 
 -- what the chip gives, and what the row says
 abbrev pub shown : BenchRow → List ℕ

@@ -4,19 +4,22 @@ use mathlib.Core.Path.{_≡_}
 use mathlib.Core.Bool.{Bool, true, false, cond}
 use mathlib.Core.List.{List, [], _∷_, _++_}
 use lib.ListN.{replicate}
+use Rattle.terms.specs.declared.Mode.{Mode}
+use Rattle.terms.specs.declared.Mode.the-variants.{Am9511A}
 use Rattle.float.specs.declared.Flagged.{Flagged}
 use Rattle.float.specs.Word.{negative, FloatWord}
 use Rattle.float.specs.Order.{Le}
 use Rattle.terms.specs.declared.Rule.{Rule}
+use Rattle.terms.specs.Settings.{Settings}
 use Rattle.float.specs.Float.{add, sub, mul, div}
 use Rattle.float.specs.Convert.{chsf}
 use Rattle.stack.specs.Stack.{tos}
+use Rattle.chip.specs.Step.{under}
 use Rattle.chip.specs.declared.State.{State}
 use Rattle.chip.specs.declared.Event.{Event}
 use Rattle.chip.specs.declared.Event.the-variants.{Command}
 use Rattle.chip.specs.State.{resetState}
 use Rattle.chip.specs.Status.{errorOf}
-use Rattle.chip.specs.Commands.{baseRule}
 use Rattle.chip.specs.Events.{afterEvents, answered, quiet, pushesOf, AtRest}
 
 -- ---- chains
@@ -119,40 +122,40 @@ abbrev pub eventsIn : Run → List Step → List Event
 eventsIn x ks = runEvents (x .word) (x .sr) ks
 
 -- the state at the end
-abbrev pub stateAtEnd : Rule → Run → List Step → State
-stateAtEnd rule x ks = afterEvents rule (x .state) (eventsIn x ks)
+abbrev pub stateAtEnd : Settings → Run → List Step → State
+stateAtEnd on x ks = afterEvents on (x .state) (eventsIn x ks)
 
 -- the result: the TOS at the end
-abbrev pub resultOf : Rule → Run → List Step → ℕ
-resultOf rule x ks = tos 4 ((stateAtEnd rule x ks) .stack)
+abbrev pub resultOf : Settings → Run → List Step → ℕ
+resultOf on x ks = tos 4 ((stateAtEnd on x ks) .stack)
 
 -- no command of the run sets an error bit; bits that stood in the start status do not count
-abbrev pub Quiet : Rule → Run → List Step → Type 0
-Quiet rule x ks = quiet rule (x .state) (eventsIn x ks) ≡ true
+abbrev pub Quiet : Settings → Run → List Step → Type 0
+Quiet on x ks = quiet on (x .state) (eventsIn x ks) ≡ true
 
--- ---- the statement, over the rule for float results. Chains are of any length, and a multiplier or a divisor may even be zero
-pub record Chains (rule : Rule) : Type 0 where
+-- ---- the statement, over the mode and the rule for float results. Chains are of any length, and a multiplier or a divisor may even be zero
+pub record Chains (on : Settings) : Type 0 where
   -- every event is answered 0, error bits or not
-  pub every-answered : (x : Run) (ks : List Step) → Starts x → Constants ks → answered rule (x .state) (eventsIn x ks) ≡ true
+  pub every-answered : (x : Run) (ks : List Step) → Starts x → Constants ks → answered on (x .state) (eventsIn x ks) ≡ true
   -- the result is demand 2's word of the word and the chain alone: no stack, status, service line or sr bit enters
-  pub by-word-alone : (x : Run) (ks : List Step) → Starts x → Constants ks → resultOf rule x ks ≡ wordAfter rule (x .word) ks
+  pub by-word-alone : (x : Run) (ks : List Step) → Starts x → Constants ks → resultOf on x ks ≡ wordAfter (on .rule) (x .word) ks
   -- equal words give equal words
-  pub equal-words : (x y : Run) (ks : List Step) → Starts x → Starts y → Constants ks → x .word ≡ y .word → resultOf rule x ks ≡ resultOf rule y ks
+  pub equal-words : (x y : Run) (ks : List Step) → Starts x → Starts y → Constants ks → x .word ≡ y .word → resultOf on x ks ≡ resultOf on y ks
   -- a chain of no steps gives the word itself
-  pub no-steps : (x : Run) → Starts x → resultOf rule x [] ≡ x .word
+  pub no-steps : (x : Run) → Starts x → resultOf on x [] ≡ x .word
   -- the result is a proper word, and the state is one from which a run may start
-  pub proper-result : (x : Run) (ks : List Step) → Starts x → Constants ks → FloatWord (resultOf rule x ks)
-  pub ready-again : (x : Run) (ks : List Step) → Starts x → Constants ks → AtRest (stateAtEnd rule x ks)
+  pub proper-result : (x : Run) (ks : List Step) → Starts x → Constants ks → FloatWord (resultOf on x ks)
+  pub ready-again : (x : Run) (ks : List Step) → Starts x → Constants ks → AtRest (stateAtEnd on x ks)
   -- an even number of reversing steps keeps the order of the two values
-  pub even-keeps : (x y : Run) (ks : List Step) → Starts x → Starts y → Constants ks → Quiet rule x ks → Quiet rule y ks → Le (x .word) (y .word)
-      → reversing ks % 2 ≡ 0 → Le (resultOf rule x ks) (resultOf rule y ks)
+  pub even-keeps : (x y : Run) (ks : List Step) → Starts x → Starts y → Constants ks → Quiet on x ks → Quiet on y ks → Le (x .word) (y .word)
+      → reversing ks % 2 ≡ 0 → Le (resultOf on x ks) (resultOf on y ks)
   -- an odd number turns it round
-  pub odd-turns : (x y : Run) (ks : List Step) → Starts x → Starts y → Constants ks → Quiet rule x ks → Quiet rule y ks → Le (x .word) (y .word)
-      → reversing ks % 2 ≡ 1 → Le (resultOf rule y ks) (resultOf rule x ks)
+  pub odd-turns : (x y : Run) (ks : List Step) → Starts x → Starts y → Constants ks → Quiet on x ks → Quiet on y ks → Le (x .word) (y .word)
+      → reversing ks % 2 ≡ 1 → Le (resultOf on y ks) (resultOf on x ks)
 
 -- demand 3: of the chip as it stands
 abbrev pub Demand3 : Type 0
-Demand3 = Chains baseRule
+Demand3 = (mode : Mode) → Chains (under mode)
 
 -- ---- examples: the premise of the order can be met, and without it order can break
 -- from reset, sr clear; and from a full stack with every error bit and the carry standing in the status, the service line high, sr set
@@ -180,15 +183,15 @@ tooFarAndOn = Multiply 0x3fffffff ∷ Add 0x00000000 ∷ []
 pub record Examples : Type 0 where
   -- two runs that meet every premise, on 1 and 2, give -1 and -3: turned round once
   pub starts : Starts (fromReset 0x01800000) × Starts (fromFull 0x02800000) × Constants turned × Le 0x01800000 0x02800000
-  pub quiet-runs : Quiet baseRule (fromReset 0x01800000) turned × Quiet baseRule (fromFull 0x02800000) turned
-  pub results : (resultOf baseRule (fromReset 0x01800000) turned ≡ 0x81800000) × (resultOf baseRule (fromFull 0x02800000) turned ≡ 0x82c00000)
+  pub quiet-runs : Quiet (under Am9511A) (fromReset 0x01800000) turned × Quiet (under Am9511A) (fromFull 0x02800000) turned
+  pub results : (resultOf (under Am9511A) (fromReset 0x01800000) turned ≡ 0x81800000) × (resultOf (under Am9511A) (fromFull 0x02800000) turned ≡ 0x82c00000)
   pub turned-round : (reversing turned ≡ 1) × (Le 0x81800000 0x82c00000 → ⊥)
   -- a chain of every kind of step, on 1 and 2, gives -4.5 and -5.5
-  pub every-kind : Constants everyKind × Quiet baseRule (fromReset 0x01800000) everyKind × Quiet baseRule (fromFull 0x02800000) everyKind × (reversing everyKind ≡ 3)
-  pub every-kind-results : (resultOf baseRule (fromReset 0x01800000) everyKind ≡ 0x83900000) × (resultOf baseRule (fromFull 0x02800000) everyKind ≡ 0x83b00000)
+  pub every-kind : Constants everyKind × Quiet (under Am9511A) (fromReset 0x01800000) everyKind × Quiet (under Am9511A) (fromFull 0x02800000) everyKind × (reversing everyKind ≡ 3)
+  pub every-kind-results : (resultOf (under Am9511A) (fromReset 0x01800000) everyKind ≡ 0x83900000) × (resultOf (under Am9511A) (fromFull 0x02800000) everyKind ≡ 0x83b00000)
   -- without the premise: no step reverses, the second run overflows, and the order of the values is broken
-  pub overflows : (reversing tooFar ≡ 0) × Quiet baseRule (fromReset 0x01800000) tooFar × (quiet baseRule resetState (eventsIn (fromReset 0x3fffffff) tooFar) ≡ false)
-  pub broken : (resultOf baseRule (fromReset 0x01800000) tooFar ≡ 0x3fffffff) × (resultOf baseRule (fromReset 0x3fffffff) tooFar ≡ 0x7efffffe)
+  pub overflows : (reversing tooFar ≡ 0) × Quiet (under Am9511A) (fromReset 0x01800000) tooFar × (quiet (under Am9511A) resetState (eventsIn (fromReset 0x3fffffff) tooFar) ≡ false)
+  pub broken : (resultOf (under Am9511A) (fromReset 0x01800000) tooFar ≡ 0x3fffffff) × (resultOf (under Am9511A) (fromReset 0x3fffffff) tooFar ≡ 0x7efffffe)
   pub crossed : Le 0x01800000 0x3fffffff × (Le 0x3fffffff 0x7efffffe → ⊥)
   -- a look at the last status alone would miss it
-  pub last-is-clear : (errorOf ((stateAtEnd baseRule (fromReset 0x3fffffff) tooFarAndOn) .status) ≡ 0) × (resultOf baseRule (fromReset 0x3fffffff) tooFarAndOn ≡ 0x7efffffe)
+  pub last-is-clear : (errorOf ((stateAtEnd (under Am9511A) (fromReset 0x3fffffff) tooFarAndOn) .status) ≡ 0) × (resultOf (under Am9511A) (fromReset 0x3fffffff) tooFarAndOn ≡ 0x7efffffe)

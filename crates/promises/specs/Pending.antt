@@ -4,16 +4,17 @@ use Prim.Native.Nat.{ℕ, suc, _%_, _≤_, _<_}
 use mathlib.Core.Path.{_≡_}
 use mathlib.Core.Bool.{Bool, true, false, not}
 use mathlib.Core.List.{List, [], _∷_, _++_}
-use lib.ListN.{take, getD}
+use lib.ListN.{length, take, getD}
+use Rattle.terms.specs.declared.Mode.the-variants.{Am9511A, Am9511}
+use Rattle.terms.specs.declared.Mode.{Mode}
 use Rattle.terms.specs.Refusal.{numberOf}
-use Rattle.terms.specs.declared.Rule.{Rule}
+use Rattle.terms.specs.Settings.{Settings}
 use Rattle.stack.specs.Stack.{Bytes, IsStack}
 use Rattle.chip.specs.declared.State.{State}
 use Rattle.chip.specs.declared.Answer.{Answer}
 use Rattle.chip.specs.declared.Event.{Event}
 use Rattle.chip.specs.declared.Event.the-variants.{Push, Pop, Command, Status, Reset, Acknowledge}
-use Rattle.chip.specs.Commands.{baseRule}
-use Rattle.chip.specs.Step.{answerTo}
+use Rattle.chip.specs.Step.{answerTo, under}
 use Rattle.chip.specs.Events.{afterEvents}
 use Rattle.stored.specs.Bytes.{isState}
 use Rattle.promises.specs.Cores.{Core, Meets, Sendable, onBus, driven}
@@ -44,27 +45,32 @@ pub record Odd (flag : Bool) (n : ℕ) : Type 0 where
   pub clear : n % 2 ≡ 0 → flag ≡ false
 
 -- ---- the statement, of every state that 13 does not turn away
-pub record Bus (rule : Rule) : Type 0 where
+pub record Bus (on : Settings) : Type 0 where
   -- push: the byte becomes the top, the bottom byte is lost, pending turns; status and service line stay
   pub push-leaves : (b : ℕ) (l : List ℕ) (p : Bool) (u : ℕ) (v : Bool) → u < 128
-      → Answers (answerTo rule (stateWith l p u v) (Push b)) 0 0 (b ∷ take 15 l) (not p) u v
+      → Answers (answerTo on (stateWith l p u v) (Push b)) 0 0 (b ∷ take 15 l) (not p) u v
   -- pop: the top byte is handed out and goes to the bottom, pending turns
   pub pop-leaves : (b : ℕ) (l : List ℕ) (p : Bool) (u : ℕ) (v : Bool) → u < 128
-      → Answers (answerTo rule (stateWith (b ∷ l) p u v) Pop) 0 b (l ++ (b ∷ [])) (not p) u v
+      → Answers (answerTo on (stateWith (b ∷ l) p u v) Pop) 0 b (l ++ (b ∷ [])) (not p) u v
   -- reset: stack all zero, nothing pending, status 0, service line low
-  pub reset-leaves : (l : List ℕ) (p : Bool) (u : ℕ) (v : Bool) → u < 128
-      → Answers (answerTo rule (stateWith l p u v) Reset) 0 0 (0 ∷ 0 ∷ 0 ∷ 0 ∷ 0 ∷ 0 ∷ 0 ∷ 0 ∷ 0 ∷ 0 ∷ 0 ∷ 0 ∷ 0 ∷ 0 ∷ 0 ∷ 0 ∷ []) false 0 false
+  pub reset-leaves : on .mode ≡ Am9511A → (l : List ℕ) (p : Bool) (u : ℕ) (v : Bool) → u < 128
+      → Answers (answerTo on (stateWith l p u v) Reset) 0 0 (0 ∷ 0 ∷ 0 ∷ 0 ∷ 0 ∷ 0 ∷ 0 ∷ 0 ∷ 0 ∷ 0 ∷ 0 ∷ 0 ∷ 0 ∷ 0 ∷ 0 ∷ 0 ∷ []) false 0 false
+  -- of the older part: all bytes stay, or with half a word pending the top byte goes and the bottom two become zero
+  pub older-reset-keeps : on .mode ≡ Am9511 → (l : List ℕ) (u : ℕ) (v : Bool) → u < 128
+      → Answers (answerTo on (stateWith l false u v) Reset) 0 0 l false 0 false
+  pub older-reset-realigns : on .mode ≡ Am9511 → (b : ℕ) (l : List ℕ) (u : ℕ) (v : Bool) → length l ≡ 15 → u < 128
+      → Answers (answerTo on (stateWith (b ∷ l) true u v) Reset) 0 0 (take 14 l ++ (0 ∷ 0 ∷ [])) false 0 false
   -- acknowledge: the service line goes low, and nothing else changes
   pub acknowledge-leaves : (l : List ℕ) (p : Bool) (u : ℕ) (v : Bool) → u < 128
-      → Answers (answerTo rule (stateWith l p u v) Acknowledge) 0 0 l p u false
+      → Answers (answerTo on (stateWith l p u v) Acknowledge) 0 0 l p u false
   -- a status read hands out the status, and nothing changes
   pub read-leaves : (l : List ℕ) (p : Bool) (u : ℕ) (v : Bool) → u < 128
-      → Answers (answerTo rule (stateWith l p u v) Status) 0 u l p u v
+      → Answers (answerTo on (stateWith l p u v) Status) 0 u l p u v
   -- every event of a state whose busy bit is set: 13, no byte, and the state as it came
-  pub busy-answers : (e : Event) (l : List ℕ) (p : Bool) (u : ℕ) (v : Bool) → 128 ≤ u → Answers (answerTo rule (stateWith l p u v) e) 13 0 l p u v
+  pub busy-answers : (e : Event) (l : List ℕ) (p : Bool) (u : ℕ) (v : Bool) → 128 ≤ u → Answers (answerTo on (stateWith l p u v) e) 13 0 l p u v
   -- a half word is pending when pushes plus pops since reset are odd in number: over any events, refused ones among them, from a state reached by n
   pub half-pending : (s : State) (n : ℕ) (es : List Event) → IsStack (s .stack) → s .status < 128 → Sendable (onBus es) → Odd (s .pending) n
-      → Odd ((afterEvents rule s es) .pending) (movedSince n es)
+      → Odd ((afterEvents on s es) .pending) (movedSince n es)
 
 -- the same of the event call of any core that meets the promises: byte 16 of the state is that number modulo 2
 abbrev pub PendingByte : Type 0
@@ -74,4 +80,4 @@ PendingByte =
 
 -- of the chip as it stands
 abbrev pub BusEvents : Type 0
-BusEvents = Bus baseRule
+BusEvents = (mode : Mode) → Bus (under mode)

@@ -3,8 +3,9 @@
 use Prim.Native.Nat.{ℕ, _%_}
 use mathlib.Core.Path.{_≡_}
 use mathlib.Core.Bool.{true, false}
+use Rattle.terms.specs.declared.Mode.{Mode}
 use Rattle.terms.specs.Refusal.{numberOf}
-use Rattle.terms.specs.declared.Rule.{Rule}
+use Rattle.terms.specs.Settings.{Settings}
 use Rattle.codes.specs.declared.Command.{Command}
 use Rattle.codes.specs.declared.Kind.the-variants.{Known, Derived, Unknown}
 use Rattle.codes.specs.Codes.{decoded}
@@ -13,8 +14,8 @@ use Rattle.chip.specs.declared.Answer.{Answer}
 use Rattle.chip.specs.declared.Event.{Event}
 use Rattle.chip.specs.declared.Event.the-variants.{Push, Pop, Status, Reset, Acknowledge}
 use Rattle.chip.specs.State.{busy}
-use Rattle.chip.specs.Commands.{baseRule, properOperands}
-use Rattle.chip.specs.Step.{commandUnder, answerTo}
+use Rattle.chip.specs.Commands.{properOperands}
+use Rattle.chip.specs.Step.{commandUnder, answerTo, under}
 
 -- an answer with 01's number n, no byte read, and the very state
 pub record TurnedAway (s : State) (a : Answer) (n : ℕ) : Type 0 where
@@ -22,26 +23,26 @@ pub record TurnedAway (s : State) (a : Answer) (n : ℕ) : Type 0 where
   pub byte : a .byte ≡ 0
   pub state : a .state ≡ s
 
-pub record Numbers (rule : Rule) : Type 0 where
+pub record Numbers (on : Settings) : Type 0 where
   -- a busy state: 13 for every event, whatever it is
-  pub busy-state : (s : State) (e : Event) → busy s ≡ true → TurnedAway s (answerTo rule s e) 13
+  pub busy-state : (s : State) (e : Event) → busy s ≡ true → TurnedAway s (answerTo on s e) 13
   -- an unknown code 1 and a derived function 2, with a half word pending or not
-  pub unknown : (s : State) (code : ℕ) → busy s ≡ false → decoded (code % 128) ≡ Unknown → TurnedAway s (commandUnder rule s code) 1
-  pub derived : (s : State) (code : ℕ) → busy s ≡ false → decoded (code % 128) ≡ Derived → TurnedAway s (commandUnder rule s code) 2
+  pub unknown : (s : State) (code : ℕ) → busy s ≡ false → decoded (code % 128) ≡ Unknown → TurnedAway s (commandUnder (on .rule) s code) 1
+  pub derived : (s : State) (code : ℕ) → busy s ≡ false → decoded (code % 128) ≡ Derived → TurnedAway s (commandUnder (on .rule) s code) 2
   -- a known command with a half word pending 3, with proper operands or not
-  pub half-word : (s : State) (code : ℕ) (k : Command) → busy s ≡ false → decoded (code % 128) ≡ Known k → s .pending ≡ true → TurnedAway s (commandUnder rule s code) 3
+  pub half-word : (s : State) (code : ℕ) (k : Command) → busy s ≡ false → decoded (code % 128) ≡ Known k → s .pending ≡ true → TurnedAway s (commandUnder (on .rule) s code) 3
   -- else 4 where an operand is not proper
   pub improper : (s : State) (code : ℕ) (k : Command) → busy s ≡ false → decoded (code % 128) ≡ Known k → s .pending ≡ false → properOperands k (s .stack) ≡ false
-      → TurnedAway s (commandUnder rule s code) 4
+      → TurnedAway s (commandUnder (on .rule) s code) 4
   -- and else 0; every other event of a state that is not busy is answered 0
   pub command-done : (s : State) (code : ℕ) (k : Command) → busy s ≡ false → decoded (code % 128) ≡ Known k → s .pending ≡ false → properOperands k (s .stack) ≡ true
-      → numberOf ((commandUnder rule s code) .refusal) ≡ 0
-  pub push-done : (s : State) (byte : ℕ) → busy s ≡ false → numberOf ((answerTo rule s (Push byte)) .refusal) ≡ 0
-  pub pop-done : (s : State) → busy s ≡ false → numberOf ((answerTo rule s Pop) .refusal) ≡ 0
-  pub read-done : (s : State) → busy s ≡ false → (numberOf ((answerTo rule s Status) .refusal) ≡ 0) × ((answerTo rule s Status) .byte ≡ s .status) × ((answerTo rule s Status) .state ≡ s)
-  pub reset-done : (s : State) → busy s ≡ false → numberOf ((answerTo rule s Reset) .refusal) ≡ 0
-  pub acknowledge-done : (s : State) → busy s ≡ false → numberOf ((answerTo rule s Acknowledge) .refusal) ≡ 0
+      → numberOf ((commandUnder (on .rule) s code) .refusal) ≡ 0
+  pub push-done : (s : State) (byte : ℕ) → busy s ≡ false → numberOf ((answerTo on s (Push byte)) .refusal) ≡ 0
+  pub pop-done : (s : State) → busy s ≡ false → numberOf ((answerTo on s Pop) .refusal) ≡ 0
+  pub read-done : (s : State) → busy s ≡ false → (numberOf ((answerTo on s Status) .refusal) ≡ 0) × ((answerTo on s Status) .byte ≡ s .status) × ((answerTo on s Status) .state ≡ s)
+  pub reset-done : (s : State) → busy s ≡ false → numberOf ((answerTo on s Reset) .refusal) ≡ 0
+  pub acknowledge-done : (s : State) → busy s ≡ false → numberOf ((answerTo on s Acknowledge) .refusal) ≡ 0
 
 -- of the chip as it stands
 abbrev pub Refusals : Type 0
-Refusals = Numbers baseRule
+Refusals = (mode : Mode) → Numbers (under mode)

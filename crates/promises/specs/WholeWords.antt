@@ -5,11 +5,12 @@ use mathlib.Core.Path.{_≡_}
 use mathlib.Core.Bool.{Bool, true, false, not}
 use mathlib.Core.List.{List, [], _∷_, _++_}
 use lib.ListN.{length, take}
+use Rattle.terms.specs.declared.Mode.{Mode}
 use Rattle.terms.specs.declared.Refusal.the-variants.{Done, HalfWord}
 use Rattle.terms.specs.declared.Width.{Width}
 use Rattle.terms.specs.declared.Width.the-variants.{Single, Double}
 use Rattle.terms.specs.Width.{sizeOf}
-use Rattle.terms.specs.declared.Rule.{Rule}
+use Rattle.terms.specs.Settings.{Settings}
 use Rattle.stack.specs.Stack.{IsStack, bytesOf, lowFirst, topByte, pushed, popped}
 use Rattle.codes.specs.declared.Command.{Command}
 use Rattle.codes.specs.declared.Kind.the-variants.{Known}
@@ -18,8 +19,7 @@ use Rattle.chip.specs.declared.State.{State}
 use Rattle.chip.specs.declared.Event.{Event}
 use Rattle.chip.specs.declared.Event.the-variants.{Push, Pop}
 use Rattle.chip.specs.State.{busy, moved}
-use Rattle.chip.specs.Commands.{baseRule}
-use Rattle.chip.specs.Step.{done, refused, pushOf, popOf, commandUnder}
+use Rattle.chip.specs.Step.{done, refused, pushOf, popOf, commandUnder, under}
 use Rattle.chip.specs.Events.{afterEvents}
 use Rattle.chip.specs.InTurn.{afterPushes, bytesPopped, resultBytes}
 
@@ -34,28 +34,28 @@ abbrev pub odd : ℕ → Bool
 odd zero = false
 odd (suc n) = not (odd n)
 
-pub record Whole (rule : Rule) : Type 0 where
+pub record Whole (on : Settings) : Type 0 where
   -- a byte pushed or popped is answered 0 and turns pending
   pub push-answer : (s : State) (byte : ℕ) → busy s ≡ false → pushOf s byte ≡ done 0 (moved s (pushed (s .stack) byte))
   pub pop-answer : (s : State) → busy s ≡ false → popOf s ≡ done (topByte (s .stack)) (moved s (popped (s .stack)))
   -- with nothing pending, after an odd number of bytes pushed and popped a half word is pending, and after an even number none
-  pub parity : (s : State) (es : List Event) (n : ℕ) → Moves es n → busy s ≡ false → s .pending ≡ false → (afterEvents rule s es) .pending ≡ odd n
+  pub parity : (s : State) (es : List Event) (n : ℕ) → Moves es n → busy s ≡ false → s .pending ≡ false → (afterEvents on s es) .pending ≡ odd n
   -- with nothing pending, a word's bytes pushed, low first, lie on top, the rest moves down, and nothing is pending
   pub lies-on-top : (w : Width) (s : State) (x : ℕ) → busy s ≡ false → s .pending ≡ false
       → afterPushes s (lowFirst (sizeOf w) x) ≡ record { stack = bytesOf (sizeOf w) x ++ take (16 - sizeOf w) (s .stack); pending = false; status = s .status; service = s .service }
   -- and as many pops hand out that word's bytes, high first
   pub handed-back : (w : Width) (s : State) (x : ℕ) → busy s ≡ false → bytesPopped (sizeOf w) (afterPushes s (lowFirst (sizeOf w) x)) ≡ bytesOf (sizeOf w) x
   -- after any accepted command the pops hand out R's bytes
-  pub after-command : (s : State) (code : ℕ) (k : Command) → IsStack (s .stack) → decoded (code % 128) ≡ Known k → (commandUnder rule s code) .refusal ≡ Done
-      → bytesPopped (length (resultBytes rule k (s .stack))) ((commandUnder rule s code) .state) ≡ resultBytes rule k (s .stack)
+  pub after-command : (s : State) (code : ℕ) (k : Command) → IsStack (s .stack) → decoded (code % 128) ≡ Known k → (commandUnder (on .rule) s code) .refusal ≡ Done
+      → bytesPopped (length (resultBytes (on .rule) k (s .stack))) ((commandUnder (on .rule) s code) .state) ≡ resultBytes (on .rule) k (s .stack)
   -- an accepted command found nothing pending, and leaves nothing pending
-  pub nothing-pending : (s : State) (code : ℕ) → (commandUnder rule s code) .refusal ≡ Done → (s .pending ≡ false) × ((commandUnder rule s code) .state .pending ≡ false)
+  pub nothing-pending : (s : State) (code : ℕ) → (commandUnder (on .rule) s code) .refusal ≡ Done → (s .pending ≡ false) × ((commandUnder (on .rule) s code) .state .pending ≡ false)
   -- while a half word is pending, every known command, NOP too, is refused with 3 and no byte changes
-  pub half-refused : (s : State) (code : ℕ) (k : Command) → decoded (code % 128) ≡ Known k → busy s ≡ false → s .pending ≡ true → commandUnder rule s code ≡ refused HalfWord s
+  pub half-refused : (s : State) (code : ℕ) (k : Command) → decoded (code % 128) ≡ Known k → busy s ≡ false → s .pending ≡ true → commandUnder (on .rule) s code ≡ refused HalfWord s
 
 -- of the chip as it stands
 abbrev pub WholeWords : Type 0
-WholeWords = Whole baseRule
+WholeWords = (mode : Mode) → Whole (under mode)
 
 -- ---- every 16 bytes are words, in the sense of the rows of 01's tables
 -- words of a width, each over the next

@@ -9,6 +9,7 @@ use borrow.Author.Tests.{lt-ltb, le-ltb, leb-false}
 use lib.Dec.{lit≤}
 use lib.ListN.{length, drop, length-drop, drop-of-length-le}
 use lib.Seq.{take-all}
+use Rattle.terms.specs.declared.Mode.the-variants.{Am9511A}
 use Rattle.terms.specs.declared.Refusal.{Refusal}
 use Rattle.terms.specs.declared.Refusal.the-variants.{Done, NoRoom}
 use Rattle.terms.specs.Refusal.{numberOf}
@@ -68,7 +69,7 @@ read-is : (s : State) → busy s ≡ false → readOf s ≡ done (s .status) s
 unfolding readOf
 read-is s h = rw h
 
-reset-is : (s : State) → busy s ≡ false → resetOf s ≡ done 0 resetState
+reset-is : (s : State) → busy s ≡ false → resetOf Am9511A s ≡ done 0 resetState
 unfolding resetOf
 reset-is s h = rw h
 

@@ -9,6 +9,7 @@ use lib.Bits.{or-zero-r}
 use lib.Dec.{lit<, eqb}
 use lib.ListN.{length, take, drop, length-drop}
 use lib.Seq.{length-take-le, drop-drop, drop-at, sets, sets-eq}
+use Rattle.terms.specs.declared.Mode.the-variants.{Am9511A}
 use Rattle.terms.specs.declared.Refusal.{Refusal}
 use Rattle.terms.specs.declared.Refusal.the-variants.{NoRoom, BadState}
 use Rattle.terms.specs.Refusal.{numberOf}
@@ -111,8 +112,8 @@ none-left m code status h =
 
 -- ---- a busy state
 module _ (c : Card) (h : 128 ≤ c .chip .status) where
-  busy-chip : (e : ChipEvent) → answerWith (c .memory) e (refused BadState (c .chip)) ≡ answerWith (c .memory) e (eventOf (c .chip) e)
-  busy-chip e = ap (answerWith (c .memory) e) (busy-event (c .chip) e h)
+  busy-chip : (e : ChipEvent) → answerWith (c .memory) e (refused BadState (c .chip)) ≡ answerWith (c .memory) e (eventOf Am9511A (c .chip) e)
+  busy-chip e = ap (answerWith (c .memory) e) (busy-event Am9511A (c .chip) e h)
 
   busy-answer : (p : List ℕ) (e : Event) → length p ≡ payloadOf e → Asks e → around (c .memory) (refused BadState (c .chip)) ≡ answerOf c p e
   busy-answer p (Push n) l m = ap (around (c .memory)) (block-refused (c .chip) h p (omega (arith, l, m)))
@@ -128,7 +129,7 @@ module _ (c : Card) (h : 128 ≤ c .chip .status) where
   busy-data (Push n) = refl
   busy-data (Pop n) = none-popped (c .chip) h n
   busy-data (Command code) = refl
-  busy-data Status = ap (λ (a : Answer). a .byte ∷ []) (busy-event (c .chip) StatusEvent h)
+  busy-data Status = ap (λ (a : Answer). a .byte ∷ []) (busy-event Am9511A (c .chip) StatusEvent h)
   busy-data Reset = refl
   busy-data Acknowledge = refl
   busy-data Recall = rw (le-leb 128 (c .chip .status) h)

@@ -9,6 +9,7 @@ use memory::Memory;
 use memory::empty;
 use memory::place::Rest;
 use memory::remember;
+use terms::Mode;
 use terms::Refusal;
 use terms::number;
 ghost use mathlib.Core.Path.{_≡_};
@@ -235,7 +236,7 @@ fn pass_reset(stack: &mut [u8], f: Rest, room: &mut [u8]) -> Pass
     if 128 <= f.status {
         return turn_away(f, room, 133, 0, 0);
     }
-    let after = place::reset(stack);
+    let after = place::reset(stack, Mode::Am9511A, f.pending);
     let nothing = empty();
     open_reply(room, 0, 133, 0);
     Pass {

@@ -4,9 +4,9 @@ use mathlib.Core.List.{List, [], _++_, append-nil, append-assoc}
 use Prim.Native.Nat.{ℕ, _+_, _-_, _≤_}
 use native.Mathlib.Nat.{zero-add}
 use native.Mathlib.Omega.{arith}
-use lib.ListN.{length, take, drop, length-append, length-drop}
+use lib.ListN.{length, take, drop, set, length-append, length-drop}
 use lib.Seq.{paste, take-all, take-at, drop-at, drop-append-le, drop-length, drop-drop, length-take-le}
-use Rattle.stack.specs.Stack.{bytesOf, rotated, exchanged, copied, overA, overZero, replaced, pushedWord, converted, widened, narrowed}
+use Rattle.stack.specs.Stack.{bytesOf, zeros, rotated, exchanged, copied, overA, overZero, replaced, pushedWord, converted, widened, narrowed}
 use Rattle.stack.proofs.Elems.{spelled}
 
 -- past the end there is nothing
@@ -72,3 +72,7 @@ module _ (s : List ℕ) (r : ℕ) (h : length s ≡ 16) where
   pub narrow-law : paste (paste (paste (paste s 2 (drop 4 s) 8) 0 (bytesOf 2 r) 2) 10 (bytesOf 2 0) 2) 12 (bytesOf 4 0) 4 ≡ narrowed s r
   narrow-law =
       spelled (λ (l : List ℕ). paste (paste (paste (paste l 2 (drop 4 l) 8) 0 (bytesOf 2 r) 2) 10 (bytesOf 2 0) 2) 12 (bytesOf 4 0) 4 ≡ narrowed l r) s h refl
+
+-- the top byte gone and two zeros at the bottom
+pub realign-law : (s : List ℕ) → length s ≡ 16 → set (set (rotated 1 s) 14 0) 15 0 ≡ take 14 (rotated 1 s) ++ zeros 2
+realign-law s h = spelled (λ (l : List ℕ). set (set (rotated 1 l) 14 0) 15 0 ≡ take 14 (rotated 1 l) ++ zeros 2) s h refl

@@ -1,11 +1,11 @@
 -- Every layout of a stack is a stack again, what 01 keeps is kept below R, POP turns the stack by a word and XCH swaps its first two. Assumes nothing.
-use mathlib.Core.Path.{_≡_, refl, ap, ap₂}
+use mathlib.Core.Path.{_≡_, refl, ap, ap₂, _∙_}
 use mathlib.Core.List.{List, _++_, append-assoc}
 use Prim.Native.Nat.{ℕ, zero, suc, _+_, _-_, _≤_, _<_}
 use native.Mathlib.Omega.{arith}
 use lib.Dec.{lit<, lit≤}
 use lib.ListN.{length, take, drop, length-append, length-take, length-drop}
-use lib.Seq.{take-at, drop-at}
+use lib.Seq.{take-at, drop-at, length-take-le}
 use Rattle.terms.specs.declared.Width.{Width}
 use Rattle.terms.specs.declared.Width.the-variants.{Single, Double}
 use Rattle.terms.specs.Width.{sizeOf}
@@ -35,6 +35,13 @@ module _ (s : List ℕ) (S : IsStack s) where
     sixteen = simp (length-append, length-take, length-drop) (omega arith);
     bytes = bytes-append (drop n s) (take n s) (bytes-drop n s (S .bytes)) (bytes-take n s (S .bytes));
   }
+
+  -- the top byte gone, two zeros at the bottom
+  pub realigned-stack : IsStack (take 14 (rotated 1 s) ++ zeros 2)
+  realigned-stack =
+      let r = rotated-stack 1 (lit≤ tt) in
+      let e = length-take-le 14 (rotated 1 s) (omega (arith, r .sixteen)) in
+      record { sixteen = length-append (take 14 (rotated 1 s)) (zeros 2) ∙ omega arith; bytes = bytes-append (take 14 (rotated 1 s)) (zeros 2) (bytes-take 14 (rotated 1 s) (r .bytes)) (bytes-zeros 2) }
 
   pub exchanged-stack : (n : ℕ) → n + n ≤ 16 → IsStack (exchanged n s)
   exchanged-stack n h = let e = S .sixteen in record {

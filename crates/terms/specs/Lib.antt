@@ -3,3 +3,4 @@ pub mod Refusal
 pub mod Width
 pub mod Limits
 pub mod Errors
+pub mod Settings

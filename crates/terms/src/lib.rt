@@ -67,6 +67,12 @@ pub enum Rule {
     Nearest,
 }
 
+// Which part's reset: the Am9511A's, or that of the older Am9511.
+pub enum Mode {
+    Am9511A,
+    Am9511,
+}
+
 // The number that 01 or 02 gives a refusal.
 pub fn number(refusal: Refusal) -> u8
     ensures { λ r. ⌜ (r ≡ numberOf refusal) × (r ≤ 15) ⌝ }

@@ -6,6 +6,7 @@ use cases::tally::Tally;
 use cases::words;
 use chip::Answer;
 use chip::State;
+use terms::Mode;
 
 // The words of the grid: fixed point edges, float edges and improper words.
 pub const GRID: u32 = 24;
@@ -106,7 +107,7 @@ fn answer(s: State, kind: u32, byte: u8) -> Answer {
         2 => s.pop(),
         3 => s.command(byte),
         4 => s.status(),
-        5 => s.reset(),
+        5 => s.reset(Mode::Am9511A),
         _ => s.acknowledge(),
     }
 }

@@ -6,7 +6,7 @@ use Rattle.chip.proofs.State.event.Statement.{statement}
 use Rattle.chip.proofs.State.event.Tie as tie
 
 returns : tie.Need-returns
-returns c = c .refuse .ensures ∙ busy-event (c .before .before .args .self) (c .before .before .args .event) (c .before .if1 .taken)
+returns c = c .refuse .ensures ∙ busy-event (c .before .before .args .mode) (c .before .before .args .self) (c .before .before .args .event) (c .before .if1 .taken)
 
 returns-2 : tie.Need-returns-2
 returns-2 c = c .before .event .ensures
