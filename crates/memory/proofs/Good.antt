@@ -19,7 +19,7 @@ use Rattle.chip.proofs.Ready.{Ready, Fair, push-fair, pop-fair, read-fair, rese
 use Rattle.memory.specs.declared.Memory.{Memory}
 use Rattle.memory.specs.declared.Event.{Event}
 use Rattle.memory.specs.declared.Event.the-variants.{Chip, Recall, Forget}
-use Rattle.memory.specs.Memory.{emptyMemory, errorsOf, remembered, isMemory, accepted, Card, CardAnswer, keptAfter, eventIn}
+use Rattle.memory.specs.Memory.{emptyMemory, errorsOf, remembered, isMemory, accepted, Card, CardAnswer, cardWith, keptAfter, eventIn}
 use Rattle.memory.specs.History.{afterAll}
 use Rattle.memory.proofs.History.{done-of, nop-clear}
 use Rattle.memory.proofs.Kept.{either-way}
@@ -170,3 +170,11 @@ event-fair c (Chip e) r h =
     record { left = record { chip = f .left; memory = chip-good (c .chip) (c .memory) e (r .memory) }; small = f .small }
 event-fair c Recall r h = rw (lt-leb 128 (c .chip .status) (r .chip .ready)) record { left = r; small = lit≤ tt }
 event-fair c Forget r h = rw (lt-leb 128 (c .chip .status) (r .chip .ready)) record { left = record { chip = r .chip; memory = empty-good }; small = lit≤ tt }
+
+-- ---- the memory read and cleared where the chip is not busy
+module _ (c : Card) (h : c .chip .status < 128) where
+  pub recalled : record { refusal = Done; byte = c .memory .bits; card = c } ≡ eventIn c Recall
+  recalled = rw (lt-leb 128 (c .chip .status) h)
+
+  pub forgotten : record { refusal = Done; byte = 0; card = cardWith (c .chip) emptyMemory } ≡ eventIn c Forget
+  forgotten = rw (lt-leb 128 (c .chip .status) h)

@@ -1,5 +1,4 @@
 -- The laws of the error memory.
 pub mod History
-pub mod Placed
 pub mod Kept
 pub mod Good

@@ -4,8 +4,7 @@ use mathlib.Core.Bool.{Bool}
 use mathlib.Core.List.{List}
 use Rattle.chip.specs.Place.{held}
 use Rattle.memory.specs.declared.place.Rest.{Rest}
-use Rattle.memory.specs.declared.place.Left.{Left}
-use Rattle.memory.specs.Memory.{Card, CardAnswer}
+use Rattle.memory.specs.Memory.{Card}
 
 -- both, of a stack and of what stands beside it
 abbrev pub cardOf : List ℕ → Bool → ℕ → Bool → ℕ → ℕ → Card
@@ -16,11 +15,3 @@ cardOf stack pending status service bits code = record {
 
 abbrev pub cardAt : List ℕ → Rest → Card
 cardAt stack f = cardOf stack (f .pending) (f .status) (f .service) (f .bits) (f .code)
-
--- the answer that an event in place makes with the stack it leaves
-abbrev pub answerIn : Left → List ℕ → CardAnswer
-answerIn l stack = record {
-  refusal = l .refusal;
-  byte = l .byte;
-  card = cardOf stack (l .pending) (l .status) (l .service) (l .bits) (l .code);
-}

@@ -1,29 +1,41 @@
 -- The ways through the exported calls: by their tests, which case of the definition holds. Assumes nothing.
-use mathlib.Core.Path.{_≡_, refl, sym, ap, _∙_}
+use mathlib.Core.Path.{_≡_, refl, sym, ap, ap₂, subst, _∙_}
+use mathlib.Core.Logic.{⊎-elim}
 use mathlib.Core.Bool.{Bool, true, false, not}
 use mathlib.Core.List.{List, _++_}
-use Prim.Native.Nat.{ℕ, _≤_, _<_}
+use Prim.Native.Nat.{ℕ, _+_, _≤_, _<_}
 use native.Mathlib.Omega.{arith}
-use lib.ListN.{length, take, drop, length-append, length-drop, take-append-drop}
-use lib.Seq.{length-take-le, take-at}
+use lib.ListN.{length, take, drop, getD, length-append, length-drop, take-append-drop}
+use lib.Seq.{length-take-le, getD-append-add, getD-drop, take-at}
 use borrow.Author.Tests.{lt-ltb, le-ltb, eq-eqb, ne-eqb}
+use Rattle.terms.specs.declared.Mode.the-variants.{Am9511A}
 use Rattle.little.specs.Little.{le4}
 use Rattle.terms.specs.declared.Refusal.{Refusal}
-use Rattle.terms.specs.declared.Refusal.the-variants.{NoSuchKind, NoRoom, InputTooLong, BadState}
+use Rattle.terms.specs.declared.Refusal.the-variants.{Done, NoSuchKind, NoRoom, InputTooLong, BadState}
 use Rattle.terms.specs.Refusal.{numberOf}
+use Rattle.chip.specs.declared.State.{State}
+use Rattle.chip.specs.declared.Event.{Event as ChipEvent}
+use Rattle.chip.specs.declared.place.Left.{Left}
+use Rattle.chip.specs.Step.{eventOf}
+use Rattle.chip.specs.Place.{held, answerBy}
+use Rattle.memory.specs.declared.Memory.{Memory}
 use Rattle.memory.specs.declared.Event.{Event}
+use Rattle.memory.specs.declared.Event.the-variants.{Chip, Recall, Forget}
 use Rattle.memory.specs.declared.place.Rest.{Rest}
-use Rattle.memory.specs.Memory.{Card, CardAnswer, eventIn}
+use Rattle.memory.specs.Memory.{emptyMemory, Card, CardAnswer, cardWith, keptBy, answerWith, eventIn}
 use Rattle.memory.specs.Held.{cardAt}
 use Rattle.memory.proofs.Kept.{refused-leaves}
+use Rattle.memory.proofs.Good.{recalled, forgotten}
 use Rattle.host.specs.declared.Reply.{Reply}
 use Rattle.files.specs.Run.{Runs}
 use Rattle.records.specs.Run.{Outcome, runOf}
-use Rattle.stored.specs.Bytes.{Sized, isState, cardIn, laidOut, reportOf}
-use Rattle.stored.proofs.States.{least, sized-as}
+use Rattle.stored.specs.Bytes.{Sized, isState, stateOf, memoryIn, cardIn, memoryBytesOf, laidOut, reportOf}
+use Rattle.stored.proofs.Laid.{other-memory}
+use Rattle.stored.proofs.States.{least, sized-as, state-sized, state-ready, short-memory, long-memory}
+use Rattle.stored.proofs.Cards.{card-returns, long-back}
 use Rattle.pundaliket.specs.declared.Named.{Named}
-use Rattle.pundaliket.specs.declared.Named.the-variants.{Known, Unknown}
-use Rattle.pundaliket.specs.Calls.{ranOf, away, callOf, Calls, Names, joinedOf, signalBy, signalOf, Signals, sentOf, Sends}
+use Rattle.pundaliket.specs.declared.Named.the-variants.{Unknown}
+use Rattle.pundaliket.specs.Calls.{ranOf, away, callOf, Calls, answeredBy, Names, Signal, joinedOf, signalBy, signalOf, Signals, sentOf, Sends}
 
 pub false-true : false ≡ true → ⊥
 false-true e = let z : _≡_ {A = ℕ} 0 1 = cc in omega arith
@@ -51,6 +63,41 @@ module _ (l x : List ℕ) (h : Sized l) (n : length x ≡ 16) where
 
   pub put-back : (f : Rest) {left : List ℕ} → left ≡ laidOut (length (x ++ drop 16 l)) (cardAt (take 16 (x ++ drop 16 l)) f) → left ≡ laidOut (length l) (cardAt x f)
   put-back f e = e ∙ rw (same-size, take-at x (drop 16 l) 16 n)
+
+  -- its memory is the one that it had
+  memory-stays : memoryIn (x ++ drop 16 l) ≡ memoryIn l
+  memory-stays =
+      ⊎-elim (λ a. short-memory (x ++ drop 16 l) (same-size ∙ a) ∙ sym (short-memory l a))
+      (λ b. long-memory (x ++ drop 16 l) (same-size ∙ b) ∙ ap₂ (λ (i k : ℕ). record { bits = i; code = k }) (there 3) (there 4) ∙ sym (long-memory l b)) h
+    where
+      there : (i : ℕ) → getD (x ++ drop 16 l) (16 + i) 0 ≡ getD l (16 + i) 0
+      there i = ap (λ (k : ℕ). getD (x ++ drop 16 l) (k + i) 0) (sym n) ∙ getD-append-add x (drop 16 l) i 0 ∙ getD-drop 16 l i 0
+
+  -- the chip's bytes written behind it, then what an event of the chip leaves remembered
+  module _ (pending : Bool) (status : ℕ) (service : Bool) (e : ChipEvent) {y : List ℕ}
+      (put : y ≡ laidOut (length (x ++ drop 16 l)) (cardWith (held (take 16 (x ++ drop 16 l)) pending status service) (memoryIn (x ++ drop 16 l))))
+      (same : length y ≡ length (x ++ drop 16 l)) where
+    flags-back : y ≡ laidOut (length l) (cardWith (held x pending status service) (memoryIn l))
+    flags-back =
+        put
+        ∙ ap (λ (m : Memory). laidOut (length (x ++ drop 16 l)) (cardWith (held (take 16 (x ++ drop 16 l)) pending status service) m)) memory-stays
+        ∙ rw (same-size, take-at x (drop 16 l) 16 n)
+
+    memory-back : memoryIn y ≡ memoryIn l
+    memory-back =
+        ⊎-elim (λ a. short-memory y (same ∙ same-size ∙ a) ∙ sym (short-memory l a))
+        (λ b. ap memoryIn flags-back ∙ long-back (cardWith (held x pending status service) (memoryIn l)) n (length l) b) h
+
+    pub kept-back : {left : List ℕ} → left ≡ take 19 y ++ memoryBytesOf (length y) (keptBy (memoryIn y) e 0 status)
+        → left ≡ laidOut (length l) (cardWith (held x pending status service) (keptBy (memoryIn l) e 0 status))
+    kept-back k =
+        other-memory (length l) (cardWith (held x pending status service) (memoryIn l)) (keptBy (memoryIn y) e 0 status) n flags-back (same ∙ same-size) k
+        ∙ ap (λ (m : Memory). laidOut (length l) (cardWith (held x pending status service) (keptBy m e 0 status))) memory-back
+
+-- the memory's bytes after an event of the chip, by which event it is
+pub kept-as : (l : List ℕ) (status : ℕ) {e o : ChipEvent} {left : List ℕ} → e ≡ o → left ≡ take 19 l ++ memoryBytesOf (length l) (keptBy (memoryIn l) o 0 status)
+    → left ≡ take 19 l ++ memoryBytesOf (length l) (keptBy (memoryIn l) e 0 status)
+kept-as l status told k = k ∙ ap (λ (t : ChipEvent). take 19 l ++ memoryBytesOf (length l) (keptBy (memoryIn l) t 0 status)) (sym told)
 
 -- a run of the code, with its state and report laid out
 pub called : (size : ℕ) (o : Outcome) (refusal : ℕ) (c : Card) (taken written : ℕ) (input replies left state report : List ℕ)
@@ -99,6 +146,34 @@ module _ (state : List ℕ) (e : Event) (a : CardAnswer) (is : a ≡ eventIn (ca
   pub an-event : (left : List ℕ) → n ≡ 0 → left ≡ laidOut (length state) (a .card) → Signals (signalBy state (eventIn (cardIn state) e)) r left
   an-event left g d = rw (← is, ← en, eq-eqb n 0 g) record { result-is = er; state-is = d }
 
+-- an event of the chip on the stack where it lies: refused, or its bytes written behind the stack, then what it leaves remembered
+module _ (state : List ℕ) (e : ChipEvent) (v : Left) (x : List ℕ) {s : State} (at : s ≡ stateOf state) (is : answerBy v x ≡ eventOf Am9511A s e) {n r : ℕ} (en : n ≡ numberOf (v .refusal)) (er : r ≡ joinedOf n (v .byte)) where
+  answered : answerWith (memoryIn state) e (answerBy v x) ≡ eventIn (cardIn state) (Chip e)
+  answered = ap (answerWith (memoryIn state) e) (is ∙ ap (λ (t : State). eventOf Am9511A t e) at)
+
+  pub no-chip-event : (n ≡ 0 → ⊥) → Signals (signalBy state (eventIn (cardIn state) (Chip e))) r (x ++ drop 16 state)
+  no-chip-event z = no-event state (Chip e) (answerWith (memoryIn state) e (answerBy v x)) answered en er z
+
+  pub a-chip-event : {y left : List ℕ} → n ≡ 0 → Sized state → length x ≡ 16
+      → y ≡ laidOut (length (x ++ drop 16 state)) (cardWith (held (take 16 (x ++ drop 16 state)) (v .pending) (v .status) (v .service)) (memoryIn (x ++ drop 16 state)))
+      → length y ≡ length (x ++ drop 16 state) → left ≡ take 19 y ++ memoryBytesOf (length y) (keptBy (memoryIn y) e 0 (v .status))
+      → Signals (signalBy state (eventIn (cardIn state) (Chip e))) r left
+  a-chip-event {left = left} z h l put same k =
+      an-event state (Chip e) (answerWith (memoryIn state) e (answerBy v x)) answered en er left z
+      (kept-back state x h l (v .pending) (v .status) (v .service) e put same k
+      ∙ ap (λ (i : ℕ). laidOut (length state) (cardWith (held x (v .pending) (v .status) (v .service)) (keptBy (memoryIn state) e i (v .status)))) (sym z ∙ en))
+
+-- the memory read, and cleared
+module _ (state : List ℕ) (h : isState state ≡ true) {r : ℕ} where
+  pub a-recall : (m : Memory) → m ≡ memoryIn state → r ≡ joinedOf 0 (m .bits) → Signals (signalBy state (eventIn (cardIn state) Recall)) r state
+  a-recall m is er =
+      an-event state Recall (record { refusal = Done; byte = memoryIn state .bits; card = cardIn state }) (recalled (cardIn state) (state-ready state h)) refl (er ∙ ap (λ (k : Memory). joinedOf 0 (k .bits)) is) state refl (sym (card-returns state h))
+
+  pub a-forget : (m : Memory) {left : List ℕ} → m ≡ emptyMemory → r ≡ joinedOf 0 0 → left ≡ take 19 state ++ memoryBytesOf (length state) m → Signals (signalBy state (eventIn (cardIn state) Forget)) r left
+  a-forget m {left} is er e =
+      an-event state Forget (record { refusal = Done; byte = 0; card = cardWith (stateOf state) emptyMemory }) (forgotten (cardIn state) (state-ready state h)) refl er left refl
+      (other-memory (length state) (cardIn state) emptyMemory (stack-size state (state-sized state h)) (sym (card-returns state h)) refl (e ∙ ap (λ (k : Memory). take 19 state ++ memoryBytesOf (length state) k) is))
+
 -- an event by its kind: turned away, one that the kind names, or 5
 module _ (state : List ℕ) (kind byte : ℕ) where
   pub no-state : isState state ≡ false → (n r : ℕ) → n ≡ numberOf BadState → r ≡ joinedOf n 0 → Signals (signalOf state kind byte) r state
@@ -106,13 +181,15 @@ module _ (state : List ℕ) (kind byte : ℕ) where
   no-state h n r e f = rw h record { result-is = f ∙ rw e; state-is = refl }
 
   module _ (h : isState state ≡ true) (m : Named) (is : Names kind byte m) where
-    pub named : (e : Event) (r : ℕ) (left : List ℕ) → m ≡ Known e → Signals (signalBy state (eventIn (cardIn state) e)) r left → Signals (signalOf state kind byte) r left
+    signalled : signalBy state (answeredBy (cardIn state) m) ≡ signalOf state kind byte
     unfolding signalOf
-    named e r left k w = rw (h, ← is (cardIn state), k) w
+    signalled = rw h (ap (signalBy state) (is (cardIn state)))
+
+    pub named : {o : Named} {r : ℕ} {left : List ℕ} → m ≡ o → Signals (signalBy state (answeredBy (cardIn state) o)) r left → Signals (signalOf state kind byte) r left
+    named {o} {r} {left} k w = subst (λ (t : Signal). Signals t r left) (ap (λ (n : Named). signalBy state (answeredBy (cardIn state) n)) (sym k) ∙ signalled) w
 
     pub unnamed : (n r : ℕ) → m ≡ Unknown → n ≡ numberOf NoSuchKind → r ≡ joinedOf n 0 → Signals (signalOf state kind byte) r state
-    unfolding signalOf
-    unnamed n r k e f = rw (h, ← is (cardIn state), k) record { result-is = f ∙ rw e; state-is = refl }
+    unnamed n r k e f = named k (record { result-is = f ∙ rw e; state-is = refl })
 
 -- a conversion: a slice of another length, a refusal, the bits sent
 module _ (reply : Reply) (out : List ℕ) where

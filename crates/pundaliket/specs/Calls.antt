@@ -17,7 +17,7 @@ use Rattle.host.specs.declared.Reply.{Reply}
 use Rattle.records.specs.Run.{Outcome, runOf}
 use Rattle.stored.specs.Bytes.{isState, cardIn, laidOut, reportOf}
 use Rattle.pundaliket.specs.declared.Named.{Named}
-use Rattle.pundaliket.specs.declared.Named.the-variants.{Known, Unknown}
+use Rattle.pundaliket.specs.declared.Named.the-variants.{Known, Recalls, Forgets, Unknown}
 
 -- ---- the run
 
@@ -74,7 +74,9 @@ answerToKind c kind byte =
 
 -- the answer to what a kind names: the event's, or 5
 abbrev pub answeredBy : Card → Named → CardAnswer
-answeredBy c (Known e) = eventIn c e
+answeredBy c (Known e) = eventIn c (Chip e)
+answeredBy c Recalls = eventIn c Recall
+answeredBy c Forgets = eventIn c Forget
 answeredBy c Unknown = record { refusal = NoSuchKind; byte = 0; card = c }
 
 -- a kind and a byte name it: its answer is theirs on every card

@@ -1,27 +1,35 @@
 // The calls that the rack controller's firmware makes, on byte slices that it lends. Every
 // call refuses by 01's number, asks nothing of its caller, and says what each slice holds after.
+use chip::place;
 use host::Reply;
 use little::put_word;
-use memory::Event;
-use memory::place;
+use memory::empty;
 use memory::place::Rest;
+use memory::remember;
 use records::run::run_all;
 use stored::fill_report;
+use stored::flags;
 use stored::is_state;
+use stored::memory_in;
+use stored::put_flags;
+use stored::put_memory;
 use stored::put_rest;
 use stored::rest;
+use terms::Mode;
 use terms::Refusal;
 use terms::number;
 ghost use mathlib.Core.Path.{_≡_};
 ghost use mathlib.Core.Bool.{true};
+ghost use mathlib.Core.List.{_++_};
 ghost use Prim.Native.Nat.{_+_, _*_};
-ghost use lib.ListN.{length};
+ghost use lib.ListN.{length, take};
 ghost use Rattle.host.specs.Host.{hostOf, takenOf, hostReply, takenReply};
 ghost use Rattle.records.specs.Run.{runOf};
 ghost use Rattle.terms.specs.Refusal.{numberOf};
-ghost use Rattle.terms.specs.Limits.{reportBytes};
-ghost use Rattle.memory.specs.Memory.{eventIn};
-ghost use Rattle.stored.specs.Bytes.{Sized, isState, cardIn, reportOf};
+ghost use Rattle.terms.specs.Limits.{stateBytes, reportBytes};
+ghost use Rattle.memory.specs.declared.Event.the-variants.{Chip, Recall, Forget};
+ghost use Rattle.memory.specs.Memory.{remembered, keptBy, eventIn};
+ghost use Rattle.stored.specs.Bytes.{Sized, isState, memoryIn, cardIn, memoryBytesOf, reportOf};
 ghost use Rattle.pundaliket.specs.Calls.{Calls, callOf, ranOf, Names, signalBy, signalOf, Signals, sentOf, Sends};
 
 // The report of a call that is turned away: the refusal and two counts of 0.
@@ -79,9 +87,11 @@ pub extern "C" fn pundaliket_run(
     run_good(state, input, replies, report)
 }
 
-// What a kind names: an event of the bus, or none.
+// What a kind names: an event of the chip, the memory read, the memory cleared, or none.
 pub enum Named {
-    Known(Event),
+    Known(chip::Event),
+    Recalls,
+    Forgets,
     Unknown,
 }
 
@@ -90,14 +100,14 @@ fn event_of(kind: u32, byte: u8) -> Named
     ensures { λ r. ⌜ Names kind byte r ⌝ }
 {
     match kind {
-        1 => Named::Known(Event::Chip(chip::Event::Push(byte))),
-        2 => Named::Known(Event::Chip(chip::Event::Pop)),
-        3 => Named::Known(Event::Chip(chip::Event::Command(byte))),
-        4 => Named::Known(Event::Chip(chip::Event::Status)),
-        5 => Named::Known(Event::Chip(chip::Event::Reset)),
-        6 => Named::Known(Event::Chip(chip::Event::Acknowledge)),
-        7 => Named::Known(Event::Recall),
-        8 => Named::Known(Event::Forget),
+        1 => Named::Known(chip::Event::Push(byte)),
+        2 => Named::Known(chip::Event::Pop),
+        3 => Named::Known(chip::Event::Command(byte)),
+        4 => Named::Known(chip::Event::Status),
+        5 => Named::Known(chip::Event::Reset),
+        6 => Named::Known(chip::Event::Acknowledge),
+        7 => Named::Recalls,
+        8 => Named::Forgets,
         _ => Named::Unknown,
     }
 }
@@ -109,27 +119,65 @@ fn joined(refusal: u8, byte: u8) -> u32
     256 * refusal as u32 + byte as u32
 }
 
-// One event on a good state, where its stack lies; the bytes behind the stack are written on 0 alone.
-fn event(state: &mut [u8], e: Event) -> u32
-    requires { ⌜ isState (now state) ≡ true ⌝ }
-    ensures { λ r. ⌜ Signals (signalBy (now (state .entry)) (eventIn (cardIn (now (state .entry))) e)) r (now (state .exit)) ⌝ }
+// What an accepted command leaves remembered, where the state has a memory.
+fn keep_command(state: &mut [u8], code: u8, status: u8)
+    requires { ⌜ Sized (now state) ⌝ }
+    ensures { λ _. ⌜ now (state .exit) ≡ take stateBytes (now (state .entry)) ++ memoryBytesOf (length (now (state .entry))) (remembered (memoryIn (now (state .entry))) code status) ⌝ }
 {
-    let f = rest(state);
-    let left = place::event(&mut state[..16], f, e);
+    if state.len() == terms::LONG_STATE_BYTES {
+        let m = memory_in(state);
+        put_memory(state, remember(m, code, status));
+    }
+}
+
+// What an accepted event of the chip leaves remembered.
+fn keep(state: &mut [u8], e: chip::Event, status: u8)
+    requires { ⌜ Sized (now state) ⌝ }
+    ensures { λ _. ⌜ now (state .exit) ≡ take stateBytes (now (state .entry)) ++ memoryBytesOf (length (now (state .entry))) (keptBy (memoryIn (now (state .entry))) e 0 status) ⌝ }
+{
+    match e {
+        chip::Event::Push(_) => {}
+        chip::Event::Pop => {}
+        chip::Event::Command(code) => keep_command(state, code, status),
+        chip::Event::Status => {}
+        chip::Event::Reset => put_memory(state, empty()),
+        chip::Event::Acknowledge => {}
+    }
+}
+
+// An event of the chip on a good state, where its stack lies; the bytes behind the stack are written on 0 alone.
+fn chip_event(state: &mut [u8], e: chip::Event) -> u32
+    requires { ⌜ isState (now state) ≡ true ⌝ }
+    ensures { λ r. ⌜ Signals (signalBy (now (state .entry)) (eventIn (cardIn (now (state .entry))) (Chip e))) r (now (state .exit)) ⌝ }
+{
+    let f = flags(state);
+    let left = place::event(&mut state[..16], f, Mode::Am9511A, e);
     let refusal = left.refusal;
     let n = number(refusal);
     if n != 0 {
         return joined(n, left.byte);
     }
-    let after = Rest {
-        pending: left.pending,
-        status: left.status,
-        service: left.service,
-        bits: left.bits,
-        code: left.code,
-    };
-    put_rest(state, after);
+    put_flags(state, left.pending, left.status, left.service);
+    keep(state, e, left.status);
     joined(n, left.byte)
+}
+
+// The memory of a good state read: its bits.
+fn recall(state: &[u8]) -> u32
+    requires { ⌜ isState (now state) ≡ true ⌝ }
+    ensures { λ r. ⌜ Signals (signalBy (now (state .entry)) (eventIn (cardIn (now (state .entry))) Recall)) r (now (state .entry)) ⌝ }
+{
+    let m = memory_in(state);
+    joined(0, m.bits)
+}
+
+// The memory of a good state cleared.
+fn forget(state: &mut [u8]) -> u32
+    requires { ⌜ isState (now state) ≡ true ⌝ }
+    ensures { λ r. ⌜ Signals (signalBy (now (state .entry)) (eventIn (cardIn (now (state .entry))) Forget)) r (now (state .exit)) ⌝ }
+{
+    put_memory(state, empty());
+    joined(0, 0)
 }
 
 // One event on a state. Returns 256 times the refusal plus the byte read; a refused event writes nothing.
@@ -141,7 +189,9 @@ pub extern "C" fn pundaliket_event(state: &mut [u8], kind: u32, byte: u8) -> u32
         return joined(number(Refusal::BadState), 0);
     }
     match event_of(kind, byte) {
-        Named::Known(e) => event(state, e),
+        Named::Known(e) => chip_event(state, e),
+        Named::Recalls => recall(state),
+        Named::Forgets => forget(state),
         Named::Unknown => joined(number(Refusal::NoSuchKind), 0),
     }
 }

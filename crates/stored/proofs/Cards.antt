@@ -16,7 +16,7 @@ use Rattle.chip.specs.declared.State.{State}
 use Rattle.memory.specs.declared.Memory.{Memory}
 use Rattle.memory.specs.Memory.{Card, emptyMemory}
 use Rattle.memory.proofs.Good.{ReadyCard, memory-cases}
-use Rattle.stored.specs.Bytes.{isState, cardIn, flagOf, laidOut}
+use Rattle.stored.specs.Bytes.{isState, memoryIn, cardIn, flagOf, laidOut}
 use Rattle.stored.proofs.States.{state-stands, stands-state, state-sized, short-memory, long-memory, state-memory}
 
 -- ---- bytes, read and written back
@@ -111,6 +111,9 @@ module _ (c : Card) (n : length (c .chip .stack) ≡ 16) where
   card-long =
       ap₂ (λ (s : State) (m : Memory). record { chip = s; memory = m }) (laid-chip 21)
       (long-memory (laidOut 21 c) (laid-length 21 (inr refl)) ∙ ap₂ (λ (b k : ℕ). record { bits = b; code = k }) (laid-at 21 3) (laid-at 21 4))
+
+  pub long-back : (size : ℕ) → size ≡ longStateBytes → memoryIn (laidOut size c) ≡ c .memory
+  long-back size b = rw b (ap (λ (k : Card). k .memory) card-long)
 
 -- a card that 13 does not turn away
 module _ (c : Card) (r : ReadyCard c) where

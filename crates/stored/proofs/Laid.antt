@@ -1,32 +1,57 @@
--- The bytes of a state and of a report as code lays them: stores behind the stack, up to the last byte; one store and four bytes for each count. Assumes nothing.
+-- The bytes of a state and of a report as code lays them: three stores behind the stack, two behind them; one store and four bytes for each count. Assumes nothing.
 use mathlib.Core.Path.{_≡_, sym, ap, _∙_}
-use mathlib.Core.List.{List, [], _∷_, _++_, append-nil, append-assoc}
+use mathlib.Core.Logic.{⊎-elim}
+use mathlib.Core.Bool.{Bool}
+use mathlib.Core.List.{List, [], _∷_, _++_, append-nil}
 use Prim.Native.Nat.{ℕ, _+_, _≤_}
 use native.Mathlib.Omega.{arith}
-use lib.ListN.{length, take, drop, set, length-append, length-drop, drop-of-length-le}
+use lib.ListN.{length, take, drop, set, getD, length-append, length-drop, take-append-drop, drop-of-length-le}
 use borrow.Author.Tests.{eq-eqb, ne-eqb}
-use lib.Seq.{length-take-le, sets, sets-eq}
+use lib.Seq.{length-take-le, drop-cons, take-at, sets, sets-eq}
 use Rattle.little.specs.Little.{le4}
-use Rattle.memory.specs.declared.place.Rest.{Rest}
-use Rattle.memory.specs.Held.{cardAt}
-use Rattle.stored.specs.Bytes.{flagOf, laidOut, reportOf}
+use Rattle.chip.specs.Place.{held}
+use Rattle.memory.specs.declared.Memory.{Memory}
+use Rattle.memory.specs.Memory.{Card, cardWith}
+use Rattle.stored.specs.Bytes.{Sized, memoryIn, flagOf, stateBytesOf, memoryBytesOf, laidOut, reportOf}
+use Rattle.stored.proofs.States.{least}
 
--- the bytes behind the stack stored
-pub laid : (state vs : List ℕ) → length state ≡ 16 + length vs → sets state 16 vs ≡ take 16 state ++ vs
-laid state vs h =
-    sets-eq vs state 16 (omega arith) ∙ rw (drop-of-length-le state {i = 16 + length vs} (omega arith), append-nil (take 16 state ++ vs))
+-- the bytes of a memory are those behind the chip's
+memory-behind : (l : List ℕ) → Sized l → drop 19 l ≡ memoryBytesOf (length l) (memoryIn l)
+memory-behind l h =
+    ⊎-elim (λ a. rw (eq-eqb (length l) 19 a) (drop-of-length-le l {i = 19} (omega arith)))
+    (λ b. rw (ne-eqb (length l) 19 (λ a. omega arith))
+    (drop-cons l 19 0 (omega arith) ∙ ap (λ (t : List ℕ). getD l 19 0 ∷ t) (drop-cons l 20 0 (omega arith) ∙ ap (λ (t : List ℕ). getD l 20 0 ∷ t) (drop-of-length-le l {i = 21} (omega arith))))) h
 
-module _ (l : List ℕ) (f : Rest) {p v : ℕ} (ep : p ≡ flagOf (f .pending)) (ev : v ≡ flagOf (f .service)) where
-  -- three bytes of 19
-  pub laid-short : length l ≡ 19 → sets l 16 (p ∷ f .status ∷ v ∷ []) ≡ laidOut (length l) (cardAt (take 16 l) f)
-  laid-short h =
-      laid l (p ∷ f .status ∷ v ∷ []) h ∙ rw (ep, ev, eq-eqb (length l) 19 h, append-nil (take 16 l ++ (flagOf (f .pending) ∷ f .status ∷ flagOf (f .service) ∷ [])))
+pub as-it-stood : (l : List ℕ) → Sized l → l ≡ take 19 l ++ memoryBytesOf (length l) (memoryIn l)
+as-it-stood l h = sym (take-append-drop 19 l) ∙ ap (λ (t : List ℕ). take 19 l ++ t) (memory-behind l h)
 
-  -- five of 21
-  pub laid-long : length l ≡ 21 → sets l 16 (p ∷ f .status ∷ v ∷ f .bits ∷ f .code ∷ []) ≡ laidOut (length l) (cardAt (take 16 l) f)
-  laid-long h =
-      laid l (p ∷ f .status ∷ v ∷ f .bits ∷ f .code ∷ []) h
-      ∙ rw (ep, ev, ne-eqb (length l) 19 (λ a. omega arith)) (sym (append-assoc (take 16 l) (flagOf (f .pending) ∷ f .status ∷ flagOf (f .service) ∷ []) (f .bits ∷ f .code ∷ [])))
+-- three bytes behind the stack stored
+pub flags-laid : (l : List ℕ) (pending : Bool) (status : ℕ) (service : Bool) {p v : ℕ} → Sized l → p ≡ flagOf pending → v ≡ flagOf service
+    → sets l 16 (p ∷ status ∷ v ∷ []) ≡ laidOut (length l) (cardWith (held (take 16 l) pending status service) (memoryIn l))
+flags-laid l pending status service {p} {v} h ep ev =
+    sets-eq (p ∷ status ∷ v ∷ []) l 16 (least l h)
+    ∙ ap (λ (t : List ℕ). take 16 l ++ (p ∷ status ∷ v ∷ []) ++ t) (memory-behind l h)
+    ∙ rw (ep, ev)
+
+-- two behind them, where there are 21, or none
+pub memory-laid : (l : List ℕ) (m : Memory) → length l ≡ 21 → sets l 19 (m .bits ∷ m .code ∷ []) ≡ take 19 l ++ memoryBytesOf (length l) m
+memory-laid l m h =
+    sets-eq (m .bits ∷ m .code ∷ []) l 19 (omega arith)
+    ∙ rw (drop-of-length-le l {i = 21} (omega arith), append-nil (take 19 l ++ (m .bits ∷ m .code ∷ [])), ne-eqb (length l) 19 (λ a. omega arith))
+
+pub none-laid : (l : List ℕ) (m : Memory) → length l ≡ 19 → l ≡ take 19 l ++ memoryBytesOf (length l) m
+none-laid l m h =
+    sym (take-append-drop 19 l) ∙ rw (drop-of-length-le l {i = 19} (omega arith), eq-eqb (length l) 19 h)
+
+-- a card laid out, then another memory behind its chip's bytes
+pub other-memory : (n : ℕ) (c : Card) (m : Memory) {l left : List ℕ} → length (c .chip .stack) ≡ 16 → l ≡ laidOut n c → length l ≡ n → left ≡ take 19 l ++ memoryBytesOf (length l) m
+    → left ≡ laidOut n (cardWith (c .chip) m)
+other-memory n c m {l} h is len e =
+    let k : length (stateBytesOf (c .chip)) ≡ 19 = length-append (c .chip .stack) (flagOf (c .chip .pending) ∷ c .chip .status ∷ flagOf (c .chip .service) ∷ []) ∙ omega arith in
+    e
+    ∙ ap (λ (i : ℕ). take 19 l ++ memoryBytesOf i m) len
+    ∙ ap (λ (t : List ℕ). take 19 t ++ memoryBytesOf n m) is
+    ∙ ap (λ (t : List ℕ). t ++ memoryBytesOf n m) (take-at (stateBytesOf (c .chip)) (memoryBytesOf n (c .memory)) 19 k)
 
 -- four bytes from a place, written over
 abbrev pub over : ℕ → List ℕ → List ℕ → List ℕ

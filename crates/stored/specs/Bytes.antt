@@ -50,6 +50,10 @@ flagOf set = cond set 1 0
 abbrev pub stateBytesOf : State → List ℕ
 stateBytesOf s = s .stack ++ (flagOf (s .pending) ∷ s .status ∷ flagOf (s .service) ∷ [])
 
+-- those of a memory behind them, of which with them so many were lent: none of 19
+abbrev pub memoryBytesOf : ℕ → Memory → List ℕ
+memoryBytesOf n m = cond (eqb n stateBytes) [] (m .bits ∷ m .code ∷ [])
+
 -- the bytes of a card, of which so many were lent: "written back as 19 bytes, memory dropped"
 abbrev pub laidOut : ℕ → Card → List ℕ
 laidOut n c = stateBytesOf (c .chip) ++ cond (eqb n stateBytes) [] (c .memory .bits ∷ c .memory .code ∷ [])

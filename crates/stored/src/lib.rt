@@ -1,15 +1,19 @@
 // The state as 19 bytes, or 21 with its error memory, and the report as 9: the one place where their layout is known.
+use chip::place::Flags;
 use little::put_word;
 use memory::Memory;
 use memory::empty;
 use memory::is_memory;
 use memory::place::Rest;
 ghost use mathlib.Core.Path.{_≡_};
+ghost use mathlib.Core.List.{_++_};
 ghost use Prim.Native.Nat.{_≤_};
 ghost use lib.ListN.{length, take};
 ghost use Rattle.terms.specs.Limits.{stackBytes, stateBytes, reportBytes};
+ghost use Rattle.chip.specs.Place.{held};
+ghost use Rattle.memory.specs.Memory.{cardWith};
 ghost use Rattle.memory.specs.Held.{cardAt};
-ghost use Rattle.stored.specs.Bytes.{Sized, isChip, isState, memoryIn, cardIn, flagOf, laidOut, reportOf};
+ghost use Rattle.stored.specs.Bytes.{Sized, isChip, isState, stateOf, memoryIn, cardIn, flagOf, memoryBytesOf, laidOut, reportOf};
 
 // Whether the bytes behind the stack stand for a chip's: both flags 0 or 1, busy clear.
 fn is_chip(state: &[u8]) -> bool
@@ -44,8 +48,20 @@ pub fn is_state(state: &[u8]) -> bool
     false
 }
 
+// The chip's flags in a state's bytes.
+pub fn flags(state: &[u8]) -> Flags
+    requires { ⌜ stateBytes ≤ length (now state) ⌝ }
+    ensures { λ r. ⌜ held (take stackBytes (now (state .entry))) (r .pending) (r .status) (r .service) ≡ stateOf (now (state .entry)) ⌝ }
+{
+    Flags {
+        pending: state[16] == 1,
+        status: state[17],
+        service: state[18] == 1,
+    }
+}
+
 // The memory of a state: empty where it has 19 bytes.
-fn memory_in(state: &[u8]) -> Memory
+pub fn memory_in(state: &[u8]) -> Memory
     requires { ⌜ Sized (now state) ⌝ }
     ensures { λ r. ⌜ r ≡ memoryIn (now (state .entry)) ⌝ }
 {
@@ -64,10 +80,11 @@ pub fn rest(state: &[u8]) -> Rest
     ensures { λ r. ⌜ cardAt (take stackBytes (now (state .entry))) r ≡ cardIn (now (state .entry)) ⌝ }
 {
     let m = memory_in(state);
+    let f = flags(state);
     Rest {
-        pending: state[16] == 1,
-        status: state[17],
-        service: state[18] == 1,
+        pending: f.pending,
+        status: f.status,
+        service: f.service,
         bits: m.bits,
         code: m.code,
     }
@@ -80,18 +97,38 @@ fn flag(set: bool) -> u8
     if set { 1 } else { 0 }
 }
 
-// The bytes behind the stack, which stays; the memory's two where the state has them.
+// The chip's three bytes behind the stack; all others stay.
+pub fn put_flags(state: &mut [u8], pending: bool, status: u8, service: bool)
+    requires { ⌜ Sized (now state) ⌝ }
+    ensures { λ _. ⌜ now (state .exit) ≡ laidOut (length (now (state .entry))) (cardWith (held (take stackBytes (now (state .entry))) pending status service) (memoryIn (now (state .entry)))) ⌝ }
+{
+    state[16] = flag(pending);
+    state[17] = status;
+    state[18] = flag(service);
+}
+
+// The memory's two bytes where the state has them; all others stay.
+pub fn put_memory(state: &mut [u8], m: Memory)
+    requires { ⌜ Sized (now state) ⌝ }
+    ensures { λ _. ⌜ now (state .exit) ≡ take stateBytes (now (state .entry)) ++ memoryBytesOf (length (now (state .entry))) m ⌝ }
+{
+    if state.len() == terms::LONG_STATE_BYTES {
+        state[19] = m.bits;
+        state[20] = m.code;
+    }
+}
+
+// The bytes behind the stack, which stays.
 pub fn put_rest(state: &mut [u8], f: Rest)
     requires { ⌜ Sized (now state) ⌝ }
     ensures { λ _. ⌜ now (state .exit) ≡ laidOut (length (now (state .entry))) (cardAt (take stackBytes (now (state .entry))) f) ⌝ }
 {
-    state[16] = flag(f.pending);
-    state[17] = f.status;
-    state[18] = flag(f.service);
-    if state.len() == terms::LONG_STATE_BYTES {
-        state[19] = f.bits;
-        state[20] = f.code;
-    }
+    put_flags(state, f.pending, f.status, f.service);
+    let m = Memory {
+        bits: f.bits,
+        code: f.code,
+    };
+    put_memory(state, m);
 }
 
 // The 9 bytes of a report.

@@ -1,52 +1,31 @@
--- `stored::put_rest` meets its contract: three stores behind the stack, and two more where there is room for them. Assumes nothing.
-use mathlib.Core.Path.{_≡_}
+-- `stored::put_rest` meets its contract: the chip's bytes, then the memory's. Assumes nothing.
 use native.Mathlib.Omega.{arith}
-use lib.ListN.{length, length-set}
+use lib.ListN.{length, take}
+use lib.Seq.{length-take-le}
 use denote.Ref.{now}
-use Rattle.stored.proofs.Laid.{laid-short, laid-long}
-use Rattle.stored.proofs.States.{least, is-short}
+use Rattle.chip.specs.Place.{held}
+use Rattle.memory.specs.Memory.{cardWith}
+use Rattle.stored.specs.Bytes.{memoryIn}
+use Rattle.stored.proofs.Laid.{other-memory}
+use Rattle.stored.proofs.States.{least, sized-as}
 use borrow.Author.Needs.{needs}
 use Rattle.stored.proofs.put_rest.Statement.{statement}
 use Rattle.stored.proofs.put_rest.Tie as tie
 
-slice-write-state : tie.Need-slice-write-state
-slice-write-state c = omega (arith, least (now (c .before .before .args .state)) (c .before .before .pre))
-
-slice-write-state-2 : tie.Need-slice-write-state-2
-slice-write-state-2 c = simp length-set (omega (arith, least (now (c .before .before .args .state)) (c .before .before .pre)))
-
-slice-write-state-3 : tie.Need-slice-write-state-3
-slice-write-state-3 c = simp length-set (omega (arith, least (now (c .before .before .before .args .state)) (c .before .before .before .pre)))
-
-slice-write-state-5 : tie.Need-slice-write-state-5
-slice-write-state-5 c =
-    let a = c .before .before .before .before .args in
-    let n : length (now (a .state)) ≡ 21 = simp length-set at (c .if1 .taken) in
-    simp length-set (omega arith)
+put-memory-requires : tie.Need-put-memory-requires
+put-memory-requires c κs =
+    let s = c .before .before .before .before .before .before in
+    sized-as (now (s .args .state)) (c .before .before .before .put-flags .last .0) (c .before .before .state .given) (s .pre)
 
 returns : tie.Need-returns
 returns c =
-    let a = c .before .before .before .before .args in
-    laid-long (now (a .state)) (a .f) (c .before .before .flag .ensures) (c .before .flag2 .ensures) (simp length-set at (c .if1 .taken))
-
-returns-2 : tie.Need-returns-2
-returns-2 c =
-    let a = c .before .before .before .before .args in
-    laid-short (now (a .state)) (a .f) (c .before .before .flag .ensures) (c .before .flag2 .ensures)
-    (is-short (now (a .state)) (c .before .before .before .before .pre) (simp length-set at (c .if1 .left)))
+    let s = c .before .before .before .before .before .before .before .before .before in
+    let l = now (s .args .state) in
+    let f = s .args .f in
+    let p = c .before .before .before .before .before .before .put-flags in
+    other-memory (length l) (cardWith (held (take 16 l) (f .pending) (f .status) (f .service)) (memoryIn l)) (record { bits = f .bits; code = f .code })
+    (length-take-le 16 l (omega (arith, least l (s .pre)))) (p .ensures) (c .before .before .before .before .before .state .given) (c .before .before .put-memory .ensures)
 
 pub put-rest-spec : {M : Type 1} → statement M
 put-rest-spec =
-    tie.close
-    (tie.spec
-    (λ c κs. search needs)
-    slice-write-state
-    slice-write-state-2
-    (λ c κs. search needs)
-    slice-write-state-3
-    (λ c. search needs)
-    slice-write-state-5
-    (λ c. search needs)
-    returns
-    (λ c. search needs)
-    returns-2)
+    tie.close (tie.spec (λ c κs. search needs) put-memory-requires (λ c. search needs) returns)

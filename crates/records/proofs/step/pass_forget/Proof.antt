@@ -2,7 +2,7 @@
 use mathlib.Core.Path.{refl}
 use denote.Ref.{now}
 use Rattle.memory.specs.Held.{cardAt}
-use Rattle.memory.proofs.Placed.{forgotten}
+use Rattle.memory.proofs.Good.{forgotten}
 use Rattle.records.specs.declared.head.Event.the-variants.{Forget}
 use Rattle.records.proofs.Turning.{no-room, away, took}
 use borrow.Author.Needs.{needs}
@@ -19,7 +19,7 @@ returns-3 : tie.Need-returns-3
 returns-3 c =
     let f = c .before .before .before .before .before .before .before .before .args .f in
     λ stack file there.
-    took (cardAt stack f) Forget _ file (now (c .before .before .before .before .before .before .before .before .args .room)) (forgotten stack f (c .before .before .before .before .if2 .left)) refl refl refl (c .before .before .open-reply .ensures) there (c .before .before .before .before .before .before .if1 .left)
+    took (cardAt stack f) Forget _ file (now (c .before .before .before .before .before .before .before .before .args .room)) (forgotten (cardAt stack f) (c .before .before .before .before .if2 .left)) refl refl refl (c .before .before .open-reply .ensures) there (c .before .before .before .before .before .before .if1 .left)
 
 pub pass-forget-spec : {M : Type 1} → statement M
 pass-forget-spec =

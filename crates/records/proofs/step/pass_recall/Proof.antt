@@ -5,7 +5,7 @@ use lib.Dec.{lit≤}
 use lib.ListN.{length, set, length-drop, length-set}
 use denote.Ref.{now}
 use Rattle.memory.specs.Held.{cardAt}
-use Rattle.memory.proofs.Placed.{recalled}
+use Rattle.memory.proofs.Good.{recalled}
 use Rattle.records.specs.declared.head.Event.the-variants.{Recall}
 use Rattle.records.proofs.Turning.{no-room, away, took, recall-data}
 use borrow.Author.Needs.{needs}
@@ -36,7 +36,7 @@ returns-3 c =
     let f = c .before .before .before .before .before .before .before .before .args .f in
     let room = now (c .before .before .before .before .before .before .before .before .args .room) in
     λ stack file there.
-    took (cardAt stack f) Recall _ file room (recalled stack f (c .before .before .before .before .if2 .left)) refl refl (recall-data (cardAt stack f) room (c .before .before .before .before .if2 .left) (c .before .before .before .before .before .before .if1 .left)) (c .before .before .open-reply .ensures) there (c .before .before .before .before .before .before .if1 .left)
+    took (cardAt stack f) Recall _ file room (recalled (cardAt stack f) (c .before .before .before .before .if2 .left)) refl refl (recall-data (cardAt stack f) room (c .before .before .before .before .if2 .left) (c .before .before .before .before .before .before .if1 .left)) (c .before .before .open-reply .ensures) there (c .before .before .before .before .before .before .if1 .left)
 
 pub pass-recall-spec : {M : Type 1} → statement M
 pass-recall-spec =
