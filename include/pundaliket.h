@@ -38,7 +38,15 @@ enum {
     PUNDALIKET_BAD_STATE = 13,     /* state not 19 or 21 bytes, a flag over 1, busy set, bits of the error memory outside
                                       4 to 1, its code without bits or bits without a code; only a report is written */
     PUNDALIKET_BAD_REPORT = 14,    /* report not 9 bytes; nothing is written at all */
-    PUNDALIKET_MINUS_ZERO = 15     /* the f32 is minus zero */
+    PUNDALIKET_MINUS_ZERO = 15,    /* the f32 is minus zero */
+    PUNDALIKET_BAD_MODE = 16       /* mode neither 0 nor 1; only a report is written */
+};
+
+/* The modes: which part's reset. Nothing else differs, and the mode is not among the state's bytes. */
+enum {
+    PUNDALIKET_AM9511A = 0, /* a reset zeroes the stack */
+    PUNDALIKET_AM9511 = 1   /* the older part: a reset keeps all 16 bytes; with a half word pending the top byte goes, and
+                               two zeros come in at the bottom, so that the words below stand aligned again */
 };
 
 /* The kinds of a record and of a single event. */
@@ -47,7 +55,8 @@ enum {
     PUNDALIKET_POP = 2,         /* record: one byte n, 1 to 240, the reply holds n bytes; event: one byte */
     PUNDALIKET_COMMAND = 3,     /* one command code */
     PUNDALIKET_STATUS = 4,      /* nothing; the reply holds the status byte */
-    PUNDALIKET_RESET = 5,       /* nothing */
+    PUNDALIKET_RESET = 5,       /* nothing; the stack as the mode says, nothing pending, status 0, service line low,
+                                   nothing remembered */
     PUNDALIKET_ACKNOWLEDGE = 6, /* nothing */
     PUNDALIKET_RECALL = 7,      /* nothing; the reply holds the error memory, its bits and its code; event: the bits */
     PUNDALIKET_FORGET = 8       /* nothing; the error memory is emptied */
@@ -143,6 +152,7 @@ enum {
 /*
  * Runs a file of bus records. Returns the refusal that ended the run, 0 at the file's end.
  *
+ * mode     PUNDALIKET_AM9511A or PUNDALIKET_AM9511, for every reset in the file.
  * state    19 or 21 bytes, read and written: the chip before the run and after the last record done. Of 19 the error
  *          memory is empty at the start, and what the run remembers goes when it ends.
  * input    the records: length (2 bytes, little-endian, counts what follows), kind (2 bytes,
@@ -150,13 +160,13 @@ enum {
  * replies  written from the front, one reply for each record done: length, kind + 128, laid out as
  *          in a record, one refusal byte, data. Bytes past the written ones stay as they were.
  * report   9 bytes, written: the refusal, bytes of whole records taken, bytes of replies written,
- *          each count four bytes little-endian. For 13 and 9 both counts are 0.
+ *          each count four bytes little-endian. For 16, 13 and 9 both counts are 0.
  *
- * Order: 14, 13, 9. Then per record: fewer than two bytes left (6), length range (7), bytes
+ * Order: 14, 16, 13, 9. Then per record: fewer than two bytes left (6), length range (7), bytes
  * missing (6), kind (5), payload (7), room (8), and in its reply 1, 2, 3, 4. A record that stops
  * the run has no reply, is not counted, and leaves the state as the records before it did.
  */
-uint32_t pundaliket_run(uint8_t *state, size_t state_length,
+uint32_t pundaliket_run(uint32_t mode, uint8_t *state, size_t state_length,
                         const uint8_t *input, size_t input_length,
                         uint8_t *replies, size_t replies_length,
                         uint8_t *report, size_t report_length);
@@ -165,13 +175,14 @@ uint32_t pundaliket_run(uint8_t *state, size_t state_length,
  * One bus event on a state. Returns 256 times the refusal plus the byte read, which is 0 where
  * there is none and in every refusal.
  *
+ * mode     PUNDALIKET_AM9511A or PUNDALIKET_AM9511, the whole number.
  * state    19 or 21 bytes, read and written. A refused event writes nothing. Of 19 the error memory reads 0.
  * kind     1 to 8 as above, the whole number (257 is no kind).
  * byte     the byte pushed or the command code, else ignored.
  *
- * Order: 13, 5, then 1, 2, 3, 4.
+ * Order: 16, 13, 5, then 1, 2, 3, 4.
  */
-uint32_t pundaliket_event(uint8_t *state, size_t state_length, uint32_t kind, uint8_t byte);
+uint32_t pundaliket_event(uint32_t mode, uint8_t *state, size_t state_length, uint32_t kind, uint8_t byte);
 
 /*
  * The f32 of a chip word's value, always exact. Returns the refusal: 8, then 4.

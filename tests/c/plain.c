@@ -1,4 +1,4 @@
-/* Document 01 in plain C, with requests 1 to 3 of 02. The state is worked on where it lies, as 19 bytes and two of error memory;
+/* Document 01 in plain C, with requests 1 to 6 of 02. The state is worked on where it lies, as 19 bytes and two of error memory;
  * fixed-point results are formed in 64-bit integers, float results in 64 bits with what falls off kept as one low bit. */
 #include "plain.h"
 
@@ -374,8 +374,24 @@ static int bad_state(const uint8_t *s, size_t n)
     return s[PENDING] > 1 || s[SERVICE] > 1 || s[STATUS] > 0x7F;
 }
 
-uint32_t plain_event(uint8_t *state, size_t state_length, uint32_t kind, uint8_t byte)
+/* a reset of the 19 bytes; the older part's leaves the stack, but for half a word */
+static void reset(uint32_t mode, uint8_t *s)
 {
+    if (mode == 0) {
+        CLEAR(s, STATE);
+        return;
+    }
+    if (s[PENDING]) {
+        MOVE(s, s + 1, 14);
+        CLEAR(s + 14, 2);
+    }
+    CLEAR(s + PENDING, 3);
+}
+
+uint32_t plain_event(uint32_t mode, uint8_t *state, size_t state_length, uint32_t kind, uint8_t byte)
+{
+    if (mode > 1)
+        return 16 * 256;
     if (bad_state(state, state_length))
         return 13 * 256;
     switch (kind) {
@@ -383,7 +399,7 @@ uint32_t plain_event(uint8_t *state, size_t state_length, uint32_t kind, uint8_t
     case 2: pop(state, &byte, 1); return byte;
     case 3: return 256 * (state_length == STATE ? obey(state, byte) : command(state, state + STATE, byte));
     case 4: return state[STATUS];
-    case 5: CLEAR(state, state_length); return 0;
+    case 5: reset(mode, state); CLEAR(state + STATE, state_length - STATE); return 0;
     case 6: state[SERVICE] = 0; return 0;
     case 7: return state_length == STATE ? 0 : state[STATE + BITS];
     case 8: CLEAR(state + STATE, state_length - STATE); return 0;
@@ -426,11 +442,13 @@ static uint32_t away(uint8_t *report, uint32_t refusal)
     return refusal;
 }
 
-uint32_t plain_run(uint8_t *state, size_t state_length, const uint8_t *input, size_t input_length,
+uint32_t plain_run(uint32_t mode, uint8_t *state, size_t state_length, const uint8_t *input, size_t input_length,
                    uint8_t *replies, size_t replies_length, uint8_t *report, size_t report_length)
 {
     if (report_length != REPORT)
         return 14;
+    if (mode > 1)
+        return away(report, 16);
     if (bad_state(state, state_length))
         return away(report, 13);
     if (input_length > MOST_INPUT)
@@ -457,7 +475,7 @@ uint32_t plain_run(uint8_t *state, size_t state_length, const uint8_t *input, si
         } else if (kind == 4) {
             out[5] = state[STATUS];
         } else if (kind == 5) {
-            CLEAR(state, STATE);
+            reset(mode, state);
             CLEAR(memory, MEMORY);
         } else if (kind == 6) {
             state[SERVICE] = 0;

@@ -127,13 +127,17 @@ static void draw_state(uint8_t *s)
 /* the length of a state, in one of ten cases any */
 static size_t drawn_length(void) { return below(10) ? (below(2) ? 19 : 21) : below(24); }
 
+/* the mode of a call that is compared: 0 or 1, in one of ten cases any number */
+static uint32_t drawn_mode(void) { return below(10) ? below(2) : drawn(); }
+
 /* ---- one call of each, compared */
 
 static int event_agrees(unsigned alignment, const uint8_t *s, size_t n, uint32_t kind, uint8_t byte)
 {
     lend(&state, alignment, n, s);
     lend(&plain_state, 0, n, s);
-    uint32_t a = pundaliket_event(state.at, n, kind, byte), b = plain_event(plain_state.at, n, kind, byte);
+    uint32_t m = drawn_mode();
+    uint32_t a = pundaliket_event(m, state.at, n, kind, byte), b = plain_event(m, plain_state.at, n, kind, byte);
     return a == b && same(&state, &plain_state) && guarded(&state);
 }
 
@@ -146,8 +150,9 @@ static int run_agrees(unsigned alignment, const uint8_t *s, size_t sn, const uin
     lend(&plain_replies, 0, room, NULL);
     lend(&report, (alignment * 7 + 2) & 7, rn, NULL);
     lend(&plain_report, 0, rn, NULL);
-    uint32_t a = pundaliket_run(state.at, sn, input.at, n, replies.at, room, report.at, rn);
-    uint32_t b = plain_run(plain_state.at, sn, input.at, n, plain_replies.at, room, plain_report.at, rn);
+    uint32_t m = drawn_mode();
+    uint32_t a = pundaliket_run(m, state.at, sn, input.at, n, replies.at, room, report.at, rn);
+    uint32_t b = plain_run(m, plain_state.at, sn, input.at, n, plain_replies.at, room, plain_report.at, rn);
     return a == b && same(&state, &plain_state) && same(&replies, &plain_replies) && same(&report, &plain_report)
         && guarded(&state) && guarded(&input) && holds(&input, file) && guarded(&replies) && guarded(&report);
 }
@@ -182,6 +187,9 @@ static int comes_back(uint32_t x)
 
 static const uint8_t zeros[PUNDALIKET_LONG_STATE_BYTES];
 
+/* the mode of what is expected */
+static uint32_t mode = PUNDALIKET_AM9511A;
+
 /* runs a file from a state of sn bytes in some room: the refusal, the counts, and the guards */
 static void expect_run_on(const char *what, const uint8_t *s, size_t sn, const uint8_t *file, size_t n, size_t room, uint32_t refusal,
                           size_t taken, const uint8_t *written, size_t count, const uint8_t *left)
@@ -191,7 +199,7 @@ static void expect_run_on(const char *what, const uint8_t *s, size_t sn, const u
         lend(&input, 7 - alignment, n, file);
         lend(&replies, alignment, room, NULL);
         lend(&report, 7 - alignment, PUNDALIKET_REPORT_BYTES, NULL);
-        uint32_t r = pundaliket_run(state.at, state.length, input.at, n, replies.at, room, report.at, report.length);
+        uint32_t r = pundaliket_run(mode, state.at, state.length, input.at, n, replies.at, room, report.at, report.length);
         const uint8_t numbers[PUNDALIKET_REPORT_BYTES] = {
             (uint8_t)refusal, (uint8_t)taken, (uint8_t)(taken >> 8), 0, 0, (uint8_t)count, (uint8_t)(count >> 8), 0, 0,
         };
@@ -293,13 +301,13 @@ static void refusals_of_the_call(void)
         bad[flag] = flag == 17 ? 0x80 : 2;
         expect_run("refusal 13", bad, long_file, sizeof long_file, 64, 13, 0, zeros, 0, bad);
         lend(&state, 1, sizeof bad, bad);
-        check(pundaliket_event(state.at, sizeof bad, 99, 0) == 13 * 256 && holds(&state, bad) && guarded(&state), "event 13", (unsigned)flag);
+        check(pundaliket_event(mode, state.at, sizeof bad, 99, 0) == 13 * 256 && holds(&state, bad) && guarded(&state), "event 13", (unsigned)flag);
     }
     for (size_t n = 0; n < 24; n++) {
         lend(&state, 3, n, NULL);
         lend(&replies, 2, 64, NULL);
         lend(&report, 1, n, NULL);
-        uint32_t r = pundaliket_run(state.at, 0, long_file, sizeof long_file, replies.at, 64, report.at, n);
+        uint32_t r = pundaliket_run(mode, state.at, 0, long_file, sizeof long_file, replies.at, 64, report.at, n);
         int kept = 1;
         for (size_t i = 0; i < n; i++)
             kept = kept && report.at[i] == UNTOUCHED;
@@ -347,7 +355,7 @@ static void expect_event_on(const char *what, const uint8_t *s, size_t sn, uint3
 {
     for (unsigned alignment = 0; alignment < 8; alignment++) {
         lend(&state, alignment, sn, s);
-        uint32_t r = pundaliket_event(state.at, sn, kind, byte);
+        uint32_t r = pundaliket_event(mode, state.at, sn, kind, byte);
         check(r == answer && holds(&state, left) && guarded(&state), what, alignment);
     }
 }
@@ -355,6 +363,40 @@ static void expect_event_on(const char *what, const uint8_t *s, size_t sn, uint3
 static void expect_event(const char *what, const uint8_t *s, uint32_t kind, uint8_t byte, uint32_t answer, const uint8_t *left)
 {
     expect_event_on(what, s, PUNDALIKET_STATE_BYTES, kind, byte, answer, left);
+}
+
+/* the older part's reset, request 6 of 02: what must come is written out here */
+static void older_reset(void)
+{
+    static const uint8_t file[] = { 2, 0, 5, 0, 3, 0, 1, 0, 0xEE, 2, 0, 5, 0, 3, 0, 2, 0, 1, 2, 0, 5, 0 };
+    static const uint8_t written[] = { 3, 0, 133, 0, 0, 3, 0, 129, 0, 0, 3, 0, 133, 0, 0, 4, 0, 130, 0, 0, 1, 3, 0, 133, 0, 0 };
+    static const uint8_t s[] = { 1, 2, 3, 4, 5, 6, 7, 8, 9, 10, 11, 12, 13, 14, 15, 16, 0, 0x23, 1, 0x12, 0x6F };
+    static const uint8_t half[] = { 1, 2, 3, 4, 5, 6, 7, 8, 9, 10, 11, 12, 13, 14, 15, 16, 1, 0x23, 1, 0x12, 0x6F };
+    static const uint8_t kept[] = { 1, 2, 3, 4, 5, 6, 7, 8, 9, 10, 11, 12, 13, 14, 15, 16, 0, 0, 0, 0, 0 };
+    static const uint8_t aligned[] = { 2, 3, 4, 5, 6, 7, 8, 9, 10, 11, 12, 13, 14, 15, 0, 0, 0, 0, 0, 0, 0 };
+    /* all stay; EE pushed, then words A to G, H zero; 1 popped, then words B to H of that, zero */
+    static const uint8_t left[] = { 3, 4, 5, 6, 7, 8, 9, 10, 11, 12, 13, 14, 0, 0, 0, 0, 0, 0, 0, 0, 0 };
+    static const uint32_t none[] = { 2, 3, 255, 256, 257, 0x80000000, 0x80000001, 0xFFFFFFFF };
+    uint8_t bad[PUNDALIKET_STATE_BYTES] = { 0 };
+    bad[PUNDALIKET_AT_PENDING] = 2;
+    mode = PUNDALIKET_AM9511;
+    for (size_t sn = 19; sn <= 21; sn += 2) {
+        expect_event_on("older reset", s, sn, PUNDALIKET_RESET, 0xEE, 0, kept);
+        expect_event_on("older reset, half word", half, sn, PUNDALIKET_RESET, 0xEE, 0, aligned);
+        expect_run_on("older resets", s, sn, file, sizeof file, 64, 0, sizeof file, written, sizeof written, left);
+        expect_run_on("older reset without room", s, sn, file, sizeof file, 4, 8, 0, zeros, 0, s);
+    }
+    expect_event("mode 1, then 13", bad, 99, 0, 13 * 256, bad);
+    for (unsigned k = 0; k < sizeof none / sizeof none[0]; k++) {
+        mode = none[k];
+        expect_event_on("refusal 16", s, 21, PUNDALIKET_RESET, 0, 16 * 256, s);
+        expect_event("refusal 16 before 13", bad, 99, 0, 16 * 256, bad);
+        expect_run_on("refusal 16 of a run", s, 21, file, sizeof file, 64, 16, 0, zeros, 0, s);
+        expect_run("refusal 16 of a run, before 13", bad, file, sizeof file, 64, 16, 0, zeros, 0, bad);
+        lend(&report, 1, 8, NULL);
+        check(pundaliket_run(mode, state.at, 0, file, sizeof file, replies.at, 64, report.at, 8) == 14 && report.at[0] == UNTOUCHED && guarded(&report), "refusal 14 before 16", none[k]);
+    }
+    mode = PUNDALIKET_AM9511A;
 }
 
 static void events_of_each_kind(void)
@@ -512,7 +554,7 @@ static void errors_remembered(void)
         /* the others leave the memory, whatever they do to the 19 bytes before it */
         for (unsigned k = 0; k < sizeof kinds / sizeof kinds[0]; k++) {
             lend(&state, k, 21, s);
-            check(pundaliket_event(state.at, 21, kinds[k], 0xEE) < 256 && state.at[19] == 0x12 && state.at[20] == 0x6F, "memory kept by kind", kinds[k]);
+            check(pundaliket_event(mode, state.at, 21, kinds[k], 0xEE) < 256 && state.at[19] == 0x12 && state.at[20] == 0x6F, "memory kept by kind", kinds[k]);
             check(guarded(&state), "memory kept, guards", kinds[k]);
         }
     }
@@ -596,11 +638,11 @@ static void refusals_of_a_memory(void)
             s[19] = (uint8_t)bits;
             s[20] = (uint8_t)code;
             lend(&state, code & 7, 21, s);
-            uint32_t r = pundaliket_event(state.at, 21, PUNDALIKET_RECALL, 0);
+            uint32_t r = pundaliket_event(mode, state.at, 21, PUNDALIKET_RECALL, 0);
             check(r == (good ? bits : 13 * 256) && holds(&state, s) && guarded(&state), "memory of an event", bits << 8 | code);
             lend(&replies, bits & 7, 6, NULL);
             lend(&report, 0, 9, NULL);
-            r = pundaliket_run(state.at, 21, reads, sizeof reads, replies.at, 6, report.at, 9);
+            r = pundaliket_run(mode, state.at, 21, reads, sizeof reads, replies.at, 6, report.at, 9);
             check(r == (good ? 0 : 13) && holds(&state, s) && guarded(&state) && report.at[0] == r && (replies.at[0] == UNTOUCHED) == !good,
                   "memory of a run", bits << 8 | code);
         }
@@ -743,8 +785,8 @@ static void room_for_replies(void)
         lend(&state, 0, PUNDALIKET_STATE_BYTES, zeros);
         lend(&report, 0, PUNDALIKET_REPORT_BYTES, NULL);
         lend(&replies, 0, most[n], NULL);
-        check(pundaliket_run(state.at, state.length, file, whole, replies.at, most[n], report.at, report.length) == 0, "room enough", (unsigned)n);
-        check(pundaliket_run(state.at, state.length, file, whole, replies.at, most[n] - 1, report.at, report.length) == 8, "room short by a byte", (unsigned)n);
+        check(pundaliket_run(mode, state.at, state.length, file, whole, replies.at, most[n], report.at, report.length) == 0, "room enough", (unsigned)n);
+        check(pundaliket_run(mode, state.at, state.length, file, whole, replies.at, most[n] - 1, report.at, report.length) == 8, "room short by a byte", (unsigned)n);
     }
 }
 
@@ -757,6 +799,7 @@ static uint8_t painted[STACK] __attribute__((aligned(64)));
 static size_t deepest;
 
 /* what the next call is lent */
+static uint32_t lent_mode;
 static uint8_t lent_state[PUNDALIKET_LONG_STATE_BYTES], lent_file[2304], lent_replies[65536], lent_report[PUNDALIKET_REPORT_BYTES], lent_out[4];
 static size_t lent_length, lent_size;
 static uint32_t lent_number;
@@ -764,9 +807,9 @@ static uint8_t lent_byte;
 
 static void call_run(void)
 {
-    pundaliket_run(lent_state, lent_size, lent_file, lent_length, lent_replies, sizeof lent_replies, lent_report, sizeof lent_report);
+    pundaliket_run(lent_mode, lent_state, lent_size, lent_file, lent_length, lent_replies, sizeof lent_replies, lent_report, sizeof lent_report);
 }
-static void call_event(void) { pundaliket_event(lent_state, lent_size, lent_number, lent_byte); }
+static void call_event(void) { pundaliket_event(lent_mode, lent_state, lent_size, lent_number, lent_byte); }
 static void call_word_to_f32(void) { pundaliket_word_to_f32(lent_number, lent_out, sizeof lent_out); }
 static void call_f32_to_word(void) { pundaliket_f32_to_word(lent_number, lent_out, sizeof lent_out); }
 
@@ -790,6 +833,7 @@ static void stack_of_a_call(void)
     for (unsigned i = 0; i < 4096; i++) {
         draw_state(lent_state);
         lent_size = i / 256 % 2 ? 19 : 21;
+        lent_mode = i / 512 % 2;
         lent_number = i % 16 ? 3 : i / 16 % 10;
         lent_byte = (uint8_t)i;
         on_painted_stack(call_event);
@@ -797,6 +841,7 @@ static void stack_of_a_call(void)
     for (unsigned i = 0; i < 512; i++) {
         draw_state(lent_state);
         lent_size = i % 2 ? 19 : 21;
+        lent_mode = i / 2 % 2;
         for (lent_length = 0; lent_length < 2000;)
             lent_length += draw_record(lent_file + lent_length);
         on_painted_stack(call_run);
@@ -816,6 +861,7 @@ int main(void)
     refusals_of_the_call();
     refusals_of_conversions();
     events_of_each_kind();
+    older_reset();
     roots();
     errors_remembered();
     memory_in_a_file();

@@ -7,6 +7,7 @@ use native.Mathlib.Omega.{arith}
 use native.Mathlib.Nat.{not-suc-le-zero}
 use borrow.Author.Tests.{lt-leb, le-leb, lt-ltb, le-ltb}
 use Rattle.terms.specs.declared.Mode.{Mode}
+use Rattle.terms.specs.Settings.{Settings}
 use Rattle.terms.specs.declared.Mode.the-variants.{Am9511A, Am9511}
 use Rattle.terms.specs.declared.Refusal.{Refusal}
 use Rattle.terms.specs.declared.Refusal.the-variants.{Improper, BadState}
@@ -23,7 +24,7 @@ use Rattle.chip.specs.declared.commands.Obeyed.{Obeyed}
 use Rattle.chip.specs.declared.commands.Obeyed.the-variants.{Done, Refused}
 use Rattle.chip.specs.State.{afterReset}
 use Rattle.chip.specs.Commands.{baseRule, outcomeOf, properOperands}
-use Rattle.chip.specs.Step.{done, refused, pushOf, popOf, resetOf, acknowledgeOf, readOf, commandUnder, commandOf, eventOf}
+use Rattle.chip.specs.Step.{done, refused, pushOf, popOf, resetOf, acknowledgeOf, readOf, commandUnder, commandOf, answerTo}
 use Rattle.chip.specs.Place.{held, flipped, Obeys, refusalOf, obeyedAs, Keeps, Commanded, answerObeyed}
 use Rattle.chip.proofs.Answers.{carried-improper, carried-done, command-by}
 use Rattle.chip.proofs.InTurn.{turned, push-done, pop-done}
@@ -70,14 +71,14 @@ module _ (stack : List ℕ) (p : Bool) (t : ℕ) (v : Bool) (h : t < 128) where
   acknowledged-one = rw (lt-leb 128 t h)
 
 -- a busy state is handed back by every event
-pub busy-event : (mode : Mode) (s : State) (e : Event) → 128 ≤ s .status → refused BadState s ≡ eventOf mode s e
+pub busy-event : (on : Settings) (s : State) (e : Event) → 128 ≤ s .status → refused BadState s ≡ answerTo on s e
 unfolding pushOf popOf resetOf acknowledgeOf readOf commandUnder
-busy-event mode s (Push b) h = rw (le-leb 128 (s .status) h)
-busy-event mode s Pop h = rw (le-leb 128 (s .status) h)
-busy-event mode s (CommandEvent code) h = rw (le-leb 128 (s .status) h)
-busy-event mode s Status h = rw (le-leb 128 (s .status) h)
-busy-event mode s Reset h = rw (le-leb 128 (s .status) h)
-busy-event mode s Acknowledge h = rw (le-leb 128 (s .status) h)
+busy-event on s (Push b) h = rw (le-leb 128 (s .status) h)
+busy-event on s Pop h = rw (le-leb 128 (s .status) h)
+busy-event on s (CommandEvent code) h = rw (le-leb 128 (s .status) h)
+busy-event on s Status h = rw (le-leb 128 (s .status) h)
+busy-event on s Reset h = rw (le-leb 128 (s .status) h)
+busy-event on s Acknowledge h = rw (le-leb 128 (s .status) h)
 
 -- ---- a code
 -- a known command with nothing pending is answered as its row says

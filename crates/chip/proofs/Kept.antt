@@ -6,6 +6,7 @@ use Prim.Native.Nat.{ℕ, _%_}
 use Rattle.terms.specs.declared.Mode.{Mode}
 use Rattle.terms.specs.declared.Refusal.the-variants.{Done, BadState}
 use Rattle.terms.specs.declared.Rule.{Rule}
+use Rattle.terms.specs.Settings.{Settings}
 use Rattle.codes.specs.declared.Command.{Command}
 use Rattle.codes.specs.declared.Kind.{Kind}
 use Rattle.codes.specs.declared.Kind.the-variants.{Known, Derived, Unknown}
@@ -15,8 +16,8 @@ use Rattle.chip.specs.declared.Answer.{Answer}
 use Rattle.chip.specs.declared.Event.{Event}
 use Rattle.chip.specs.declared.Event.the-variants.{Push, Pop, Command as CommandEvent, Status, Reset, Acknowledge}
 use Rattle.chip.specs.State.{busy}
-use Rattle.chip.specs.Commands.{baseRule, properOperands}
-use Rattle.chip.specs.Step.{refused, unlessBusy, pushOf, popOf, resetOf, acknowledgeOf, readOf, carried, answerByKind, commandUnder, eventOf}
+use Rattle.chip.specs.Commands.{properOperands}
+use Rattle.chip.specs.Step.{refused, unlessBusy, pushOf, popOf, resetOf, acknowledgeOf, readOf, carried, answerByKind, commandUnder, answerTo}
 
 -- an answer to a state: done, or refused with that state
 abbrev pub Keeps : State → Answer → Type 0
@@ -63,10 +64,10 @@ unfolding commandUnder
 command-keeps rule s code = unless-busy s _ (answer-keeps rule s (sr code) (decoded (code % 128)))
 
 -- every event of the bus
-pub event-keeps : (mode : Mode) (s : State) (e : Event) → Keeps s (eventOf mode s e)
-event-keeps mode s (Push b) = push-keeps s b
-event-keeps mode s Pop = pop-keeps s
-event-keeps mode s (CommandEvent code) = command-keeps baseRule s code
-event-keeps mode s Status = read-keeps s
-event-keeps mode s Reset = reset-keeps mode s
-event-keeps mode s Acknowledge = acknowledge-keeps s
+pub event-keeps : (on : Settings) (s : State) (e : Event) → Keeps s (answerTo on s e)
+event-keeps on s (Push b) = push-keeps s b
+event-keeps on s Pop = pop-keeps s
+event-keeps on s (CommandEvent code) = command-keeps (on .rule) s code
+event-keeps on s Status = read-keeps s
+event-keeps on s Reset = reset-keeps (on .mode) s
+event-keeps on s Acknowledge = acknowledge-keeps s

@@ -8,6 +8,7 @@ use borrow.Author.Tests.{lt-leb}
 use lib.Dec.{lit≤, lit<}
 use Rattle.terms.specs.declared.Mode.{Mode}
 use Rattle.terms.specs.declared.Mode.the-variants.{Am9511A, Am9511}
+use Rattle.terms.specs.declared.Rule.{Rule}
 use Rattle.terms.specs.Refusal.{numberOf}
 use Rattle.stack.specs.Stack.{IsStack}
 use Rattle.stack.proofs.Layouts.{zeros-stack, pushed-stack, rotated-stack, realigned-stack}
@@ -17,8 +18,8 @@ use Rattle.codes.specs.Codes.{sr, decoded}
 use Rattle.chip.specs.declared.State.{State}
 use Rattle.chip.specs.declared.Answer.{Answer}
 use Rattle.chip.specs.State.{busy, keptStack, afterReset}
-use Rattle.chip.specs.Commands.{baseRule, properOperands}
-use Rattle.chip.specs.Step.{pushOf, popOf, readOf, resetOf, acknowledgeOf, carried, answerByKind, commandUnder, commandOf}
+use Rattle.chip.specs.Commands.{properOperands}
+use Rattle.chip.specs.Step.{pushOf, popOf, readOf, resetOf, acknowledgeOf, carried, answerByKind, commandUnder}
 use Rattle.chip.proofs.Kept.{command-keeps}
 use Rattle.chip.proofs.Accepted.{leaves}
 
@@ -77,20 +78,20 @@ picked P false x y p q = q
 abbrev Small : Answer → Type 0
 Small a = numberOf (a .refusal) ≤ 4
 
-by-kind : (s : State) (code : ℕ) (k : Kind) → Small (answerByKind baseRule s (sr code) k)
+by-kind : (rule : Rule) (s : State) (code : ℕ) (k : Kind) → Small (answerByKind rule s (sr code) k)
 unfolding carried
-by-kind s code (Known c) = picked Small (s .pending) _ _ (lit≤ tt) (picked Small (properOperands c (s .stack)) _ _ (lit≤ tt) (lit≤ tt))
-by-kind s code Derived = lit≤ tt
-by-kind s code Unknown = lit≤ tt
+by-kind rule s code (Known c) = picked Small (s .pending) _ _ (lit≤ tt) (picked Small (properOperands c (s .stack)) _ _ (lit≤ tt) (lit≤ tt))
+by-kind rule s code Derived = lit≤ tt
+by-kind rule s code Unknown = lit≤ tt
 
 -- a command of a state that is not busy is answered 0 to 4
-command-small : (s : State) (code : ℕ) → Ready s → Small (commandOf s code)
+command-small : (rule : Rule) (s : State) (code : ℕ) → Ready s → Small (commandUnder rule s code)
 unfolding commandUnder
-command-small s code r = rw (lt-leb 128 (s .status) (r .ready)) (by-kind s code (decoded (code % 128)))
+command-small rule s code r = rw (lt-leb 128 (s .status) (r .ready)) (by-kind rule s code (decoded (code % 128)))
 
-pub command-fair : (s : State) (code : ℕ) → Ready s → Fair (commandOf s code)
-command-fair s code r =
+pub command-fair : (rule : Rule) (s : State) (code : ℕ) → Ready s → Fair (commandUnder rule s code)
+command-fair rule s code r =
     ⊎-elim
-    (λ d. let l = leaves baseRule s code (r .stack) d in record { left = record { stack = l .stack; ready = l .not-busy }; small = command-small s code r })
-    (λ e. record { left = subst (λ (a : Answer). Ready (a .state)) (sym e) r; small = command-small s code r })
-    (command-keeps baseRule s code)
+    (λ d. let l = leaves rule s code (r .stack) d in record { left = record { stack = l .stack; ready = l .not-busy }; small = command-small rule s code r })
+    (λ e. record { left = subst (λ (a : Answer). Ready (a .state)) (sym e) r; small = command-small rule s code r })
+    (command-keeps rule s code)

@@ -8,13 +8,13 @@ use native.Mathlib.Omega.{arith}
 use lib.Bits.{bitOr, or-lt, or-step, or-add-and, and-le-r}
 use lib.Dec.{eqb, ltb, lit≤}
 use borrow.Author.Tests.{le-ltb, ltb-false, ne-eqb, eqb-true, eqb-false, not-true, lt-leb}
-use Rattle.terms.specs.declared.Mode.the-variants.{Am9511A}
 use Rattle.terms.specs.declared.Refusal.the-variants.{Done}
 use Rattle.terms.specs.Refusal.{numberOf}
+use Rattle.terms.specs.Settings.{Settings}
 use Rattle.chip.specs.declared.State.{State}
 use Rattle.chip.specs.declared.Event.{Event as ChipEvent}
 use Rattle.chip.specs.declared.Event.the-variants.{Push, Pop, Command, Status, Reset, Acknowledge}
-use Rattle.chip.specs.Step.{commandOf, eventOf}
+use Rattle.chip.specs.Step.{commandUnder, answerTo}
 use Rattle.chip.proofs.Ready.{Ready, Fair, push-fair, pop-fair, read-fair, reset-fair, acknowledge-fair, command-fair}
 use Rattle.memory.specs.declared.Memory.{Memory}
 use Rattle.memory.specs.declared.Event.{Event}
@@ -104,32 +104,32 @@ module _ (m : Memory) (code status : ℕ) where
 
 -- ---- every event
 -- of the chip
-chip-good : (s : State) (m : Memory) (e : ChipEvent) → GoodMemory m → GoodMemory (keptAfter m e (eventOf Am9511A s e))
-chip-good s m (Push b) h = h
-chip-good s m Pop h = h
-chip-good s m (Command code) h = by (accepted (commandOf s code)) refl
+chip-good : (on : Settings) (s : State) (m : Memory) (e : ChipEvent) → GoodMemory m → GoodMemory (keptAfter m e (answerTo on s e))
+chip-good on s m (Push b) h = h
+chip-good on s m Pop h = h
+chip-good on s m (Command code) h = by (accepted (commandUnder (on .rule) s code)) refl
   where
-    by : (x : Bool) → accepted (commandOf s code) ≡ x → GoodMemory (cond x (remembered m code (commandOf s code .state .status)) m)
+    by : (x : Bool) → accepted (commandUnder (on .rule) s code) ≡ x → GoodMemory (cond x (remembered m code (commandUnder (on .rule) s code .state .status)) m)
     by true e = record {
-      stands = remembered-stands m code (commandOf s code .state .status) (h .stands)
-          (λ some z. some (ap errorsOf (nop-clear s code (done-of (commandOf s code .refusal) (eqb-true _ _ e)) z)));
-      code-byte = remembered-byte m code (commandOf s code .state .status) (h .code-byte);
+      stands = remembered-stands m code (commandUnder (on .rule) s code .state .status) (h .stands)
+          (λ some z. some (ap errorsOf (nop-clear (on .rule) s code (done-of (commandUnder (on .rule) s code .refusal) (eqb-true _ _ e)) z)));
+      code-byte = remembered-byte m code (commandUnder (on .rule) s code .state .status) (h .code-byte);
     }
     by false e = h
-chip-good s m Status h = h
-chip-good s m Reset h = by (accepted (eventOf Am9511A s Reset))
+chip-good on s m Status h = h
+chip-good on s m Reset h = by (accepted (answerTo on s Reset))
   where
     by : (x : Bool) → GoodMemory (cond x emptyMemory m)
     by true = empty-good
     by false = h
-chip-good s m Acknowledge h = h
+chip-good on s m Acknowledge h = h
 
 -- of a chip with its memory
 pub memory-stays-good : (c : Card) (e : Event) → GoodMemory (c .memory) → GoodMemory (eventIn c e .card .memory)
-memory-stays-good c (Chip e) h = chip-good (c .chip) (c .memory) e h
+memory-stays-good c (Chip e) h = chip-good (c .on) (c .chip) (c .memory) e h
 memory-stays-good c Recall h = either-way (λ (a : CardAnswer). GoodMemory (a .card .memory)) c (record { refusal = Done; byte = c .memory .bits; card = c }) h h
 memory-stays-good c Forget h =
-    either-way (λ (a : CardAnswer). GoodMemory (a .card .memory)) c (record { refusal = Done; byte = 0; card = record { chip = c .chip; memory = emptyMemory } }) h empty-good
+    either-way (λ (a : CardAnswer). GoodMemory (a .card .memory)) c (record { refusal = Done; byte = 0; card = cardWith (c .on) (c .chip) emptyMemory }) h empty-good
 
 pub memory-stays-good-all : (c : Card) (es : List Event) → GoodMemory (c .memory) → GoodMemory (afterAll c es .memory)
 memory-stays-good-all c [] h = h
@@ -156,18 +156,18 @@ Sendable (Chip Acknowledge) = Unit
 Sendable Recall = Unit
 Sendable Forget = Unit
 
-chip-fair : (s : State) (e : ChipEvent) → Ready s → Sendable (Chip e) → Fair (eventOf Am9511A s e)
-chip-fair s (Push b) r h = push-fair s r b h
-chip-fair s Pop r h = pop-fair s r
-chip-fair s (Command code) r h = command-fair s code r
-chip-fair s Status r h = read-fair s r
-chip-fair s Reset r h = reset-fair s r Am9511A
-chip-fair s Acknowledge r h = acknowledge-fair s r
+chip-fair : (on : Settings) (s : State) (e : ChipEvent) → Ready s → Sendable (Chip e) → Fair (answerTo on s e)
+chip-fair on s (Push b) r h = push-fair s r b h
+chip-fair on s Pop r h = pop-fair s r
+chip-fair on s (Command code) r h = command-fair (on .rule) s code r
+chip-fair on s Status r h = read-fair s r
+chip-fair on s Reset r h = reset-fair s r (on .mode)
+chip-fair on s Acknowledge r h = acknowledge-fair s r
 
 pub event-fair : (c : Card) (e : Event) → ReadyCard c → Sendable e → FairCard (eventIn c e)
 event-fair c (Chip e) r h =
-    let f = chip-fair (c .chip) e (r .chip) h in
-    record { left = record { chip = f .left; memory = chip-good (c .chip) (c .memory) e (r .memory) }; small = f .small }
+    let f = chip-fair (c .on) (c .chip) e (r .chip) h in
+    record { left = record { chip = f .left; memory = chip-good (c .on) (c .chip) (c .memory) e (r .memory) }; small = f .small }
 event-fair c Recall r h = rw (lt-leb 128 (c .chip .status) (r .chip .ready)) record { left = r; small = lit≤ tt }
 event-fair c Forget r h = rw (lt-leb 128 (c .chip .status) (r .chip .ready)) record { left = record { chip = r .chip; memory = empty-good }; small = lit≤ tt }
 
@@ -176,5 +176,5 @@ module _ (c : Card) (h : c .chip .status < 128) where
   pub recalled : record { refusal = Done; byte = c .memory .bits; card = c } ≡ eventIn c Recall
   recalled = rw (lt-leb 128 (c .chip .status) h)
 
-  pub forgotten : record { refusal = Done; byte = 0; card = cardWith (c .chip) emptyMemory } ≡ eventIn c Forget
+  pub forgotten : record { refusal = Done; byte = 0; card = cardWith (c .on) (c .chip) emptyMemory } ≡ eventIn c Forget
   forgotten = rw (lt-leb 128 (c .chip .status) h)

@@ -7,10 +7,11 @@ use native.Mathlib.Omega.{arith}
 use lib.Bits.{bitOr}
 use lib.Dec.{eqb}
 use borrow.Author.Tests.{ne-eqb, eqb-true, eqb-false}
-use Rattle.terms.specs.declared.Mode.the-variants.{Am9511A}
 use Rattle.terms.specs.declared.Refusal.{Refusal}
-use Rattle.terms.specs.declared.Refusal.the-variants.{Done, UnknownCode, DerivedCode, HalfWord, Improper, NoSuchKind, CutShort, BadLength, NoRoom, InputTooLong, NotFinite, TooLarge, TooSmall, BadState, BadReport, MinusZero}
+use Rattle.terms.specs.declared.Refusal.the-variants.{Done, UnknownCode, DerivedCode, HalfWord, Improper, NoSuchKind, CutShort, BadLength, NoRoom, InputTooLong, NotFinite, TooLarge, TooSmall, BadState, BadReport, MinusZero, BadMode}
 use Rattle.terms.specs.Refusal.{numberOf}
+use Rattle.terms.specs.declared.Rule.{Rule}
+use Rattle.terms.specs.Settings.{Settings}
 use Rattle.codes.specs.declared.Kind.{Kind}
 use Rattle.codes.specs.declared.Kind.the-variants.{Known, Derived, Unknown}
 use Rattle.codes.specs.declared.Command.the-variants.{Nop}
@@ -20,13 +21,13 @@ use Rattle.chip.specs.declared.Answer.{Answer}
 use Rattle.chip.specs.declared.Event.{Event as ChipEvent}
 use Rattle.chip.specs.declared.Event.the-variants.{Push, Pop, Command, Status, Reset, Acknowledge}
 use Rattle.chip.specs.State.{busy}
-use Rattle.chip.specs.Commands.{baseRule, outcomeOf}
-use Rattle.chip.specs.Step.{commandOf, eventOf}
+use Rattle.chip.specs.Commands.{outcomeOf}
+use Rattle.chip.specs.Step.{commandUnder, answerTo}
 use Rattle.chip.proofs.Accepted.{accepted as accepted-by}
 use Rattle.memory.specs.declared.Memory.{Memory}
 use Rattle.memory.specs.declared.Event.{Event}
 use Rattle.memory.specs.declared.Event.the-variants.{Chip, Recall, Forget}
-use Rattle.memory.specs.Memory.{emptyMemory, errorsOf, firstCode, remembered, accepted, Card, CardAnswer, keptAfter, eventIn}
+use Rattle.memory.specs.Memory.{emptyMemory, errorsOf, firstCode, remembered, accepted, Card, CardAnswer, cardWith, keptAfter, eventIn}
 use Rattle.memory.specs.History.{Told, History, joinedBits, firstOf, memoryOf, from, told, chipTells, tells, afterAll, historyOf}
 
 -- ---- a command that leaves an error is not NOP, so that its code is not 0
@@ -48,22 +49,23 @@ done-of TooSmall e = let y : ⊥ = omega arith in absurd y
 done-of BadState e = let y : ⊥ = omega arith in absurd y
 done-of BadReport e = let y : ⊥ = omega arith in absurd y
 done-of MinusZero e = let y : ⊥ = omega arith in absurd y
+done-of BadMode e = let y : ⊥ = omega arith in absurd y
 
 -- the status that a code's command leaves
-abbrev statusBy : Kind → List ℕ → ℕ
-statusBy (Known k) s = outcomeOf baseRule k s .status
-statusBy Derived s = 0
-statusBy Unknown s = 0
+abbrev statusBy : Rule → Kind → List ℕ → ℕ
+statusBy rule (Known k) s = outcomeOf rule k s .status
+statusBy rule Derived s = 0
+statusBy rule Unknown s = 0
 
 code-0 : decoded 0 ≡ Known Nop
 unfolding decoded
 code-0 = refl
 
-pub nop-clear : (s : State) (code : ℕ) → commandOf s code .refusal ≡ Done → code % 128 ≡ 0 → commandOf s code .state .status ≡ 0
-nop-clear s code d z =
-    let a = accepted-by baseRule s code d in
+pub nop-clear : (rule : Rule) (s : State) (code : ℕ) → commandUnder rule s code .refusal ≡ Done → code % 128 ≡ 0 → commandUnder rule s code .state .status ≡ 0
+nop-clear rule s code d z =
+    let a = accepted-by rule s code d in
     ap (λ (x : Answer). x .state .status) (a .answer)
-    ∙ ap (λ (k : Kind). statusBy k (s .stack)) (sym (a .known) ∙ ap decoded z ∙ code-0)
+    ∙ ap (λ (k : Kind). statusBy rule k (s .stack)) (sym (a .known) ∙ ap decoded z ∙ code-0)
 
 -- ---- histories whose commands that left an error have a code
 abbrev Coded : List Told → Type 0
@@ -114,14 +116,14 @@ starts m = record { says = by (eqb (m .code) 0) refl; coded = tt }
     by false e = rw e
 
 -- an accepted command
-command-agrees : (s : State) (code : ℕ) (m : Memory) (h : History) → Agrees m h → Agrees (keptAfter m (Command code) (commandOf s code)) (chipTells (Command code) (commandOf s code) h)
-command-agrees s code m h g = by (accepted (commandOf s code)) refl
+command-agrees : (rule : Rule) (s : State) (code : ℕ) (m : Memory) (h : History) → Agrees m h → Agrees (keptAfter m (Command code) (commandUnder rule s code)) (chipTells (Command code) (commandUnder rule s code) h)
+command-agrees rule s code m h g = by (accepted (commandUnder rule s code)) refl
   where
-    by : (x : Bool) → accepted (commandOf s code) ≡ x → Agrees (cond x (remembered m code (commandOf s code .state .status)) m) (cond x (told h code (commandOf s code .state .status)) h)
+    by : (x : Bool) → accepted (commandUnder rule s code) ≡ x → Agrees (cond x (remembered m code (commandUnder rule s code .state .status)) m) (cond x (told h code (commandUnder rule s code .state .status)) h)
     by true e = record {
-      says = ap (λ (n : Memory). remembered n code (commandOf s code .state .status)) (g .says) ∙ told-more h code (commandOf s code .state .status) (g .coded);
-      coded = coded-more (h .since) code (commandOf s code .state .status) (g .coded)
-          (λ some z. some (ap errorsOf (nop-clear s code (done-of (commandOf s code .refusal) (eqb-true _ _ e)) z)));
+      says = ap (λ (n : Memory). remembered n code (commandUnder rule s code .state .status)) (g .says) ∙ told-more h code (commandUnder rule s code .state .status) (g .coded);
+      coded = coded-more (h .since) code (commandUnder rule s code .state .status) (g .coded)
+          (λ some z. some (ap errorsOf (nop-clear rule s code (done-of (commandUnder rule s code .refusal) (eqb-true _ _ e)) z)));
     }
     by false e = g
 
@@ -132,16 +134,16 @@ reset-agrees a m h g = by (accepted a)
     by true = starts emptyMemory
     by false = g
 
-chip-agrees : (s : State) (e : ChipEvent) (m : Memory) (h : History) → Agrees m h → Agrees (keptAfter m e (eventOf Am9511A s e)) (chipTells e (eventOf Am9511A s e) h)
-chip-agrees s (Push b) m h g = g
-chip-agrees s Pop m h g = g
-chip-agrees s (Command code) m h g = command-agrees s code m h g
-chip-agrees s Status m h g = g
-chip-agrees s Reset m h g = reset-agrees (eventOf Am9511A s Reset) m h g
-chip-agrees s Acknowledge m h g = g
+chip-agrees : (on : Settings) (s : State) (e : ChipEvent) (m : Memory) (h : History) → Agrees m h → Agrees (keptAfter m e (answerTo on s e)) (chipTells e (answerTo on s e) h)
+chip-agrees on s (Push b) m h g = g
+chip-agrees on s Pop m h g = g
+chip-agrees on s (Command code) m h g = command-agrees (on .rule) s code m h g
+chip-agrees on s Status m h g = g
+chip-agrees on s Reset m h g = reset-agrees (answerTo on s Reset) m h g
+chip-agrees on s Acknowledge m h g = g
 
 event-agrees : (c : Card) (e : Event) (h : History) → Agrees (c .memory) h → Agrees (eventIn c e .card .memory) (tells c e h)
-event-agrees c (Chip e) h g = chip-agrees (c .chip) e (c .memory) h g
+event-agrees c (Chip e) h g = chip-agrees (c .on) (c .chip) e (c .memory) h g
 event-agrees c Recall h g = by (busy (c .chip))
   where
     by : (x : Bool) → Agrees (cond {A = CardAnswer} x (record { refusal = BadState; byte = 0; card = c }) (record { refusal = Done; byte = c .memory .bits; card = c }) .card .memory) h
@@ -149,7 +151,7 @@ event-agrees c Recall h g = by (busy (c .chip))
     by false = g
 event-agrees c Forget h g = by (busy (c .chip))
   where
-    by : (x : Bool) → Agrees (cond {A = CardAnswer} x (record { refusal = BadState; byte = 0; card = c }) (record { refusal = Done; byte = 0; card = record { chip = c .chip; memory = emptyMemory } }) .card .memory) (cond x h (from emptyMemory))
+    by : (x : Bool) → Agrees (cond {A = CardAnswer} x (record { refusal = BadState; byte = 0; card = c }) (record { refusal = Done; byte = 0; card = cardWith (c .on) (c .chip) emptyMemory }) .card .memory) (cond x h (from emptyMemory))
     by true = g
     by false = starts emptyMemory
 

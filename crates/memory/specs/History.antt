@@ -4,12 +4,11 @@ use mathlib.Core.Bool.{cond}
 use mathlib.Core.List.{List, [], _∷_, _++_}
 use lib.Bits.{bitOr}
 use lib.Dec.{eqb}
-use Rattle.terms.specs.declared.Mode.the-variants.{Am9511A}
 use Rattle.chip.specs.declared.Answer.{Answer}
 use Rattle.chip.specs.declared.Event.{Event as ChipEvent}
 use Rattle.chip.specs.declared.Event.the-variants.{Push, Pop, Command, Status, Reset, Acknowledge}
 use Rattle.chip.specs.State.{busy}
-use Rattle.chip.specs.Step.{eventOf}
+use Rattle.chip.specs.Step.{answerTo}
 use Rattle.memory.specs.declared.Memory.{Memory}
 use Rattle.memory.specs.declared.Event.{Event}
 use Rattle.memory.specs.declared.Event.the-variants.{Chip, Recall, Forget}
@@ -61,7 +60,7 @@ chipTells Reset a h = cond (accepted a) (from emptyMemory) h
 chipTells Acknowledge a h = h
 
 abbrev pub tells : Card → Event → History → History
-tells c (Chip e) h = chipTells e (eventOf Am9511A (c .chip) e) h
+tells c (Chip e) h = chipTells e (answerTo (c .on) (c .chip) e) h
 tells c Recall h = h
 tells c Forget h = cond (busy (c .chip)) h (from emptyMemory)
 

@@ -3,16 +3,16 @@ use Prim.Native.Nat.{ℕ, _*_, _/_, _%_}
 use mathlib.Core.Bool.{Bool, false, cond, not}
 use lib.Bits.{bitOr}
 use lib.Dec.{eqb, ltb}
-use Rattle.terms.specs.declared.Mode.the-variants.{Am9511A}
 use Rattle.terms.specs.declared.Refusal.{Refusal}
 use Rattle.terms.specs.declared.Refusal.the-variants.{Done, BadState}
 use Rattle.terms.specs.Refusal.{numberOf}
+use Rattle.terms.specs.Settings.{Settings}
 use Rattle.chip.specs.declared.State.{State}
 use Rattle.chip.specs.declared.Answer.{Answer}
 use Rattle.chip.specs.declared.Event.{Event as ChipEvent}
 use Rattle.chip.specs.declared.Event.the-variants.{Push, Pop, Command, Status, Reset, Acknowledge}
 use Rattle.chip.specs.State.{busy}
-use Rattle.chip.specs.Step.{eventOf}
+use Rattle.chip.specs.Step.{answerTo}
 use Rattle.memory.specs.declared.Memory.{Memory}
 use Rattle.memory.specs.declared.Event.{Event}
 use Rattle.memory.specs.declared.Event.the-variants.{Chip, Recall, Forget}
@@ -37,13 +37,14 @@ remembered m code status = record { bits = bitOr (m .bits) (errorsOf status); co
 abbrev pub isMemory : ℕ → ℕ → Bool
 isMemory bits code = cond (ltb 30 bits) false (cond (eqb (bits % 2) 1) false (cond (eqb bits 0) (eqb code 0) (not (eqb code 0))))
 
--- ---- a chip with its memory, as they stand on the card
+-- ---- a chip with its memory, as they stand on the card, and the settings that its call was given: no event changes them, no state holds them
 pub record Card : Type 0 where
+  pub on : Settings
   pub chip : State
   pub memory : Memory
 
-abbrev pub cardWith : State → Memory → Card
-cardWith s m = record { chip = s; memory = m }
+abbrev pub cardWith : Settings → State → Memory → Card
+cardWith on s m = record { on = on; chip = s; memory = m }
 
 -- what an event answers: the refusal, the byte read, and both afterwards
 pub record CardAnswer : Type 0 where
@@ -68,18 +69,18 @@ abbrev pub accepted : Answer → Bool
 accepted a = eqb (numberOf (a .refusal)) 0
 
 -- an answer of the chip's, with what is remembered after it
-abbrev pub around : Memory → Answer → CardAnswer
-around m a = record { refusal = a .refusal; byte = a .byte; card = cardWith (a .state) m }
+abbrev pub around : Settings → Memory → Answer → CardAnswer
+around on m a = record { refusal = a .refusal; byte = a .byte; card = cardWith on (a .state) m }
 
 -- an event of the chip, answered as by the chip alone
-abbrev pub answerWith : Memory → ChipEvent → Answer → CardAnswer
-answerWith m e a = around (keptAfter m e a) a
+abbrev pub answerWith : Settings → Memory → ChipEvent → Answer → CardAnswer
+answerWith on m e a = around on (keptAfter m e a) a
 
 -- 13 first; the memory read hands out its bits, the memory cleared touches nothing else
 abbrev pub unlessBusy : Card → CardAnswer → CardAnswer
 unlessBusy c answer = cond (busy (c .chip)) (record { refusal = BadState; byte = 0; card = c }) answer
 
 abbrev pub eventIn : Card → Event → CardAnswer
-eventIn c (Chip e) = answerWith (c .memory) e (eventOf Am9511A (c .chip) e)
+eventIn c (Chip e) = answerWith (c .on) (c .memory) e (answerTo (c .on) (c .chip) e)
 eventIn c Recall = unlessBusy c (record { refusal = Done; byte = c .memory .bits; card = c })
-eventIn c Forget = unlessBusy c (record { refusal = Done; byte = 0; card = cardWith (c .chip) emptyMemory })
+eventIn c Forget = unlessBusy c (record { refusal = Done; byte = 0; card = cardWith (c .on) (c .chip) emptyMemory })

@@ -1,5 +1,8 @@
-// What stands beside a stack that is worked where it lies: the chip's flags and the two bytes of the memory.
+use terms::Mode;
+
+// What stands beside a stack that is worked where it lies: the mode of the call, the chip's flags and the two bytes of the memory.
 pub struct Rest {
+    pub mode: Mode,
     pub pending: bool,
     pub status: u8,
     pub service: bool,

@@ -10,7 +10,7 @@ use native.Mathlib.Omega.{arith}
 use borrow.Author.Tests.{lt-leb, eq-eqb, eqb-true}
 use lib.Dec.{eqb, lit<}
 use lib.ListN.{length, take, getD}
-use Rattle.terms.specs.declared.Mode.the-variants.{Am9511A}
+use Rattle.terms.specs.Settings.{Settings, modeOf}
 use Rattle.terms.specs.declared.Refusal.{Refusal}
 use Rattle.terms.specs.declared.Refusal.the-variants.{BadState}
 use Rattle.terms.specs.Refusal.{numberOf}
@@ -25,7 +25,7 @@ use Rattle.chip.specs.declared.Event.the-variants.{Push, Pop, Command, Status, 
 use Rattle.chip.specs.State.{busy, moved}
 use Rattle.chip.specs.Status.{errorOf}
 use Rattle.chip.specs.Commands.{baseRule}
-use Rattle.chip.specs.Step.{done, refused, pushOf, commandOf, answerTo, under}
+use Rattle.chip.specs.Step.{done, refused, pushOf, commandUnder, answerTo}
 use Rattle.chip.specs.Events.{afterEvents, answered, pushesOf, leavesClear, quiet}
 use Rattle.chip.proofs.Rows.{both-of}
 use Rattle.files.proofs.Tests.{either-eq}
@@ -33,11 +33,14 @@ use Rattle.memory.specs.declared.Event.{Event}
 use Rattle.memory.specs.declared.Event.the-variants.{Chip, Recall, Forget}
 use Rattle.memory.specs.Memory.{emptyMemory, Card, CardAnswer, cardWith, eventIn}
 use Rattle.memory.specs.History.{afterAll}
-use Rattle.memory.proofs.Kept.{chip-alone, event-alike, refused-leaves}
+use Rattle.memory.proofs.Kept.{settings-stay, chip-alone, event-alike, refused-leaves}
 use Rattle.memory.proofs.Good.{ReadyCard, event-fair, Sendable as Sends}
 use Rattle.stored.specs.Bytes.{isState, stateOf, cardIn, laidOut}
 use Rattle.stored.proofs.Cards.{behind, laid-is, card-returns, card-ready, laid-at, laid-length, card-short, card-long, laid-state, laid-bytes}
-use Rattle.pundaliket.specs.Calls.{Signal, signalBy, signalOf, answerToKind, joinedOf}
+use Rattle.stored.proofs.States.{state-ready}
+use Rattle.pundaliket.specs.Calls.{Signal, signalBy, signalUnder, answerToKind, joinedOf}
+use Rattle.pundaliket.proofs.Calling.{event-chosen}
+use Rattle.promises.specs.Given.{Given, Chosen, settingsIn, eventCall}
 use Rattle.promises.specs.Chains.{Step, Add, Subtract, Multiply, Divide, TakeFrom, Change, given, eventsOf, commandsIn, chainOf, Constants, wordAfter, Run, Starts, resultOf, Quiet, runEvents}
 use Rattle.promises.specs.Cores.{Core, Meets, kindNumber, byteOf, onBus, driven, returned, answersOf, NoRecall, Keeps, Sendable, allZero, clearAfter, drivenQuietly, Begins, busRun, wordLeft, Cores}
 use Rattle.promises.proofs.Kept.{good-states, command-byte}
@@ -105,7 +108,7 @@ abbrev signalFor : ℕ → CardAnswer → Signal
 signalFor n a = record { result = joinedOf (numberOf (a .refusal)) (a .byte); state = laidOut n (a .card) }
 
 -- the bytes of a card, read as x
-module _ (n : ℕ) (k x : Card) (good : isState (laidOut n k) ≡ true) (size : length (laidOut n k) ≡ n) (read : cardIn (laidOut n k) ≡ x) (same : laidOut n k ≡ laidOut n x) where
+module _ (n : ℕ) (k x : Card) (good : isState (laidOut n k) ≡ true) (size : length (laidOut n k) ≡ n) (read : cardIn (k .on) (laidOut n k) ≡ x) (same : laidOut n k ≡ laidOut n x) where
   kept : (e : Event) → cond (eqb (numberOf (eventIn x e .refusal)) 0) (laidOut n (eventIn x e .card)) (laidOut n k) ≡ laidOut n (eventIn x e .card)
   kept e =
       either-eq (λ (l : List ℕ). l ≡ laidOut n (eventIn x e .card)) (numberOf (eventIn x e .refusal)) 0 _ _ (λ z. refl) (λ z. same ∙ ap (laidOut n) (sym (refused-leaves x e z)))
@@ -116,29 +119,40 @@ module _ (n : ℕ) (k x : Card) (good : isState (laidOut n k) ≡ true) (size : 
   abbrev signalWith : ℕ → Event → Signal
   signalWith m e = signalled (cond (eqb (numberOf (eventIn x e .refusal)) 0) (laidOut m (eventIn x e .card)) (laidOut n k)) e
 
-  signal-is : (e : Event) → signalOf (laidOut n k) (kindNumber e) (byteOf e) ≡ signalFor n (eventIn x e)
-  unfolding signalOf
+  signal-is : (e : Event) → signalUnder (k .on) (laidOut n k) (kindNumber e) (byteOf e) ≡ signalFor n (eventIn x e)
   signal-is e =
-      ap (λ (t : Bool). cond t (signalBy (laidOut n k) (answerToKind (cardIn (laidOut n k)) (kindNumber e) (byteOf e))) (record { result = joinedOf 13 0; state = laidOut n k })) good
+      ap (λ (t : Bool). cond t (signalBy (laidOut n k) (answerToKind (cardIn (k .on) (laidOut n k)) (kindNumber e) (byteOf e))) (record { result = joinedOf 13 0; state = laidOut n k })) good
       ∙ ap (λ (y : Card). signalBy (laidOut n k) (answerToKind y (kindNumber e) (byteOf e))) read
       ∙ ap (signalBy (laidOut n k)) (answer-is x e)
       ∙ ap (λ (m : ℕ). signalWith m e) size
       ∙ ap (λ (l : List ℕ). signalled l e) (kept e)
 
 -- with its memory it is the card's answer
-long-signal : (k : Card) → ReadyCard k → (e : Event) → signalOf (laidOut 21 k) (kindNumber e) (byteOf e) ≡ signalFor 21 (eventIn k e)
+long-signal : (k : Card) → ReadyCard k → (e : Event) → signalUnder (k .on) (laidOut 21 k) (kindNumber e) (byteOf e) ≡ signalFor 21 (eventIn k e)
 long-signal k r e =
     let S = r .chip .stack .sixteen in
     signal-is 21 k k (laid-state k r 21 (inr refl)) (laid-length k S 21 (inr refl)) (card-long k S) refl e
 
 -- without, that of the card whose memory is empty, which leaves the same 19 bytes
-short-signal : (k : Card) → ReadyCard k → (e : Event) → signalOf (laidOut 19 k) (kindNumber e) (byteOf e) ≡ signalFor 19 (eventIn (cardWith (k .chip) emptyMemory) e)
+short-signal : (k : Card) → ReadyCard k → (e : Event) → signalUnder (k .on) (laidOut 19 k) (kindNumber e) (byteOf e) ≡ signalFor 19 (eventIn (cardWith (k .on) (k .chip) emptyMemory) e)
 short-signal k r e =
     let S = r .chip .stack .sixteen in
-    signal-is 19 k (cardWith (k .chip) emptyMemory) (laid-state k r 19 (inl refl)) (laid-length k S 19 (inl refl)) (card-short k S) refl e
+    signal-is 19 k (cardWith (k .on) (k .chip) emptyMemory) (laid-state k r 19 (inl refl)) (laid-length k S 19 (inl refl)) (card-short k S) refl e
 
 -- ---- events in turn
-module _ (c : Core) (M : Meets c) where
+-- a card that 13 does not turn away, under the settings that the numbers set
+pub record Serves (g : Given) (k : Card) : Type 0 where
+  pub good : ReadyCard k
+  pub set : k .on ≡ settingsIn g
+
+pub still-serves : (g : Given) (k : Card) (e : Event) → Serves g k → byteOf e < 256 → Serves g ((eventIn k e) .card)
+still-serves g k e r h = record { good = leaves-good k e (r .good) h; set = settings-stay k e ∙ r .set }
+
+module _ (g : Given) (C : Chosen g) (c : Core) (M : Meets g c) where
+  -- the call's definition on the bytes of a card
+  called : (n : ℕ) (k : Card) (e : Event) → Serves g k → eventCall g (laidOut n k) (kindNumber e) (byteOf e) ≡ signalUnder (k .on) (laidOut n k) (kindNumber e) (byteOf e)
+  called n k e r = event-chosen (g .mode) (laidOut n k) (kindNumber e) (byteOf e) (C .mode) ∙ ap (λ (on : Settings). signalUnder on (laidOut n k) (kindNumber e) (byteOf e)) (sym (r .set))
+
   -- the state and the number that its contract gives a core
   abbrev StateTold : ℕ → Card → Event → Type 0
   StateTold n k e = (c .event (laidOut n k) (kindNumber e) (byteOf e)) .state ≡ laidOut n ((eventIn k e) .card)
@@ -146,31 +160,31 @@ module _ (c : Core) (M : Meets c) where
   abbrev NumberTold : ℕ → Card → Event → Type 0
   NumberTold n k e = (c .event (laidOut n k) (kindNumber e) (byteOf e)) .result ≡ joinedOf (numberOf ((eventIn k e) .refusal)) ((eventIn k e) .byte)
 
-  pub state-told : (n : ℕ) → (n ≡ 19) ⊎ (n ≡ 21) → (k : Card) (e : Event) → ReadyCard k → byteOf e < 256 → StateTold n k e
+  pub state-told : (n : ℕ) → (n ≡ 19) ⊎ (n ≡ 21) → (k : Card) (e : Event) → Serves g k → byteOf e < 256 → StateTold n k e
   state-told n h k e r b =
       ⊎-elim
       (λ a. subst (λ (m : ℕ). StateTold m k e) (sym a)
-      (M .event (laidOut 19 k) (kindNumber e) (byteOf e) (laid-bytes k r 19) (kind-small e) b .state-is
-      ∙ ap (λ (x : Signal). x .state) (short-signal k r e)
-      ∙ ap (λ (s : State). laidOut 19 (cardWith s emptyMemory)) (event-alike (cardWith (k .chip) emptyMemory) k e refl .chip-same)))
+      (M .event (laidOut 19 k) (kindNumber e) (byteOf e) (laid-bytes k (r .good) 19) (kind-small e) b .state-is
+      ∙ ap (λ (x : Signal). x .state) (called 19 k e r ∙ short-signal k (r .good) e)
+      ∙ ap (λ (s : State). laidOut 19 (cardWith (k .on) s emptyMemory)) (event-alike (cardWith (k .on) (k .chip) emptyMemory) k e refl refl .chip-same)))
       (λ a. subst (λ (m : ℕ). StateTold m k e) (sym a)
-      (M .event (laidOut 21 k) (kindNumber e) (byteOf e) (laid-bytes k r 21) (kind-small e) b .state-is ∙ ap (λ (x : Signal). x .state) (long-signal k r e)))
+      (M .event (laidOut 21 k) (kindNumber e) (byteOf e) (laid-bytes k (r .good) 21) (kind-small e) b .state-is ∙ ap (λ (x : Signal). x .state) (called 21 k e r ∙ long-signal k (r .good) e)))
       h
 
-  pub number-long : (k : Card) (e : Event) → ReadyCard k → byteOf e < 256 → NumberTold 21 k e
-  number-long k e r b = M .event (laidOut 21 k) (kindNumber e) (byteOf e) (laid-bytes k r 21) (kind-small e) b .result-is ∙ ap (λ (x : Signal). x .result) (long-signal k r e)
+  pub number-long : (k : Card) (e : Event) → Serves g k → byteOf e < 256 → NumberTold 21 k e
+  number-long k e r b = M .event (laidOut 21 k) (kindNumber e) (byteOf e) (laid-bytes k (r .good) 21) (kind-small e) b .result-is ∙ ap (λ (x : Signal). x .result) (called 21 k e r ∙ long-signal k (r .good) e)
 
-  number-short : (k : Card) (e : Event) → ReadyCard k → byteOf e < 256 → (e ≡ Recall → ⊥) → NumberTold 19 k e
+  number-short : (k : Card) (e : Event) → Serves g k → byteOf e < 256 → (e ≡ Recall → ⊥) → NumberTold 19 k e
   number-short k e r b o =
-      let s = event-alike (cardWith (k .chip) emptyMemory) k e refl in
-      M .event (laidOut 19 k) (kindNumber e) (byteOf e) (laid-bytes k r 19) (kind-small e) b .result-is
-      ∙ ap (λ (x : Signal). x .result) (short-signal k r e)
+      let s = event-alike (cardWith (k .on) (k .chip) emptyMemory) k e refl refl in
+      M .event (laidOut 19 k) (kindNumber e) (byteOf e) (laid-bytes k (r .good) 19) (kind-small e) b .result-is
+      ∙ ap (λ (x : Signal). x .result) (called 19 k e r ∙ short-signal k (r .good) e)
       ∙ ap₂ (λ (q : Refusal) (m : ℕ). joinedOf (numberOf q) m) (s .refusal-same) (s .byte-same o)
 
-  states : (n : ℕ) → (n ≡ 19) ⊎ (n ≡ 21) → (k : Card) → ReadyCard k → (es : List Event) → Sendable es → driven c (laidOut n k) es ≡ laidOut n (afterAll k es)
+  states : (n : ℕ) → (n ≡ 19) ⊎ (n ≡ 21) → (k : Card) → Serves g k → (es : List Event) → Sendable es → driven c (laidOut n k) es ≡ laidOut n (afterAll k es)
   states n h k r [] S = refl
   states n h k r (e ∷ es) S =
-      ap (λ (l : List ℕ). driven c l es) (state-told n h k e r (S .0)) ∙ states n h ((eventIn k e) .card) (leaves-good k e r (S .0)) es (S .1)
+      ap (λ (l : List ℕ). driven c l es) (state-told n h k e r (S .0)) ∙ states n h ((eventIn k e) .card) (still-serves g k e r (S .0)) es (S .1)
 
   -- one answer more
   more : (n : ℕ) (k : Card) (e : Event) (es : List Event) → NumberTold n k e → StateTold n k e → returned c (laidOut n ((eventIn k e) .card)) es ≡ answersOf ((eventIn k e) .card) es
@@ -179,18 +193,18 @@ module _ (c : Core) (M : Meets c) where
       ap₂ (λ (m : ℕ) (l : List ℕ). m ∷ returned c l es) a b
       ∙ ap (λ (l : List ℕ). joinedOf (numberOf ((eventIn k e) .refusal)) ((eventIn k e) .byte) ∷ l) d
 
-  numbers-long : (k : Card) → ReadyCard k → (es : List Event) → Sendable es → returned c (laidOut 21 k) es ≡ answersOf k es
+  numbers-long : (k : Card) → Serves g k → (es : List Event) → Sendable es → returned c (laidOut 21 k) es ≡ answersOf k es
   numbers-long k r [] S = refl
   numbers-long k r (e ∷ es) S =
-      more 21 k e es (number-long k e r (S .0)) (state-told 21 (inr refl) k e r (S .0)) (numbers-long ((eventIn k e) .card) (leaves-good k e r (S .0)) es (S .1))
+      more 21 k e es (number-long k e r (S .0)) (state-told 21 (inr refl) k e r (S .0)) (numbers-long ((eventIn k e) .card) (still-serves g k e r (S .0)) es (S .1))
 
-  numbers-short : (k : Card) → ReadyCard k → (es : List Event) → Sendable es → NoRecall es → returned c (laidOut 19 k) es ≡ answersOf k es
+  numbers-short : (k : Card) → Serves g k → (es : List Event) → Sendable es → NoRecall es → returned c (laidOut 19 k) es ≡ answersOf k es
   numbers-short k r [] S o = refl
   numbers-short k r (Chip e ∷ es) S o =
-      more 19 k (Chip e) es (number-short k (Chip e) r (S .0) (λ z. not-recall e z)) (state-told 19 (inl refl) k (Chip e) r (S .0)) (numbers-short ((eventIn k (Chip e)) .card) (leaves-good k (Chip e) r (S .0)) es (S .1) o)
+      more 19 k (Chip e) es (number-short k (Chip e) r (S .0) (λ z. not-recall e z)) (state-told 19 (inl refl) k (Chip e) r (S .0)) (numbers-short ((eventIn k (Chip e)) .card) (still-serves g k (Chip e) r (S .0)) es (S .1) o)
   numbers-short k r (Recall ∷ es) S o = absurd o
   numbers-short k r (Forget ∷ es) S o =
-      more 19 k Forget es (number-short k Forget r (S .0) (λ z. forget-recall z)) (state-told 19 (inl refl) k Forget r (S .0)) (numbers-short ((eventIn k Forget) .card) (leaves-good k Forget r (S .0)) es (S .1) o)
+      more 19 k Forget es (number-short k Forget r (S .0) (λ z. forget-recall z)) (state-told 19 (inl refl) k Forget r (S .0)) (numbers-short ((eventIn k Forget) .card) (still-serves g k Forget r (S .0)) es (S .1) o)
 
 -- ---- chains
 sendable-append : (xs ys : List ChipEvent) → Sendable (onBus xs) → Sendable (onBus ys) → Sendable (onBus (xs ++ ys))
@@ -229,13 +243,13 @@ push-byte s b = go (busy s)
     go false = refl
 
 -- the chip's answers as the calls give them
-abbrev chipAnswers : State → List ChipEvent → List ℕ
-chipAnswers s [] = []
-chipAnswers s (e ∷ es) = joinedOf (numberOf ((answerTo (under Am9511A) s e) .refusal)) ((answerTo (under Am9511A) s e) .byte) ∷ chipAnswers ((answerTo (under Am9511A) s e) .state) es
+abbrev chipAnswers : Settings → State → List ChipEvent → List ℕ
+chipAnswers on s [] = []
+chipAnswers on s (e ∷ es) = joinedOf (numberOf ((answerTo on s e) .refusal)) ((answerTo on s e) .byte) ∷ chipAnswers on ((answerTo on s e) .state) es
 
-card-answers : (k : Card) (es : List ChipEvent) → answersOf k (onBus es) ≡ chipAnswers (k .chip) es
+card-answers : (k : Card) (es : List ChipEvent) → answersOf k (onBus es) ≡ chipAnswers (k .on) (k .chip) es
 card-answers k [] = refl
-card-answers k (e ∷ es) = ap (λ (l : List ℕ). joinedOf (numberOf ((answerTo (under Am9511A) (k .chip) e) .refusal)) ((answerTo (under Am9511A) (k .chip) e) .byte) ∷ l) (card-answers ((eventIn k (Chip e)) .card) es)
+card-answers k (e ∷ es) = ap (λ (l : List ℕ). joinedOf (numberOf ((answerTo (k .on) (k .chip) e) .refusal)) ((answerTo (k .on) (k .chip) e) .byte) ∷ l) (card-answers ((eventIn k (Chip e)) .card) es)
 
 -- bytes pushed and commands alone: no event reads a byte
 abbrev ReadsNone : List ChipEvent → Type 0
@@ -253,21 +267,21 @@ one-zero r byte rest all z h a =
     ap₂ _&&_ (eq-eqb (256 * r + byte) 0 (omega arith)) a
 
 -- the first returns 0, and the rest
-more-zero : (s : State) (e : ChipEvent) (es : List ChipEvent) → (answerTo (under Am9511A) s e) .byte ≡ 0 → answered (under Am9511A) s (e ∷ es) ≡ true
-    → (answered (under Am9511A) ((answerTo (under Am9511A) s e) .state) es ≡ true → allZero (chipAnswers ((answerTo (under Am9511A) s e) .state) es) ≡ true) → allZero (chipAnswers s (e ∷ es)) ≡ true
-more-zero s e es z h f =
-    let r = numberOf ((answerTo (under Am9511A) s e) .refusal) in
-    let t = (answerTo (under Am9511A) s e) .state in
-    one-zero r ((answerTo (under Am9511A) s e) .byte) (answered (under Am9511A) t es) (allZero (chipAnswers t es)) z h (f (both-of (eqb r 0) (answered (under Am9511A) t es) h .1))
+more-zero : (on : Settings) (s : State) (e : ChipEvent) (es : List ChipEvent) → (answerTo on s e) .byte ≡ 0 → answered on s (e ∷ es) ≡ true
+    → (answered on ((answerTo on s e) .state) es ≡ true → allZero (chipAnswers on ((answerTo on s e) .state) es) ≡ true) → allZero (chipAnswers on s (e ∷ es)) ≡ true
+more-zero on s e es z h f =
+    let r = numberOf ((answerTo on s e) .refusal) in
+    let t = (answerTo on s e) .state in
+    one-zero r ((answerTo on s e) .byte) (answered on t es) (allZero (chipAnswers on t es)) z h (f (both-of (eqb r 0) (answered on t es) h .1))
 
-all-zero : (s : State) (es : List ChipEvent) → ReadsNone es → answered (under Am9511A) s es ≡ true → allZero (chipAnswers s es) ≡ true
-all-zero s [] n h = refl
-all-zero s (Push b ∷ es) n h = more-zero s (Push b) es (push-byte s b) h (λ g. all-zero ((pushOf s b) .state) es n g)
-all-zero s (Command k ∷ es) n h = more-zero s (Command k) es (command-byte s k) h (λ g. all-zero ((commandOf s k) .state) es n g)
-all-zero s (Pop ∷ es) n h = absurd n
-all-zero s (Status ∷ es) n h = absurd n
-all-zero s (Reset ∷ es) n h = absurd n
-all-zero s (Acknowledge ∷ es) n h = absurd n
+all-zero : (on : Settings) (s : State) (es : List ChipEvent) → ReadsNone es → answered on s es ≡ true → allZero (chipAnswers on s es) ≡ true
+all-zero on s [] n h = refl
+all-zero on s (Push b ∷ es) n h = more-zero on s (Push b) es (push-byte s b) h (λ g. all-zero on ((pushOf s b) .state) es n g)
+all-zero on s (Command k ∷ es) n h = more-zero on s (Command k) es (command-byte (on .rule) s k) h (λ g. all-zero on ((commandUnder (on .rule) s k) .state) es n g)
+all-zero on s (Pop ∷ es) n h = absurd n
+all-zero on s (Status ∷ es) n h = absurd n
+all-zero on s (Reset ∷ es) n h = absurd n
+all-zero on s (Acknowledge ∷ es) n h = absurd n
 
 none-append : (xs ys : List ChipEvent) → ReadsNone xs → ReadsNone ys → ReadsNone (xs ++ ys)
 none-append [] ys a b = b
@@ -291,7 +305,7 @@ chain-none sr [] = tt
 chain-none sr (k ∷ ks) = none-append (eventsOf sr k) (chainOf (λ (n : ℕ). sr (commandsIn k + n)) ks) (step-none sr k) (chain-none (λ (n : ℕ). sr (commandsIn k + n)) ks)
 
 -- ---- error bits
-clear-told : (n : ℕ) (k : Card) (e : ChipEvent) → ReadyCard k → byteOf (Chip e) < 256 → clearAfter (Chip e) (laidOut n ((eventIn k (Chip e)) .card)) ≡ leavesClear (under Am9511A) (k .chip) e
+clear-told : (n : ℕ) (k : Card) (e : ChipEvent) → ReadyCard k → byteOf (Chip e) < 256 → clearAfter (Chip e) (laidOut n ((eventIn k (Chip e)) .card)) ≡ leavesClear (k .on) (k .chip) e
 clear-told n k (Command code) r h = ap (λ (u : ℕ). eqb (errorOf u) 0) (laid-at ((eventIn k (Chip (Command code))) .card) (leaves-good k (Chip (Command code)) r h .chip .stack .sixteen) n 1)
 clear-told n k (Push b) r h = refl
 clear-told n k Pop r h = refl
@@ -299,11 +313,11 @@ clear-told n k Status r h = refl
 clear-told n k Reset r h = refl
 clear-told n k Acknowledge r h = refl
 
-quietly : (c : Core) → Meets c → (n : ℕ) → (n ≡ 19) ⊎ (n ≡ 21) → (k : Card) → ReadyCard k → (es : List ChipEvent) → Sendable (onBus es) → drivenQuietly c (laidOut n k) (onBus es) ≡ quiet (under Am9511A) (k .chip) es
-quietly c M n h k r [] S = refl
-quietly c M n h k r (e ∷ es) S =
-    ap (λ (l : List ℕ). clearAfter (Chip e) l && drivenQuietly c l (onBus es)) (state-told c M n h k (Chip e) r (S .0))
-    ∙ ap₂ _&&_ (clear-told n k e r (S .0)) (quietly c M n h ((eventIn k (Chip e)) .card) (leaves-good k (Chip e) r (S .0)) es (S .1))
+quietly : (g : Given) → Chosen g → (c : Core) → Meets g c → (n : ℕ) → (n ≡ 19) ⊎ (n ≡ 21) → (k : Card) → Serves g k → (es : List ChipEvent) → Sendable (onBus es) → drivenQuietly c (laidOut n k) (onBus es) ≡ quiet (k .on) (k .chip) es
+quietly g C c M n h k r [] S = refl
+quietly g C c M n h k r (e ∷ es) S =
+    ap (λ (l : List ℕ). clearAfter (Chip e) l && drivenQuietly c l (onBus es)) (state-told g C c M n h k (Chip e) r (S .0))
+    ∙ ap₂ _&&_ (clear-told n k e (r .good) (S .0)) (quietly g C c M n h ((eventIn k (Chip e)) .card) (still-serves g k (Chip e) r (S .0)) es (S .1))
 
 -- ---- a run from the bytes of a state
 abbrev runFrom : List ℕ → ℕ → (ℕ → Bool) → Run
@@ -311,7 +325,7 @@ runFrom state w sr = record { state = stateOf state; word = w; sr = sr }
 
 starts : (state : List ℕ) (w : ℕ) (sr : ℕ → Bool) → Begins state w → Starts (runFrom state w sr)
 starts state w sr B = record {
-  at-rest = record { taken = lt-leb 128 (getD state 17 0) (card-ready state (B .bytes) (B .good) .chip .ready); whole = ap (λ (n : ℕ). eqb n 1) (B .whole) };
+  at-rest = record { taken = lt-leb 128 (getD state 17 0) (state-ready state (B .good)); whole = ap (λ (n : ℕ). eqb n 1) (B .whole) };
   proper = B .proper;
 }
 
@@ -323,67 +337,74 @@ pub bus-told : (es : List ChipEvent) → NoRecall (onBus es)
 bus-told [] = tt
 bus-told (e ∷ es) = bus-told es
 
-module _ (c : Core) (M : Meets c) where
+module _ (g : Given) (C : Chosen g) (c : Core) (M : Meets g c) where
+  -- the card of a state's bytes
+  abbrev cardOf : List ℕ → Card
+  cardOf state = cardIn (settingsIn g) state
+
+  serves : (state : List ℕ) → Bytes state → isState state ≡ true → Serves g (cardOf state)
+  serves state B i = record { good = card-ready (settingsIn g) state B i; set = refl }
+
   -- on the bytes of a good state
-  from-bytes : (P : List ℕ → Type 0) (state : List ℕ) → isState state ≡ true → P (laidOut (length state) (cardIn state)) → P state
-  from-bytes P state g p = subst P (card-returns state g) p
+  from-bytes : (P : List ℕ → Type 0) (state : List ℕ) → isState state ≡ true → P (laidOut (length state) (cardOf state)) → P state
+  from-bytes P state i p = subst P (card-returns (settingsIn g) state i) p
 
-  calls-states : (state : List ℕ) (es : List Event) → Bytes state → isState state ≡ true → Sendable es → driven c state es ≡ laidOut (length state) (afterAll (cardIn state) es)
-  calls-states state es B g S =
-      from-bytes (λ (l : List ℕ). driven c l es ≡ laidOut (length state) (afterAll (cardIn state) es)) state g
-      (states c M (length state) (good-states state .0 g .size) (cardIn state) (card-ready state B g) es S)
+  calls-states : (state : List ℕ) (es : List Event) → Bytes state → isState state ≡ true → Sendable es → driven c state es ≡ laidOut (length state) (afterAll (cardOf state) es)
+  calls-states state es B i S =
+      from-bytes (λ (l : List ℕ). driven c l es ≡ laidOut (length state) (afterAll (cardOf state) es)) state i
+      (states g C c M (length state) (good-states state .0 i .size) (cardOf state) (serves state B i) es S)
 
-  calls-return : (state : List ℕ) (es : List Event) → Bytes state → isState state ≡ true → Sendable es → Keeps state es → returned c state es ≡ answersOf (cardIn state) es
-  calls-return state es B g S o =
-      let r = card-ready state B g in
-      let k = cardIn state in
-      from-bytes (λ (l : List ℕ). returned c l es ≡ answersOf k es) state g
-      (⊎-elim (λ a. ⊎-elim (λ b. absurd (let y : ⊥ = omega arith in y)) (λ b. subst (λ (m : ℕ). returned c (laidOut m k) es ≡ answersOf k es) (sym a) (numbers-short c M k r es S b)) o)
-      (λ a. subst (λ (m : ℕ). returned c (laidOut m k) es ≡ answersOf k es) (sym a) (numbers-long c M k r es S)) (good-states state .0 g .size))
+  calls-return : (state : List ℕ) (es : List Event) → Bytes state → isState state ≡ true → Sendable es → Keeps state es → returned c state es ≡ answersOf (cardOf state) es
+  calls-return state es B i S o =
+      let r = serves state B i in
+      let k = cardOf state in
+      from-bytes (λ (l : List ℕ). returned c l es ≡ answersOf k es) state i
+      (⊎-elim (λ a. ⊎-elim (λ b. absurd (let y : ⊥ = omega arith in y)) (λ b. subst (λ (m : ℕ). returned c (laidOut m k) es ≡ answersOf k es) (sym a) (numbers-short g C c M k r es S b)) o)
+      (λ a. subst (λ (m : ℕ). returned c (laidOut m k) es ≡ answersOf k es) (sym a) (numbers-long g C c M k r es S)) (good-states state .0 i .size))
 
-  calls-quiet : (state : List ℕ) (es : List ChipEvent) → Bytes state → isState state ≡ true → Sendable (onBus es) → drivenQuietly c state (onBus es) ≡ true → quiet (under Am9511A) (stateOf state) es ≡ true
-  calls-quiet state es B g S q =
-      sym (from-bytes (λ (l : List ℕ). drivenQuietly c l (onBus es) ≡ quiet (under Am9511A) (stateOf state) es) state g
-      (quietly c M (length state) (good-states state .0 g .size) (cardIn state) (card-ready state B g) es S)) ∙ q
+  calls-quiet : (state : List ℕ) (es : List ChipEvent) → Bytes state → isState state ≡ true → Sendable (onBus es) → drivenQuietly c state (onBus es) ≡ true → quiet (settingsIn g) (stateOf state) es ≡ true
+  calls-quiet state es B i S q =
+      sym (from-bytes (λ (l : List ℕ). drivenQuietly c l (onBus es) ≡ quiet (settingsIn g) (stateOf state) es) state i
+      (quietly g C c M (length state) (good-states state .0 i .size) (cardOf state) (serves state B i) es S)) ∙ q
 
-  module _ (state : List ℕ) (w : ℕ) (sr : ℕ → Bool) (ks : List Step) (B : Begins state w) (C : Constants ks) where
+  module _ (state : List ℕ) (w : ℕ) (sr : ℕ → Bool) (ks : List Step) (B : Begins state w) (K : Constants ks) where
     answers : allZero (returned c state (busRun w sr ks)) ≡ true
     answers =
-        ap allZero (calls-return state (busRun w sr ks) (B .bytes) (B .good) (sent w sr ks) (inr (bus-told (runEvents w sr ks))) ∙ card-answers (cardIn state) (runEvents w sr ks))
-        ∙ all-zero (stateOf state) (runEvents w sr ks) (none-append (pushesOf 4 w) (chainOf sr ks) tt (chain-none sr ks)) (demand-3 Am9511A .every-answered (runFrom state w sr) ks (starts state w sr B) C)
+        ap allZero (calls-return state (busRun w sr ks) (B .bytes) (B .good) (sent w sr ks) (inr (bus-told (runEvents w sr ks))) ∙ card-answers (cardOf state) (runEvents w sr ks))
+        ∙ all-zero (settingsIn g) (stateOf state) (runEvents w sr ks) (none-append (pushesOf 4 w) (chainOf sr ks) tt (chain-none sr ks)) (demand-3 (modeOf (g .mode)) .every-answered (runFrom state w sr) ks (starts state w sr B) K)
 
     top-bytes : take 4 (driven c state (busRun w sr ks)) ≡ bytesOf 4 (wordAfter baseRule w ks)
     top-bytes =
-        let k = afterAll (cardIn state) (busRun w sr ks) in
+        let k = afterAll (cardOf state) (busRun w sr ks) in
         ap (λ (l : List ℕ). take 4 l) (calls-states state (busRun w sr ks) (B .bytes) (B .good) (sent w sr ks) ∙ laid-is (length state) k)
-        ∙ ap (λ (s : State). take 4 (s .stack ++ behind (length state) k)) (chip-alone (cardIn state) (runEvents w sr ks))
-        ∙ on-top (under Am9511A) (runFrom state w sr) ks (starts state w sr B) C _
+        ∙ ap (λ (s : State). take 4 (s .stack ++ behind (length state) k)) (chip-alone (cardOf state) (runEvents w sr ks))
+        ∙ on-top (settingsIn g) (runFrom state w sr) ks (starts state w sr B) K _
 
     top-word : wordLeft c state (busRun w sr ks) ≡ wordAfter baseRule w ks
     top-word =
-        let r = demand-3 Am9511A .by-word-alone (runFrom state w sr) ks (starts state w sr B) C in
-        let p = subst (λ (x : ℕ). FloatWord x) r (demand-3 Am9511A .proper-result (runFrom state w sr) ks (starts state w sr B) C) in
+        let r = demand-3 (modeOf (g .mode)) .by-word-alone (runFrom state w sr) ks (starts state w sr B) K in
+        let p = subst (λ (x : ℕ). FloatWord x) r (demand-3 (modeOf (g .mode)) .proper-result (runFrom state w sr) ks (starts state w sr B) K) in
         ap (λ (l : List ℕ). numberFrom 0 l) top-bytes ∙ number-bytes 4 (wordAfter baseRule w ks) (p .fits)
 
     -- what the statement's result is at the calls
-    result-told : resultOf (under Am9511A) (runFrom state w sr) ks ≡ wordLeft c state (busRun w sr ks)
-    result-told = demand-3 Am9511A .by-word-alone (runFrom state w sr) ks (starts state w sr B) C ∙ sym top-word
+    result-told : resultOf (settingsIn g) (runFrom state w sr) ks ≡ wordLeft c state (busRun w sr ks)
+    result-told = demand-3 (modeOf (g .mode)) .by-word-alone (runFrom state w sr) ks (starts state w sr B) K ∙ sym top-word
 
-    quiet-told : drivenQuietly c state (busRun w sr ks) ≡ true → Quiet (under Am9511A) (runFrom state w sr) ks
+    quiet-told : drivenQuietly c state (busRun w sr ks) ≡ true → Quiet (settingsIn g) (runFrom state w sr) ks
     quiet-told q = calls-quiet state (runEvents w sr ks) (B .bytes) (B .good) (sent w sr ks) q
 
 -- ---- the statement
 pub cores : Cores
-cores c M = record {
-  states = λ state es B g S. calls-states c M state es B g S;
-  returns = λ state es B g S o. calls-return c M state es B g S o;
-  chain-answers = λ state w sr ks B C. answers c M state w sr ks B C;
-  chain-bytes = λ state w sr ks B C. top-bytes c M state w sr ks B C;
-  chain-word = λ state w sr ks B C. top-word c M state w sr ks B C;
-  chain-even = λ state state' v w sr sr' ks B B' C q q' l e.
-      subst₂ Le (result-told c M state v sr ks B C) (result-told c M state' w sr' ks B' C)
-      (demand-3 Am9511A .even-keeps (runFrom state v sr) (runFrom state' w sr') ks (starts state v sr B) (starts state' w sr' B') C (quiet-told c M state v sr ks B C q) (quiet-told c M state' w sr' ks B' C q') l e);
-  chain-odd = λ state state' v w sr sr' ks B B' C q q' l e.
-      subst₂ Le (result-told c M state' w sr' ks B' C) (result-told c M state v sr ks B C)
-      (demand-3 Am9511A .odd-turns (runFrom state v sr) (runFrom state' w sr') ks (starts state v sr B) (starts state' w sr' B') C (quiet-told c M state v sr ks B C q) (quiet-told c M state' w sr' ks B' C q') l e);
+cores g C c M = record {
+  states = λ state es B i S. calls-states g C c M state es B i S;
+  returns = λ state es B i S o. calls-return g C c M state es B i S o;
+  chain-answers = λ state w sr ks B K. answers g C c M state w sr ks B K;
+  chain-bytes = λ state w sr ks B K. top-bytes g C c M state w sr ks B K;
+  chain-word = λ state w sr ks B K. top-word g C c M state w sr ks B K;
+  chain-even = λ state state' v w sr sr' ks B B' K q q' l e.
+      subst₂ Le (result-told g C c M state v sr ks B K) (result-told g C c M state' w sr' ks B' K)
+      (demand-3 (modeOf (g .mode)) .even-keeps (runFrom state v sr) (runFrom state' w sr') ks (starts state v sr B) (starts state' w sr' B') K (quiet-told g C c M state v sr ks B K q) (quiet-told g C c M state' w sr' ks B' K q') l e);
+  chain-odd = λ state state' v w sr sr' ks B B' K q q' l e.
+      subst₂ Le (result-told g C c M state' w sr' ks B' K) (result-told g C c M state v sr ks B K)
+      (demand-3 (modeOf (g .mode)) .odd-turns (runFrom state v sr) (runFrom state' w sr') ks (starts state v sr B) (starts state' w sr' B') K (quiet-told g C c M state v sr ks B K q) (quiet-told g C c M state' w sr' ks B' K q') l e);
 }

@@ -6,11 +6,11 @@ use Rattle.pundaliket.specs.Calls.{Sent, Sends}
 use Rattle.promises.specs.Determined.{RunDetermined, EventDetermined, WordToF32Determined, F32ToWordDetermined}
 
 pub run-determined : RunDetermined
-run-determined state input replies report r q s t w v p o a b =
+run-determined g state input replies report r q s t w v p o a b =
     (a .result-is ∙ sym (b .result-is), a .state-is ∙ sym (b .state-is), a .replies-is ∙ sym (b .replies-is), a .report-is ∙ sym (b .report-is))
 
 pub event-determined : EventDetermined
-event-determined state kind byte r q s t a b = (a .result-is ∙ sym (b .result-is), a .state-is ∙ sym (b .state-is))
+event-determined g state kind byte r q s t a b = (a .result-is ∙ sym (b .result-is), a .state-is ∙ sym (b .state-is))
 
 -- both conversions
 sent-alike : (x : Sent) (r q : ℕ) (s t : List ℕ) → Sends x r s → Sends x q t → (r ≡ q) × (s ≡ t)

@@ -10,7 +10,7 @@ use borrow.Author.Tests.{lt-leb, lt-ltb, le-ltb, eq-eqb, ne-eqb}
 use lib.Dec.{eqb, ltb, lit<}
 use lib.ListN.{length, take, drop, getD, replicate, length-append, List·getD-append}
 use lib.Seq.{take-at, drop-append-seam, take-append-le, getD-append-add}
-use Rattle.terms.specs.declared.Mode.the-variants.{Am9511A}
+use Rattle.terms.specs.Settings.{Settings}
 use Rattle.terms.specs.declared.Refusal.{Refusal}
 use Rattle.terms.specs.declared.Refusal.the-variants.{Done, InputTooLong, BadState}
 use Rattle.terms.specs.Refusal.{numberOf}
@@ -19,7 +19,7 @@ use Rattle.stack.proofs.Words.{bytes-append}
 use Rattle.chip.specs.declared.State.{State}
 use Rattle.chip.specs.declared.Answer.{Answer}
 use Rattle.chip.specs.declared.Event.the-variants.{Push, Pop, Command, Status, Reset, Acknowledge}
-use Rattle.chip.specs.Step.{pushOf, popOf, commandOf, eventOf}
+use Rattle.chip.specs.Step.{pushOf, popOf, resetOf, commandUnder}
 use Rattle.memory.specs.declared.Memory.{Memory}
 use Rattle.memory.specs.declared.Event.{Event}
 use Rattle.memory.specs.declared.Event.the-variants.{Chip, Recall, Forget}
@@ -35,19 +35,20 @@ use Rattle.records.specs.Record.{kindOf, Carried, Holds, before, pushAll, popAl
 use Rattle.records.specs.Run.{Outcome, runOf}
 use Rattle.records.proofs.Prefix.{lawful}
 use Rattle.records.proofs.Ready.{run-ready}
+use Rattle.records.proofs.Single.{reset-is}
 use Rattle.terms.specs.Limits.{mostPayload}
 use Rattle.stored.specs.Bytes.{isChip, isState, stateOf, memoryIn, cardIn, stateBytesOf, laidOut}
 use Rattle.stored.proofs.States.{short-state, long-state, long-bad, short-memory, long-memory}
 use Rattle.stored.proofs.Cards.{card-returns, card-ready, laid-at}
-use Rattle.pundaliket.specs.Calls.{Called, Signal, Calls, Signals, ranOf, away, callOf, signalBy, signalOf, answerToKind, joinedOf}
-use Rattle.pundaliket.proofs.Calling.{good}
+use Rattle.pundaliket.specs.Calls.{Called, Signal, Calls, Signals, ranOf, away, callUnder, signalBy, signalUnder, answerToKind, joinedOf}
+use Rattle.pundaliket.proofs.Calling.{run-chosen, event-chosen, good}
+use Rattle.promises.specs.Given.{Given, Chosen, settingsIn}
 use Rattle.promises.specs.Records.{IsRecord, joined, EachTaken, repliesOf, inTurn}
 use Rattle.promises.specs.Cores.{Core, Meets, kindNumber, byteOf, Sendable, driven}
 use Rattle.promises.specs.ErrorMemory.{noted, callHistory, memoryAt, recordEvents, eventsIn, rememberedAfter, Lent, ErrorMemory, RecordsAreEvents, lengthened, ShortStates}
 use Rattle.promises.proofs.Records.{in-turn, record-run, recall-record, bytes-parts}
 use Rattle.promises.proofs.Kept.{command-byte, event-ready}
-use Rattle.promises.proofs.Pending.{bus-events}
-use Rattle.promises.proofs.Cores.{leaves-good, all-good, state-told, number-long, cores}
+use Rattle.promises.proofs.Cores.{all-good, Serves, still-serves, state-told, number-long, cores}
 
 -- ---- through the event call
 -- a number is below 256 where the refusal is 0 and no byte is read
@@ -63,13 +64,12 @@ noted-told : (k : Card) → ReadyCard k → (e : Event) (h : History)
 noted-told k r (Chip (Push b)) h = refl
 noted-told k r (Chip Pop) h = refl
 noted-told k r (Chip (Command code)) h =
-    let a = commandOf (k .chip) code in
-    ap (λ (x : Bool). cond x (told h code (a .state .status)) h) (below (numberOf (a .refusal)) (a .byte) (command-byte (k .chip) code))
+    let a = commandUnder (k .on .rule) (k .chip) code in
+    ap (λ (x : Bool). cond x (told h code (a .state .status)) h) (below (numberOf (a .refusal)) (a .byte) (command-byte (k .on .rule) (k .chip) code))
 noted-told k r (Chip Status) h = refl
 noted-told k r (Chip Reset) h =
-    let a = eventOf Am9511A (k .chip) Reset in
-    let g = bus-events Am9511A .reset-leaves refl (k .chip .stack) (k .chip .pending) (k .chip .status) (k .chip .service) (r .chip .ready) in
-    ap (λ (x : Bool). cond x (from emptyMemory) h) (below (numberOf (a .refusal)) (a .byte) (g .byte-read))
+    let a = resetOf (k .on .mode) (k .chip) in
+    ap (λ (x : Bool). cond x (from emptyMemory) h) (below (numberOf (a .refusal)) (a .byte) (ap (λ (y : Answer). y .byte) (reset-is (k .on .mode) (k .chip) (lt-leb 128 (k .chip .status) (r .chip .ready)))))
 noted-told k r (Chip Acknowledge) h = refl
 noted-told k r Recall h = refl
 noted-told k r Forget h = rw (lt-leb 128 (k .chip .status) (r .chip .ready))
@@ -78,30 +78,30 @@ noted-told k r Forget h = rw (lt-leb 128 (k .chip .status) (r .chip .ready))
 two-bytes : (k : Card) → length (k .chip .stack) ≡ 16 → memoryAt (laidOut 21 k) ≡ k .memory
 two-bytes k n = ap₂ (λ (b i : ℕ). record { bits = b; code = i }) (laid-at k n 21 3) (laid-at k n 21 4)
 
-module _ (c : Core) (M : Meets c) where
-  told-alike : (k : Card) → ReadyCard k → (es : List Event) (h : History) → Sendable es → callHistory c (laidOut 21 k) es h ≡ historyOf k es h
+module _ (g : Given) (C : Chosen g) (c : Core) (M : Meets g c) where
+  told-alike : (k : Card) → Serves g k → (es : List Event) (h : History) → Sendable es → callHistory c (laidOut 21 k) es h ≡ historyOf k es h
   told-alike k r [] h S = refl
   told-alike k r (e ∷ es) h S =
       let a = eventIn k e in
-      let left = leaves-good k e r (S .0) in
-      let s = state-told c M 21 (inr refl) k e r (S .0) in
-      let status : getD ((c .event (laidOut 21 k) (kindNumber e) (byteOf e)) .state) 17 0 ≡ a .card .chip .status = ap (λ (l : List ℕ). getD l 17 0) s ∙ laid-at (a .card) (left .chip .stack .sixteen) 21 1 in
+      let left = still-serves g k e r (S .0) in
+      let s = state-told g C c M 21 (inr refl) k e r (S .0) in
+      let status : getD ((c .event (laidOut 21 k) (kindNumber e) (byteOf e)) .state) 17 0 ≡ a .card .chip .status = ap (λ (l : List ℕ). getD l 17 0) s ∙ laid-at (a .card) (left .good .chip .stack .sixteen) 21 1 in
       ap₂ (λ (l : List ℕ) (x : History). callHistory c l es x) s
-      (ap₂ (λ (n u : ℕ). noted e n u h) (number-long c M k e r (S .0)) status ∙ noted-told k r e h)
+      (ap₂ (λ (n u : ℕ). noted e n u h) (number-long g C c M k e r (S .0)) status ∙ noted-told k (r .good) e h)
       ∙ told-alike (a .card) left es (tells k e h) (S .1)
 
   -- on the bytes of a good state
   events-say : (state : List ℕ) (es : List Event) → Bytes state → isState state ≡ true → length state ≡ 21 → Sendable es
       → memoryAt (driven c state es) ≡ memoryOf (callHistory c state es (from (memoryAt state)))
-  events-say state es B g n S =
-      let k = cardIn state in
-      let r = card-ready state B g in
-      let back : laidOut 21 k ≡ state = ap (λ (m : ℕ). laidOut m k) (sym n) ∙ card-returns state g in
+  events-say state es B i n S =
+      let k = cardIn (settingsIn g) state in
+      let r = card-ready (settingsIn g) state B i in
+      let back : laidOut 21 k ≡ state = ap (λ (m : ℕ). laidOut m k) (sym n) ∙ card-returns (settingsIn g) state i in
       let after = all-good es k r S in
-      ap memoryAt (cores c M .states state es B g S ∙ ap (λ (m : ℕ). laidOut m (afterAll k es)) n)
+      ap memoryAt (cores g C c M .states state es B i S ∙ ap (λ (m : ℕ). laidOut m (afterAll k es)) n)
       ∙ two-bytes (afterAll k es) (after .chip .stack .sixteen)
       ∙ memory-is-history k es
-      ∙ ap memoryOf (sym (told-alike k r es (from (k .memory)) S))
+      ∙ ap memoryOf (sym (told-alike k (record { good = r; set = refl }) es (from (k .memory)) S))
       ∙ ap₂ (λ (l : List ℕ) (m : Memory). memoryOf (callHistory c l es (from m))) back (long-memory state n)
 
 -- ---- through files
@@ -111,13 +111,13 @@ after-joined k [] ys = refl
 after-joined k (x ∷ xs) ys = after-joined ((eventIn k x) .card) xs ys
 
 -- a block is its single bytes
-pushes-are : (p : List ℕ) (a : Answer) (m : Memory) → cardWith (pushAll a p .state) m ≡ afterAll (cardWith (a .state) m) (map (λ (b : ℕ). Chip (Push b)) p)
-pushes-are [] a m = refl
-pushes-are (b ∷ p) a m = pushes-are p (pushOf (a .state) b) m
+pushes-are : (on : Settings) (p : List ℕ) (a : Answer) (m : Memory) → cardWith on (pushAll a p .state) m ≡ afterAll (cardWith on (a .state) m) (map (λ (b : ℕ). Chip (Push b)) p)
+pushes-are on [] a m = refl
+pushes-are on (b ∷ p) a m = pushes-are on p (pushOf (a .state) b) m
 
-pops-are : (n : ℕ) (a : Answer) (m : Memory) → cardWith (popAll n a .state) m ≡ afterAll (cardWith (a .state) m) (replicate n (Chip Pop))
-pops-are zero a m = refl
-pops-are (suc n) a m = pops-are n (popOf (a .state)) m
+pops-are : (on : Settings) (n : ℕ) (a : Answer) (m : Memory) → cardWith on (popAll n a .state) m ≡ afterAll (cardWith on (a .state) m) (replicate n (Chip Pop))
+pops-are on zero a m = refl
+pops-are on (suc n) a m = pops-are on n (popOf (a .state)) m
 
 -- a record is its events
 record-is : (k : Card) (r : List ℕ) (e : RecordEvent) → Holds mostPayload r e → answerOf k (drop 4 r) e .card ≡ afterAll k (recordEvents r)
@@ -127,8 +127,8 @@ record-is k r e h = by e (h .kind-is) (h .carried)
     kind n a b = omega arith
 
     by : (x : RecordEvent) → getD r 2 0 + getD r 3 0 * 256 ≡ kindOf x → Carried mostPayload (getD r 4 0) x → answerOf k (drop 4 r) x .card ≡ afterAll k (recordEvents r)
-    by (PushRecord n) i c = rw (kind 1 (lit< tt) i) (pushes-are (drop 4 r) (before (k .chip)) (k .memory))
-    by (PopRecord n) i c = rw (kind 2 (lit< tt) i, ← c .0) (pops-are n (before (k .chip)) (k .memory))
+    by (PushRecord n) i c = rw (kind 1 (lit< tt) i) (pushes-are (k .on) (drop 4 r) (before (k .chip)) (k .memory))
+    by (PopRecord n) i c = rw (kind 2 (lit< tt) i, ← c .0) (pops-are (k .on) n (before (k .chip)) (k .memory))
     by (CommandRecord code) i c = rw (kind 3 (lit< tt) i, c)
     by StatusRecord i c = rw (kind 4 (lit< tt) i)
     by ResetRecord i c = rw (kind 5 (lit< tt) i)
@@ -160,7 +160,7 @@ replyWith m = 5 ∷ 0 ∷ 135 ∷ 0 ∷ 0 ∷ m .bits ∷ m .code ∷ []
 
 recall-behind : (k : Card) (rs : List (List ℕ)) (room : ℕ) → ReadyCard k → Bytes (joined rs) → EachTaken k rs room → length (joined (repliesOf k rs room)) + 7 ≤ room
     → runOf k (joined rs ++ recall) room .written ≡ joined (repliesOf k rs room) ++ replyWith (afterAll k (eventsIn rs) .memory)
-recall-behind k [] room r B h fits = ap (λ (o : Outcome). o .written) (recall-record (k .chip) (k .memory) room (lt-leb 128 (k .chip .status) (r .chip .ready)) (omega arith))
+recall-behind k [] room r B h fits = ap (λ (o : Outcome). o .written) (recall-record (k .on) (k .chip) (k .memory) room (lt-leb 128 (k .chip .status) (r .chip .ready)) (omega arith))
 recall-behind k (x ∷ rs) room r B h fits =
     let o = runOf k x room in
     let left = room - length (o .written) in
@@ -174,12 +174,12 @@ recall-behind k (x ∷ rs) room r B h fits =
     ∙ sym (append-assoc (o .written) (joined (repliesOf (o .state) rs left)) (replyWith (afterAll (o .state) (eventsIn rs) .memory)))
     ∙ ap (λ (y : Card). (o .written ++ joined (repliesOf (o .state) rs left)) ++ replyWith (y .memory)) e
 
-module _ (c : Core) (M : Meets c) (state : List ℕ) (rs : List (List ℕ)) (replies report : List ℕ) (L : Lent state rs replies report) where
+module _ (g : Given) (C : Chosen g) (c : Core) (M : Meets g c) (state : List ℕ) (rs : List (List ℕ)) (replies report : List ℕ) (L : Lent g state rs replies report) where
   abbrev start : Card
-  start = cardIn state
+  start = cardIn (settingsIn g) state
 
   ready : ReadyCard start
-  ready = card-ready state (L .bytes .0) (L .good)
+  ready = card-ready (settingsIn g) state (L .bytes .0) (L .good)
 
   files-say : length state ≡ 21 → memoryAt ((c .run state (joined rs) replies report) .state) ≡ rememberedAfter start (eventsIn rs)
   files-say n =
@@ -187,7 +187,7 @@ module _ (c : Core) (M : Meets c) (state : List ℕ) (rs : List (List ℕ)) (rep
       let o = runOf start (joined rs) (length replies) in
       let after = run-ready start (joined rs) (length replies) ready (L .bytes .1) in
       ap memoryAt (M .run state (joined rs) replies report (L .bytes .0) (L .bytes .1) (L .bytes .2) (L .bytes .3) .state-is
-      ∙ ap (λ (x : Called). x .state) (good state (joined rs) replies report (L .nine) (L .good) (omega arith))
+      ∙ ap (λ (x : Called). x .state) (good (g .mode) state (joined rs) replies report (L .nine) (C .mode) (L .good) (omega arith))
       ∙ ap (λ (m : ℕ). laidOut m (o .state)) n)
       ∙ two-bytes (o .state) (after .chip .stack .sixteen)
       ∙ ap (λ (k : Card). k .memory) (records-are-events start rs (length replies) (L .each))
@@ -204,16 +204,16 @@ module _ (c : Core) (M : Meets c) (state : List ℕ) (rs : List (List ℕ)) (rep
       let rest = drop (length (runOf start (joined rs ++ recall) (length replies) .written)) replies in
       ap (λ (l : List ℕ). take 7 (drop (length ws) l))
       (M .run state (joined rs ++ recall) replies report (L .bytes .0) (bytes-append (joined rs) recall (L .bytes .1) (lit< tt, (lit< tt, (lit< tt, (lit< tt, tt))))) (L .bytes .2) (L .bytes .3) .replies-is
-      ∙ ap (λ (x : Called). x .replies) (good state (joined rs ++ recall) replies report (L .nine) (L .good) (omega arith))
+      ∙ ap (λ (x : Called). x .replies) (good (g .mode) state (joined rs ++ recall) replies report (L .nine) (C .mode) (L .good) (omega arith))
       ∙ ap (λ (l : List ℕ). l ++ rest) w
       ∙ append-assoc ws reply rest)
       ∙ ap (take 7) (drop-append-seam ws (reply ++ rest))
 
 pub error-memory : ErrorMemory
-error-memory c M = record {
-  events = λ state es B g n S. events-say c M state es B g n S;
-  files = λ state rs replies report L n. files-say c M state rs replies report L n;
-  recalled = λ state rs replies report L. recall-says c M state rs replies report L;
+error-memory g C c M = record {
+  events = λ state es B i n S. events-say g C c M state es B i n S;
+  files = λ state rs replies report L n. files-say g C c M state rs replies report L n;
+  recalled = λ state rs replies report L. recall-says g C c M state rs replies report L;
 }
 
 -- ---- a state of 19 bytes
@@ -231,15 +231,15 @@ module _ (l : List ℕ) (n : length l ≡ 19) where
       ∙ ap₂ (λ (b k : ℕ). record { bits = b; code = k }) (ap (λ (k : ℕ). getD (lengthened l) k 0) (sym (omega arith)) ∙ getD-append-add l (0 ∷ 0 ∷ []) 0 0)
       (ap (λ (k : ℕ). getD (lengthened l) k 0) (sym (omega arith)) ∙ getD-append-add l (0 ∷ 0 ∷ []) 1 0)
 
-  same-card : cardIn (lengthened l) ≡ cardIn l
-  same-card =
+  same-card : (on : Settings) → cardIn on (lengthened l) ≡ cardIn on l
+  same-card on =
       let s : stateOf (lengthened l) ≡ stateOf l = λ i. record {
         stack = take-append-le 16 l (0 ∷ 0 ∷ []) (omega arith) i;
         pending = eqb (at 16 (lit< tt) i) 1;
         status = at 17 (lit< tt) i;
         service = eqb (at 18 (lit< tt) i) 1;
       } in
-      ap₂ cardWith s (two-zeros ∙ sym (short-memory l n))
+      ap₂ (cardWith on) s (two-zeros ∙ sym (short-memory l n))
 
   same-chip : isChip (lengthened l) ≡ isChip l
   same-chip = rw (at 16 (lit< tt), at 17 (lit< tt), at 18 (lit< tt))
@@ -273,14 +273,14 @@ shortCall x = record { result = x .result; state = take 19 (x .state); replies =
 abbrev shortSignal : Signal → Signal
 shortSignal x = record { result = x .result; state = take 19 (x .state) }
 
-module _ (l : List ℕ) (n : length l ≡ 19) where
+module _ (on : Settings) (l : List ℕ) (n : length l ≡ 19) where
   front : l ≡ take 19 (lengthened l)
   front = sym (take-at l (0 ∷ 0 ∷ []) 19 n)
 
   -- each way through the run
   module _ (input replies report : List ℕ) where
     abbrev outcome : Outcome
-    outcome = runOf (cardIn l) input (length replies)
+    outcome = runOf (cardIn on l) input (length replies)
 
     abbrev way : Bool → Bool → Bool → List ℕ → ℕ → Called
     way x y z state size =
@@ -295,21 +295,21 @@ module _ (l : List ℕ) (n : length l ≡ 19) where
     ways true false z h = away-alike BadState
     ways false y z h = ap (λ (s : List ℕ). record { result = 14; state = s; replies = replies; report = report }) front
 
-    short-call : Bytes l → Bytes input → callOf l input replies report ≡ shortCall (callOf (lengthened l) input replies report)
-    unfolding callOf
+    short-call : Bytes l → Bytes input → cond (eqb (length report) 9) (callUnder on l input replies) (record { result = 14; state = l; replies = replies; report = report })
+        ≡ shortCall (cond (eqb (length report) 9) (callUnder on (lengthened l) input replies) (record { result = 14; state = lengthened l; replies = replies; report = report }))
     short-call B I =
         let x = eqb (length report) 9 in
         let z = ltb 12288 (length input) in
         ap (λ (m : ℕ). way x (isState l) z l m) n
-        ∙ ways x (isState l) z (λ g. run-ready (cardIn l) input (length replies) (card-ready l B g) I .chip .stack .sixteen)
+        ∙ ways x (isState l) z (λ g. run-ready (cardIn on l) input (length replies) (card-ready on l B g) I .chip .stack .sixteen)
         ∙ sym (ap (λ (c : Called). shortCall c) (
-        ap (λ (y : Bool). cond x (cond y (cond z (away InputTooLong (lengthened l) replies) (ranOf (length (lengthened l)) (runOf (cardIn (lengthened l)) input (length replies)) replies)) (away BadState (lengthened l) replies)) (record { result = 14; state = lengthened l; replies = replies; report = report })) (same-good l n)
-        ∙ ap₂ (λ (m : ℕ) (k : Card). cond x (cond (isState l) (cond z (away InputTooLong (lengthened l) replies) (ranOf m (runOf k input (length replies)) replies)) (away BadState (lengthened l) replies)) (record { result = 14; state = lengthened l; replies = replies; report = report })) (longer l n) (same-card l n)))
+        ap (λ (y : Bool). cond x (cond y (cond z (away InputTooLong (lengthened l) replies) (ranOf (length (lengthened l)) (runOf (cardIn on (lengthened l)) input (length replies)) replies)) (away BadState (lengthened l) replies)) (record { result = 14; state = lengthened l; replies = replies; report = report })) (same-good l n)
+        ∙ ap₂ (λ (m : ℕ) (k : Card). cond x (cond (isState l) (cond z (away InputTooLong (lengthened l) replies) (ranOf m (runOf k input (length replies)) replies)) (away BadState (lengthened l) replies)) (record { result = 14; state = lengthened l; replies = replies; report = report })) (longer l n) (same-card l n on)))
 
   -- and through the event
   module _ (kind byte : ℕ) where
     abbrev answer : CardAnswer
-    answer = answerToKind (cardIn l) kind byte
+    answer = answerToKind (cardIn on l) kind byte
 
     abbrev turn : Bool → Bool → List ℕ → ℕ → Signal
     turn y z state size = cond y (record { result = joinedOf (numberOf (answer .refusal)) (answer .byte); state = cond z (laidOut size (answer .card)) state }) (record { result = joinedOf 13 0; state = state })
@@ -319,15 +319,14 @@ module _ (l : List ℕ) (n : length l ≡ 19) where
     turns true false h = ap (λ (s : List ℕ). record { result = joinedOf (numberOf (answer .refusal)) (answer .byte); state = s }) front
     turns false z h = ap (λ (s : List ℕ). record { result = joinedOf 13 0; state = s }) front
 
-    short-signal : Bytes l → byte < 256 → signalOf l kind byte ≡ shortSignal (signalOf (lengthened l) kind byte)
-    unfolding signalOf
+    short-signal : Bytes l → byte < 256 → signalUnder on l kind byte ≡ shortSignal (signalUnder on (lengthened l) kind byte)
     short-signal B b =
         let z = eqb (numberOf (answer .refusal)) 0 in
         ap (λ (m : ℕ). turn (isState l) z l m) n
-        ∙ turns (isState l) z (λ g. event-ready (cardIn l) kind byte b (card-ready l B g) .chip .stack .sixteen)
+        ∙ turns (isState l) z (λ g. event-ready (cardIn on l) kind byte b (card-ready on l B g) .chip .stack .sixteen)
         ∙ sym (ap (λ (x : Signal). shortSignal x) (
-        ap (λ (y : Bool). cond y (signalBy (lengthened l) (answerToKind (cardIn (lengthened l)) kind byte)) (record { result = joinedOf 13 0; state = lengthened l })) (same-good l n)
-        ∙ ap (λ (k : Card). cond (isState l) (signalBy (lengthened l) (answerToKind k kind byte)) (record { result = joinedOf 13 0; state = lengthened l })) (same-card l n)
+        ap (λ (y : Bool). cond y (signalBy (lengthened l) (answerToKind (cardIn on (lengthened l)) kind byte)) (record { result = joinedOf 13 0; state = lengthened l })) (same-good l n)
+        ∙ ap (λ (k : Card). cond (isState l) (signalBy (lengthened l) (answerToKind k kind byte)) (record { result = joinedOf 13 0; state = lengthened l })) (same-card l n on)
         ∙ ap (λ (m : ℕ). turn (isState l) z (lengthened l) m) (longer l n)))
 
 -- the longer bytes are bytes
@@ -335,13 +334,15 @@ longer-bytes : (l : List ℕ) → Bytes l → Bytes (lengthened l)
 longer-bytes l B = bytes-append l (0 ∷ 0 ∷ []) B (lit< tt, (lit< tt, tt))
 
 pub short-states : ShortStates
-short-states c M = record {
+short-states g C c M = record {
   run = λ state input replies report n B I W P.
       called-as (c .run state input replies report) _ (M .run state input replies report B I W P)
-      ∙ short-call state n input replies report B I
-      ∙ ap (λ (x : Called). shortCall x) (sym (called-as (c .run (lengthened state) input replies report) _ (M .run (lengthened state) input replies report (longer-bytes state B) I W P)));
+      ∙ run-chosen (g .mode) state input replies report (C .mode)
+      ∙ short-call (settingsIn g) state n input replies report B I
+      ∙ ap (λ (x : Called). shortCall x) (sym (run-chosen (g .mode) (lengthened state) input replies report (C .mode)) ∙ sym (called-as (c .run (lengthened state) input replies report) _ (M .run (lengthened state) input replies report (longer-bytes state B) I W P)));
   event = λ state kind byte n B k b.
       signalled-as (c .event state kind byte) _ (M .event state kind byte B k b)
-      ∙ short-signal state n kind byte B b
-      ∙ ap (λ (x : Signal). shortSignal x) (sym (signalled-as (c .event (lengthened state) kind byte) _ (M .event (lengthened state) kind byte (longer-bytes state B) k b)));
+      ∙ event-chosen (g .mode) state kind byte (C .mode)
+      ∙ short-signal (settingsIn g) state n kind byte B b
+      ∙ ap (λ (x : Signal). shortSignal x) (sym (event-chosen (g .mode) (lengthened state) kind byte (C .mode)) ∙ sym (signalled-as (c .event (lengthened state) kind byte) _ (M .event (lengthened state) kind byte (longer-bytes state B) k b)));
 }

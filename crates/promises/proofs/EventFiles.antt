@@ -15,27 +15,30 @@ use Rattle.float.specs.Order.{Le}
 use Rattle.stack.specs.Stack.{Bytes, tos}
 use Rattle.stack.proofs.Words.{byte-at, bytes-append}
 use Rattle.chip.specs.declared.State.{State}
+use Rattle.terms.specs.Settings.{Settings}
 use Rattle.chip.specs.declared.Answer.{Answer}
 use Rattle.chip.specs.declared.Event.{Event as ChipEvent}
 use Rattle.chip.specs.declared.Event.the-variants.{Push, Pop, Command, Status, Reset, Acknowledge}
 use Rattle.chip.specs.State.{busy}
-use Rattle.chip.specs.Step.{pushOf, popOf, readOf, resetOf, acknowledgeOf, commandOf}
+use Rattle.chip.specs.Step.{pushOf, popOf, readOf, acknowledgeOf, commandUnder}
 use Rattle.chip.proofs.InTurn.{pop-done}
 use Rattle.chip.proofs.Rows.{both-of}
 use Rattle.memory.specs.declared.Memory.{Memory}
 use Rattle.memory.specs.declared.Event.{Event}
 use Rattle.memory.specs.declared.Event.the-variants.{Chip, Recall, Forget}
-use Rattle.memory.specs.Memory.{emptyMemory, Card, cardWith, CardAnswer, keptAfter, eventIn}
+use Rattle.memory.specs.Memory.{emptyMemory, Card, cardWith, CardAnswer, keptAfter, answerWith, eventIn}
 use Rattle.memory.specs.History.{afterAll}
 use Rattle.memory.proofs.Good.{memory-cases, ReadyCard}
 use Rattle.records.specs.Record.{turnOf}
 use Rattle.records.specs.Run.{Outcome, took, after as joinedTo, runOf as fileRun}
 use Rattle.files.proofs.Append.{nothing, onward, appended}
 use Rattle.records.proofs.Prefix.{lawful}
+use Rattle.records.proofs.Single.{reset-is}
 use Rattle.stored.specs.Bytes.{isState, cardIn, laidOut}
 use Rattle.stored.proofs.Cards.{card-returns, card-ready, laid-at}
-use Rattle.pundaliket.specs.Calls.{Called, ranOf, callOf, joinedOf}
+use Rattle.pundaliket.specs.Calls.{Called, ranOf, joinedOf}
 use Rattle.pundaliket.proofs.Calling.{good}
+use Rattle.promises.specs.Given.{Given, Chosen, settingsIn, runCall}
 use Rattle.promises.specs.Records.{countAt}
 use Rattle.promises.specs.Chains.{Step, runEvents}
 use Rattle.promises.specs.Cores.{Core, Meets, byteOf, Sendable, NoRecall, Keeps, driven, returned, answersOf, allZero, kindNumber, busRun, wordLeft}
@@ -44,7 +47,7 @@ use Rattle.promises.proofs.Records.{counts-exact, push-record, pop-reco
 use Rattle.promises.proofs.Refusals.{refusals}
 use Rattle.promises.proofs.Kept.{command-byte}
 use Rattle.promises.proofs.Pending.{bus-events}
-use Rattle.promises.proofs.Cores.{leaves-good, push-byte, state-told, bus-told, sent, cores}
+use Rattle.promises.proofs.Cores.{leaves-good, push-byte, Serves, still-serves, state-told, bus-told, sent, cores}
 
 -- ---- one event
 -- what its answer is joined to, by parts
@@ -61,69 +64,65 @@ numberFor k e = joinedOf (numberOf ((eventIn k e) .refusal)) ((eventIn k e) .byt
 abbrev Alike : Card → Event → ℕ → Type 0
 Alike k e room = fileRun k (recordOf e) room ≡ took ((eventIn k e) .card) (length (recordOf e)) (replyTo e (numberFor k e) (k .memory .code))
 
-module _ (s : State) (m : Memory) (G : ReadyCard (cardWith s m)) (room : ℕ) where
+module _ (on : Settings) (s : State) (m : Memory) (G : ReadyCard (cardWith on s m)) (room : ℕ) where
   calm : busy s ≡ false
   calm = lt-leb 128 (s .status) (G .chip .ready)
 
-  pushes : (b : ℕ) → 5 ≤ room → Alike (cardWith s m) (Chip (Push b)) room
+  pushes : (b : ℕ) → 5 ≤ room → Alike (cardWith on s m) (Chip (Push b)) room
   pushes b h =
       let z = refusals Am9511A .push-done s b calm in
       let y = push-byte s b in
-      push-record s m (b ∷ []) room calm (omega arith) (omega arith) h
-      ∙ ap (λ (n : ℕ). took (cardWith ((pushOf s b) .state) m) 5 (3 ∷ 0 ∷ 129 ∷ 0 ∷ n ∷ [])) (sym (refusal-in (numberOf ((pushOf s b) .refusal)) ((pushOf s b) .byte) (omega arith) ∙ z))
+      push-record on s m (b ∷ []) room calm (omega arith) (omega arith) h
+      ∙ ap (λ (n : ℕ). took (cardWith on ((pushOf s b) .state) m) 5 (3 ∷ 0 ∷ 129 ∷ 0 ∷ n ∷ [])) (sym (refusal-in (numberOf ((pushOf s b) .refusal)) ((pushOf s b) .byte) (omega arith) ∙ z))
 
-  commands : (code : ℕ) → 5 ≤ room → Alike (cardWith s m) (Chip (Command code)) room
+  commands : (code : ℕ) → 5 ≤ room → Alike (cardWith on s m) (Chip (Command code)) room
   commands code h =
-      let y = command-byte s code in
-      command-record s m code room h
-      ∙ ap (λ (n : ℕ). took (cardWith ((commandOf s code) .state) (keptAfter m (Command code) (commandOf s code))) 5 (3 ∷ 0 ∷ 131 ∷ 0 ∷ n ∷ [])) (sym (refusal-in (numberOf ((commandOf s code) .refusal)) ((commandOf s code) .byte) (omega arith)))
+      let y = command-byte (on .rule) s code in
+      command-record on s m code room h
+      ∙ ap (λ (n : ℕ). took (cardWith on ((commandUnder (on .rule) s code) .state) (keptAfter m (Command code) (commandUnder (on .rule) s code))) 5 (3 ∷ 0 ∷ 131 ∷ 0 ∷ n ∷ [])) (sym (refusal-in (numberOf ((commandUnder (on .rule) s code) .refusal)) ((commandUnder (on .rule) s code) .byte) (omega arith)))
 
-  pops : 6 ≤ room → Alike (cardWith s m) (Chip Pop) room
+  pops : 6 ≤ room → Alike (cardWith on s m) (Chip Pop) room
   pops h =
       let a = popOf s in
       let e = pop-done s (G .chip .ready) in
       let z : numberOf (a .refusal) ≡ 0 = refusals Am9511A .pop-done s calm in
       let y : a .byte < 256 = subst (λ (n : ℕ). n < 256) (sym (ap (λ (x : Answer). x .byte) e)) (byte-at (s .stack) (G .chip .stack .bytes) 0) in
-      pop-record s m 1 room calm (omega arith) (omega arith) h
-      ∙ ap₂ (λ (n b : ℕ). took (cardWith (a .state) m) 5 (4 ∷ 0 ∷ 130 ∷ 0 ∷ n ∷ b ∷ [])) (sym (refusal-in (numberOf (a .refusal)) (a .byte) y ∙ z)) (sym (byte-in (numberOf (a .refusal)) (a .byte) y))
+      pop-record on s m 1 room calm (omega arith) (omega arith) h
+      ∙ ap₂ (λ (n b : ℕ). took (cardWith on (a .state) m) 5 (4 ∷ 0 ∷ 130 ∷ 0 ∷ n ∷ b ∷ [])) (sym (refusal-in (numberOf (a .refusal)) (a .byte) y ∙ z)) (sym (byte-in (numberOf (a .refusal)) (a .byte) y))
 
-  reads : 6 ≤ room → Alike (cardWith s m) (Chip Status) room
+  reads : 6 ≤ room → Alike (cardWith on s m) (Chip Status) room
   reads h =
       let r = refusals Am9511A .read-done s calm in
       let low = G .chip .ready in
       let y : (readOf s) .byte < 256 = subst (λ (n : ℕ). n < 256) (sym (r .1)) (omega arith) in
-      status-record s m room calm h
-      ∙ ap (λ (t : State). took (cardWith t m) 4 (4 ∷ 0 ∷ 132 ∷ 0 ∷ 0 ∷ s .status ∷ [])) (sym (r .2))
-      ∙ ap₂ (λ (n b : ℕ). took (cardWith ((readOf s) .state) m) 4 (4 ∷ 0 ∷ 132 ∷ 0 ∷ n ∷ b ∷ []))
+      status-record on s m room calm h
+      ∙ ap (λ (t : State). took (cardWith on t m) 4 (4 ∷ 0 ∷ 132 ∷ 0 ∷ 0 ∷ s .status ∷ [])) (sym (r .2))
+      ∙ ap₂ (λ (n b : ℕ). took (cardWith on ((readOf s) .state) m) 4 (4 ∷ 0 ∷ 132 ∷ 0 ∷ n ∷ b ∷ []))
       (sym (refusal-in (numberOf ((readOf s) .refusal)) ((readOf s) .byte) y ∙ r .0)) (sym (byte-in (numberOf ((readOf s) .refusal)) ((readOf s) .byte) y ∙ r .1))
 
-  resets : 5 ≤ room → Alike (cardWith s m) (Chip Reset) room
+  resets : 5 ≤ room → Alike (cardWith on s m) (Chip Reset) room
   resets h =
-      let g = bus-events Am9511A .reset-leaves refl (s .stack) (s .pending) (s .status) (s .service) (G .chip .ready) in
-      let y = g .byte-read in
-      let e : eventIn (cardWith s m) (Chip Reset) .card ≡ cardWith ((resetOf Am9511A s) .state) emptyMemory = rw (g .number) in
-      reset-record s m room calm h
-      ∙ ap (λ (t : State). took (cardWith t emptyMemory) 4 (3 ∷ 0 ∷ 133 ∷ 0 ∷ 0 ∷ [])) (sym (g .state))
-      ∙ ap₂ (λ (k : Card) (n : ℕ). took k 4 (3 ∷ 0 ∷ 133 ∷ 0 ∷ n ∷ [])) (sym e) (sym (refusal-in (numberOf ((resetOf Am9511A s) .refusal)) ((resetOf Am9511A s) .byte) (omega arith) ∙ g .number))
+      reset-record on s m room calm h
+      ∙ ap (λ (a : Answer). took (answerWith on m Reset a .card) 4 (3 ∷ 0 ∷ 133 ∷ 0 ∷ joinedOf (numberOf (a .refusal)) (a .byte) / 256 ∷ [])) (sym (reset-is (on .mode) s calm))
 
-  acknowledges : 5 ≤ room → Alike (cardWith s m) (Chip Acknowledge) room
+  acknowledges : 5 ≤ room → Alike (cardWith on s m) (Chip Acknowledge) room
   acknowledges h =
       let g = bus-events Am9511A .acknowledge-leaves (s .stack) (s .pending) (s .status) (s .service) (G .chip .ready) in
       let y = g .byte-read in
-      acknowledge-record s m room calm h
-      ∙ ap (λ (t : State). took (cardWith t m) 4 (3 ∷ 0 ∷ 134 ∷ 0 ∷ 0 ∷ [])) (sym (g .state))
-      ∙ ap (λ (n : ℕ). took (cardWith ((acknowledgeOf s) .state) m) 4 (3 ∷ 0 ∷ 134 ∷ 0 ∷ n ∷ [])) (sym (refusal-in (numberOf ((acknowledgeOf s) .refusal)) ((acknowledgeOf s) .byte) (omega arith) ∙ g .number))
+      acknowledge-record on s m room calm h
+      ∙ ap (λ (t : State). took (cardWith on t m) 4 (3 ∷ 0 ∷ 134 ∷ 0 ∷ 0 ∷ [])) (sym (g .state))
+      ∙ ap (λ (n : ℕ). took (cardWith on ((acknowledgeOf s) .state) m) 4 (3 ∷ 0 ∷ 134 ∷ 0 ∷ n ∷ [])) (sym (refusal-in (numberOf ((acknowledgeOf s) .refusal)) ((acknowledgeOf s) .byte) (omega arith) ∙ g .number))
 
-  recalls : 7 ≤ room → Alike (cardWith s m) Recall room
+  recalls : 7 ≤ room → Alike (cardWith on s m) Recall room
   recalls h =
       let b : m .bits < 256 = ⊎-elim (λ z. omega (arith, z .0)) (λ z. omega (arith, z .in-places)) (memory-cases (m .bits) (m .code) (G .memory .stands)) in
-      recall-record s m room calm h
-      ∙ rw calm (ap₂ (λ (n i : ℕ). took (cardWith s m) 4 (5 ∷ 0 ∷ 135 ∷ 0 ∷ n ∷ i ∷ m .code ∷ [])) (sym (refusal-in 0 (m .bits) b)) (sym (byte-in 0 (m .bits) b)))
+      recall-record on s m room calm h
+      ∙ rw calm (ap₂ (λ (n i : ℕ). took (cardWith on s m) 4 (5 ∷ 0 ∷ 135 ∷ 0 ∷ n ∷ i ∷ m .code ∷ [])) (sym (refusal-in 0 (m .bits) b)) (sym (byte-in 0 (m .bits) b)))
 
-  forgets : 5 ≤ room → Alike (cardWith s m) Forget room
-  forgets h = forget-record s m room calm h ∙ rw calm
+  forgets : 5 ≤ room → Alike (cardWith on s m) Forget room
+  forgets h = forget-record on s m room calm h ∙ rw calm
 
-  one : (e : Event) → length (replyTo e (numberFor (cardWith s m) e) (m .code)) ≤ room → Alike (cardWith s m) e room
+  one : (e : Event) → length (replyTo e (numberFor (cardWith on s m) e) (m .code)) ≤ room → Alike (cardWith on s m) e room
   one (Chip (Push b)) h = pushes b h
   one (Chip Pop) h = pops h
   one (Chip (Command code)) h = commands code h
@@ -150,19 +149,19 @@ files (e ∷ es) k room G S h =
     let w = replyTo e (numberFor k e) (k .memory .code) in
     let ws = answered t es in
     let n = length-append w ws in
-    let first : Alike k e room = one (k .chip) (k .memory) G room e (omega arith) in
+    let first : Alike k e room = one (k .on) (k .chip) (k .memory) G room e (omega arith) in
     appended lawful k (recordOf e) (fileOf es) room (ap (λ (o : Outcome). o .refusal) first)
     ∙ ap (λ (o : Outcome). onward turnOf o (fileOf es) room) first
     ∙ ap (joinedTo (length (recordOf e)) w) (files es t (room - length w) (leaves-good k e G (S .0)) (S .1) (omega arith))
     ∙ ap (λ (i : ℕ). took (afterAll t es) i (w ++ ws)) (sym (length-append (recordOf e) (fileOf es)))
 
 -- the codes are those of the state's byte 20 where there is one, and count only for the memory read
-module _ (c : Core) (M : Meets c) where
-  codes-long : (k : Card) → ReadyCard k → (es : List Event) → Sendable es → codesBefore c (laidOut 21 k) es ≡ codesOf k es
+module _ (g : Given) (C : Chosen g) (c : Core) (M : Meets g c) where
+  codes-long : (k : Card) → Serves g k → (es : List Event) → Sendable es → codesBefore c (laidOut 21 k) es ≡ codesOf k es
   codes-long k r [] S = refl
   codes-long k r (e ∷ es) S =
-      ap₂ (λ (b : ℕ) (l : List ℕ). b ∷ codesBefore c l es) (laid-at k (r .chip .stack .sixteen) 21 4) (state-told c M 21 (inr refl) k e r (S .0))
-      ∙ ap (λ (l : List ℕ). k .memory .code ∷ l) (codes-long ((eventIn k e) .card) (leaves-good k e r (S .0)) es (S .1))
+      ap₂ (λ (b : ℕ) (l : List ℕ). b ∷ codesBefore c l es) (laid-at k (r .good .chip .stack .sixteen) 21 4) (state-told g C c M 21 (inr refl) k e r (S .0))
+      ∙ ap (λ (l : List ℕ). k .memory .code ∷ l) (codes-long ((eventIn k e) .card) (still-serves g k e r (S .0)) es (S .1))
 
 same-replies : (es : List Event) (ns ks ls : List ℕ) → NoRecall es → repliesTo es ns ks ≡ repliesTo es ns ls
 same-replies [] ns ks ls o = refl
@@ -178,15 +177,15 @@ same-replies (Chip e ∷ es) ns ks ls o = ap₂ _++_ (alike e) (same-replies es 
 same-replies (Recall ∷ es) ns ks ls o = absurd o
 same-replies (Forget ∷ es) ns ks ls o = ap (λ (l : List ℕ). replyTo Forget (getD ns 0 0) 0 ++ l) (same-replies es (drop 1 ns) (drop 1 ks) (drop 1 ls) o)
 
-replies-told : (c : Core) → Meets c → (state : List ℕ) (es : List Event) → Bytes state → isState state ≡ true → Sendable es → Keeps state es
-    → repliesTo es (returned c state es) (codesBefore c state es) ≡ answered (cardIn state) es
-replies-told c M state es B g S o =
-    let k = cardIn state in
-    let ns = cores c M .returns state es B g S o in
+replies-told : (g : Given) → Chosen g → (c : Core) → Meets g c → (state : List ℕ) (es : List Event) → Bytes state → isState state ≡ true → Sendable es → Keeps state es
+    → repliesTo es (returned c state es) (codesBefore c state es) ≡ answered (cardIn (settingsIn g) state) es
+replies-told g C c M state es B i S o =
+    let k = cardIn (settingsIn g) state in
+    let ns = cores g C c M .returns state es B i S o in
     ⊎-elim
     (λ long.
-    let back : laidOut 21 k ≡ state = ap (λ (n : ℕ). laidOut n k) (sym long) ∙ card-returns state g in
-    ap₂ (repliesTo es) ns (subst (λ (l : List ℕ). codesBefore c l es ≡ codesOf k es) back (codes-long c M k (card-ready state B g) es S)))
+    let back : laidOut 21 k ≡ state = ap (λ (n : ℕ). laidOut n k) (sym long) ∙ card-returns (settingsIn g) state i in
+    ap₂ (repliesTo es) ns (subst (λ (l : List ℕ). codesBefore c l es ≡ codesOf k es) back (codes-long g C c M k (record { good = card-ready (settingsIn g) state B i; set = refl }) es S)))
     (λ none. ap (λ (l : List ℕ). repliesTo es l (codesBefore c state es)) ns ∙ same-replies es (answersOf k es) (codesBefore c state es) (codesOf k es) none)
     o
 
@@ -206,21 +205,21 @@ file-bytes [] S = tt
 file-bytes (e ∷ es) S = bytes-append (recordOf e) (fileOf es) (record-bytes e (S .0)) (file-bytes es (S .1))
 
 pub event-files : EventFiles
-event-files c M state es replies report S L =
-    let k = cardIn state in
+event-files g C c M state es replies report S L =
+    let k = cardIn (settingsIn g) state in
     let file = fileOf es in
-    let G = card-ready state (L .bytes .0) (L .good) in
+    let G = card-ready (settingsIn g) state (L .bytes .0) (L .good) in
     let told = M .run state file replies report (L .bytes .0) (file-bytes es S) (L .bytes .1) (L .bytes .2) in
     let ws = repliesTo es (returned c state es) (codesBefore c state es) in
-    let same : ws ≡ answered k es = replies-told c M state es (L .bytes .0) (L .good) S (L .told) in
+    let same : ws ≡ answered k es = replies-told g C c M state es (L .bytes .0) (L .good) S (L .told) in
     let o : fileRun k file (length replies) ≡ took (afterAll k es) (length file) ws =
     files es k (length replies) G S (subst (λ (l : List ℕ). length l ≤ length replies) same (L .room)) ∙ ap (took (afterAll k es) (length file)) (sym same) in
-    let call : callOf state file replies report ≡ ranOf (length state) (took (afterAll k es) (length file) ws) replies =
-    good state file replies report (L .nine) (L .good) (L .short) ∙ ap (λ (x : Outcome). ranOf (length state) x replies) o in
-    let counts = counts-exact state file replies report (L .nine) (L .good) (L .short) in
+    let call : runCall g state file replies report ≡ ranOf (length state) (took (afterAll k es) (length file) ws) replies =
+    good (g .mode) state file replies report (L .nine) (C .mode) (L .good) (L .short) ∙ ap (λ (x : Outcome). ranOf (length state) x replies) o in
+    let counts = counts-exact g C state file replies report (L .nine) (L .good) (L .short) in
     record {
       result = told .result-is ∙ ap (λ (x : Called). x .result) call;
-      state-is = told .state-is ∙ ap (λ (x : Called). x .state) call ∙ sym (cores c M .states state es (L .bytes .0) (L .good) S);
+      state-is = told .state-is ∙ ap (λ (x : Called). x .state) call ∙ sym (cores g C c M .states state es (L .bytes .0) (L .good) S);
       replies-are = told .replies-is ∙ ap (λ (x : Called). x .replies) call;
       all-taken = ap (λ (l : List ℕ). countAt l 1) (told .report-is) ∙ counts .0 ∙ ap (λ (x : Outcome). x .taken) o;
       all-written = ap (λ (l : List ℕ). countAt l 5) (told .report-is) ∙ counts .1 ∙ ap (λ (x : Outcome). length (x .written)) o;
@@ -236,22 +235,22 @@ all-zeros c (e ∷ es) state h =
     ap₂ (λ (n : ℕ) (l : List ℕ). n ∷ l) (eqb-true (x .result) 0 (p .0)) (all-zeros c es (x .state) (p .1))
 
 -- the word on top after the file is the word on top after the events
-on-top : (c : Core) → Meets c → (state : List ℕ) (w : ℕ) (sr : ℕ → Bool) (ks : List Step) (replies report : List ℕ) → Lent c state (busRun w sr ks) replies report
+on-top : (g : Given) → Chosen g → (c : Core) → Meets g c → (state : List ℕ) (w : ℕ) (sr : ℕ → Bool) (ks : List Step) (replies report : List ℕ) → Lent c state (busRun w sr ks) replies report
     → tos 4 ((c .run state (chainFile w sr ks) replies report) .state) ≡ wordLeft c state (busRun w sr ks)
-on-top c M state w sr ks replies report L = ap (tos 4) (event-files c M state (busRun w sr ks) replies report (sent w sr ks) L .state-is)
+on-top g C c M state w sr ks replies report L = ap (tos 4) (event-files g C c M state (busRun w sr ks) replies report (sent w sr ks) L .state-is)
 
 pub demand-3-files : Demand3Files
-demand-3-files c M = record {
-  answers = λ state w sr ks replies report B C L.
-      let f = event-files c M state (busRun w sr ks) replies report (sent w sr ks) L in
-      let z = all-zeros c (busRun w sr ks) state (cores c M .chain-answers state w sr ks B C) in
+demand-3-files g C c M = record {
+  answers = λ state w sr ks replies report B K L.
+      let f = event-files g C c M state (busRun w sr ks) replies report (sent w sr ks) L in
+      let z = all-zeros c (busRun w sr ks) state (cores g C c M .chain-answers state w sr ks B K) in
       (f .result, f .replies-are ∙ ap (λ (l : List ℕ). l ++ drop (length l) replies) (ap (λ (m : List ℕ). repliesTo (busRun w sr ks) m (codesBefore c state (busRun w sr ks))) z ∙ same-replies (busRun w sr ks) (zerosFor (busRun w sr ks)) (codesBefore c state (busRun w sr ks)) (zerosFor (busRun w sr ks)) (bus-told (runEvents w sr ks))));
-  bytes = λ state w sr ks replies report B C L.
-      ap (take 4) (event-files c M state (busRun w sr ks) replies report (sent w sr ks) L .state-is) ∙ cores c M .chain-bytes state w sr ks B C;
-  even = λ state state' v w sr sr' ks replies replies' report report' B B' C L L' q q' l e.
-      subst₂ Le (sym (on-top c M state v sr ks replies report L)) (sym (on-top c M state' w sr' ks replies' report' L'))
-      (cores c M .chain-even state state' v w sr sr' ks B B' C q q' l e);
-  odd = λ state state' v w sr sr' ks replies replies' report report' B B' C L L' q q' l e.
-      subst₂ Le (sym (on-top c M state' w sr' ks replies' report' L')) (sym (on-top c M state v sr ks replies report L))
-      (cores c M .chain-odd state state' v w sr sr' ks B B' C q q' l e);
+  bytes = λ state w sr ks replies report B K L.
+      ap (take 4) (event-files g C c M state (busRun w sr ks) replies report (sent w sr ks) L .state-is) ∙ cores g C c M .chain-bytes state w sr ks B K;
+  even = λ state state' v w sr sr' ks replies replies' report report' B B' K L L' q q' l e.
+      subst₂ Le (sym (on-top g C c M state v sr ks replies report L)) (sym (on-top g C c M state' w sr' ks replies' report' L'))
+      (cores g C c M .chain-even state state' v w sr sr' ks B B' K q q' l e);
+  odd = λ state state' v w sr sr' ks replies replies' report report' B B' K L L' q q' l e.
+      subst₂ Le (sym (on-top g C c M state' w sr' ks replies' report' L')) (sym (on-top g C c M state v sr ks replies report L))
+      (cores g C c M .chain-odd state state' v w sr sr' ks B B' K q q' l e);
 }

@@ -9,21 +9,23 @@ use native.Mathlib.Omega.{arith}
 use lib.Dec.{eqb, lit<}
 use lib.ListN.{length, take, drop, getD, length-append, length-drop, take-append-drop}
 use lib.Seq.{length-take-le, getD-drop, getD-append-add, take-take}
-use borrow.Author.Tests.{ne-eqb}
+use borrow.Author.Tests.{ne-eqb, leb-true}
 use Rattle.little.proofs.Exact.{le4-exact}
 use Rattle.terms.specs.Refusal.{numberOf}
+use Rattle.terms.specs.declared.Rule.{Rule}
+use Rattle.terms.specs.Settings.{isMode}
 use Rattle.chip.specs.declared.State.{State}
 use Rattle.chip.specs.declared.Answer.{Answer}
 use Rattle.chip.specs.State.{busy}
-use Rattle.chip.specs.Commands.{baseRule, properOperands}
-use Rattle.chip.specs.Step.{refused, unlessBusy, pushOf, popOf, readOf, resetOf, acknowledgeOf, carried, answerByKind, commandUnder, commandOf}
+use Rattle.chip.specs.Commands.{properOperands}
+use Rattle.chip.specs.Step.{refused, unlessBusy, pushOf, popOf, readOf, resetOf, acknowledgeOf, carried, answerByKind, commandUnder}
 use Rattle.chip.specs.declared.Event.the-variants.{Push, Pop, Command, Status, Reset, Acknowledge}
 use Rattle.chip.proofs.Ready.{picked}
 use Rattle.memory.specs.declared.Event.the-variants.{Chip, Recall, Forget}
 use Rattle.memory.specs.declared.Memory.{Memory}
 use Rattle.memory.specs.Memory.{emptyMemory, isMemory, Card, CardAnswer, unlessBusy as unlessCardBusy}
 use Rattle.memory.proofs.Good.{memory-cases, marked-memory, ReadyCard, event-fair}
-use Rattle.terms.specs.declared.Refusal.the-variants.{BadState}
+use Rattle.terms.specs.declared.Refusal.the-variants.{BadState, BadMode}
 use Rattle.stack.specs.Stack.{Bytes, topByte}
 use Rattle.stack.proofs.Words.{bytes-take, byte-at}
 use Rattle.codes.specs.declared.Kind.{Kind}
@@ -36,11 +38,12 @@ use Rattle.files.proofs.Cut.{cut-anywhere}
 use Rattle.records.specs.Run.{Outcome, runOf}
 use Rattle.records.proofs.Prefix.{lawful}
 use Rattle.records.proofs.Ready.{run-ready}
-use Rattle.stored.specs.Bytes.{isState, cardIn, laidOut}
+use Rattle.stored.specs.Bytes.{isState, memoryIn, cardIn, laidOut}
 use Rattle.stored.proofs.States.{state-stands, stands-state}
 use Rattle.stored.proofs.Cards.{card-returns, card-ready, laid-length, laid-state}
-use Rattle.pundaliket.specs.Calls.{Called, ranOf, callOf, signalOf, signalBy, answerToKind, joinedOf, Sent, sentOf}
+use Rattle.pundaliket.specs.Calls.{Called, ranOf, callOf, Signal, signalOf, signalBy, unsent, answerToKind, joinedOf, Sent, sentOf}
 use Rattle.pundaliket.proofs.Calling.{false-true, bad-state, too-long, good}
+use Rattle.promises.specs.Given.{Given, Chosen, settingsIn, runCall, eventCall}
 use Rattle.promises.specs.Records.{countAt}
 use Rattle.promises.specs.Kept.{NoReport, NoState, LongInput, Remembers, Stands, GoodStates, StateReturns, EmptyInput, EventKept, OutKept, StateStays, StateStaysEvent, RepliesStay, StopsThere, BadFile, CutCall, CutFile, LastEnd}
 use Rattle.promises.proofs.Records.{counts-exact}
@@ -49,13 +52,13 @@ use Rattle.promises.proofs.Records.{counts-exact}
 
 pub no-report : NoReport
 unfolding callOf
-no-report state input replies report a = rw (ne-eqb (length report) 9 a)
+no-report g state input replies report a = rw (ne-eqb (length report) 9 a)
 
 pub no-state : NoState
-no-state state input replies report a b = bad-state state input replies report a b
+no-state g C state input replies report a b = bad-state (g .mode) state input replies report a (C .mode) b
 
 pub long-input : LongInput
-long-input state input replies report a b d = too-long state input replies report a b d
+long-input g C state input replies report a b d = too-long (g .mode) state input replies report a (C .mode) b d
 
 -- the two bytes of a memory, test by test
 pub remembers : (bits code : ℕ) → isMemory bits code ≡ true → Remembers bits code
@@ -90,8 +93,8 @@ pub state-returns : StateReturns
 state-returns = card-returns
 
 pub empty-input : EmptyInput
-empty-input state replies report a b =
-    good state [] replies report a b (omega arith) ∙ rw (nothing lawful (cardIn state) (length replies), state-returns state b)
+empty-input g C state replies report a b =
+    good (g .mode) state [] replies report a (C .mode) b (omega arith) ∙ rw (nothing lawful (cardIn (settingsIn g) state) (length replies), state-returns (settingsIn g) state b)
 
 pub out-kept : OutKept
 unfolding sentOf
@@ -102,17 +105,17 @@ out-kept reply out =
 -- ---- what is known of a call
 
 -- either it is turned away with a refusal and leaves state and replies, or it is a run
-module _ (state input replies report : List ℕ) where
+module _ (g : Given) (state input replies report : List ℕ) where
   abbrev pub Away : Called → Type 0
   Away c = (0 < c .result) × (c .state ≡ state) × (c .replies ≡ replies)
 
   pub calls : (P : Called → Type 0) → ((c : Called) → Away c → P c)
-      → (length report ≡ 9 → isState state ≡ true → length input ≤ 12288 → P (ranOf (length state) (runOf (cardIn state) input (length replies)) replies))
-      → P (callOf state input replies report)
+      → (length report ≡ 9 → Chosen g → isState state ≡ true → length input ≤ 12288 → P (ranOf (length state) (runOf (cardIn (settingsIn g) state) input (length replies)) replies))
+      → P (runCall g state input replies report)
   unfolding callOf
   calls P away ran =
       either-eq P (length report) 9 _ _
-      (λ n. either P (isState state) (λ b. either-lt P 12288 (length input) _ _ (λ d. away _ (omega arith, refl, refl)) (λ d. ran n b d)) (λ b. away _ (omega arith, refl, refl)))
+      (λ n. either P (isMode (g .mode)) (λ k. either P (isState state) (λ b. either-lt P 12288 (length input) _ _ (λ d. away _ (omega arith, refl, refl)) (λ d. ran n (record { mode = leb-true (g .mode) 1 k }) b d)) (λ b. away _ (omega arith, refl, refl))) (λ k. away _ (omega arith, refl, refl)))
       (λ n. away _ (omega arith, refl, refl))
     where
       either : {x y : Called} (P : Called → Type 0) (b : Bool) → (b ≡ true → P x) → (b ≡ false → P y) → P (cond b x y)
@@ -122,13 +125,13 @@ module _ (state input replies report : List ℕ) where
 -- ---- replies
 
 pub replies-stay : RepliesStay
-replies-stay state input replies report =
-    calls state input replies report
+replies-stay g state input replies report =
+    calls g state input replies report
     (λ c. (length (c .replies) ≡ length replies) × ((i : ℕ) → countAt (c .report) 5 ≤ i → getD (c .replies) i 0 ≡ getD replies i 0))
     (λ c a. (ap length (a .2), λ i h. ap (λ (l : List ℕ). getD l i 0) (a .2)))
-    (λ n b d.
-    let o = runOf (cardIn state) input (length replies) in
-    let t = tally lawful (cardIn state) input (length replies) in
+    (λ n C b d.
+    let o = runOf (cardIn (settingsIn g) state) input (length replies) in
+    let t = tally lawful (cardIn (settingsIn g) state) input (length replies) in
     let w = o .written in
     let f = t .in-file in
     let few = t .few in
@@ -153,26 +156,26 @@ stops-at s l room z =
     (r .0, r .1, stops-there lawful s l room z)
 
 pub bad-file : BadFile
-bad-file state input replies report a b d =
-    let s = cardIn state in
+bad-file g C state input replies report a b d =
+    let s = cardIn (settingsIn g) state in
     let room = length replies in
     let o = runOf s input room in
     let t = tally lawful s input room in
     let f = t .in-file in
     let n = length-take-le (o .taken) input f in
     let exact = le4-exact (o .taken) (omega arith) in
-    rw (good state input replies report a b d, exact)
-    (good state (take (o .taken) input) replies report a b (omega arith) ∙ ap (λ (p : Outcome). ranOf (length state) p replies) (up-to-stop lawful s input room))
+    rw (good (g .mode) state input replies report a (C .mode) b d, exact)
+    (good (g .mode) state (take (o .taken) input) replies report a (C .mode) b (omega arith) ∙ ap (λ (p : Outcome). ranOf (length state) p replies) (up-to-stop lawful s input room))
 
 -- ---- a file cut after any byte
 
 pub cut-file : CutFile
-cut-file state input replies report =
-    calls state input replies report
-    (λ c. c .result ≡ 0 → (k : ℕ) → k ≤ length input → (n : ℕ) × CutCall (callOf state (take k input) replies report) (callOf state (take n input) replies report) k n)
+cut-file g state input replies report =
+    calls g state input replies report
+    (λ c. c .result ≡ 0 → (k : ℕ) → k ≤ length input → (n : ℕ) × CutCall (runCall g state (take k input) replies report) (runCall g state (take n input) replies report) k n)
     (λ c a z. let y : ⊥ = omega (arith, a .0) in absurd y)
-    (λ a b d z k most.
-    let s = cardIn state in
+    (λ a C b d z k most.
+    let s = cardIn (settingsIn g) state in
     let room = length replies in
     let r = cut-anywhere lawful s input room z k most in
     let n = r .0 in
@@ -182,7 +185,7 @@ cut-file state input replies report =
     let ln = length-take-le n input (omega arith) in
     let exact = le4-exact (runOf s (take n input) room .taken) (omega (arith, c .whole-taken)) in (
       n,
-      rw (good state (take k input) replies report a b (omega arith), good state (take n input) replies report a b (omega arith)) record {
+      rw (good (g .mode) state (take k input) replies report a (C .mode) b (omega arith), good (g .mode) state (take n input) replies report a (C .mode) b (omega arith)) record {
         upto = up;
         whole-done = c .whole-done;
         whole-taken = exact ∙ c .whole-taken;
@@ -211,33 +214,33 @@ count-after [] = refl
 count-after (x ∷ l) = refl
 
 pub last-end : LastEnd
-last-end state input replies report z k n most c m up w =
-    let s = cardIn state in
+last-end g state input replies report z k n most c m up w =
+    let s = cardIn (settingsIn g) state in
     let room = length replies in
-    let is = calls state input replies report (λ (x : Called). x .result ≡ 0 → (length report ≡ 9) × (isState state ≡ true) × (length input ≤ 12288))
-    (λ x a y. let q : ⊥ = omega (arith, a .0) in absurd q) (λ a b d y. (a, b, d)) z in
+    let is = calls g state input replies report (λ (x : Called). x .result ≡ 0 → (length report ≡ 9) × (isState state ≡ true) × (length input ≤ 12288) × Chosen g)
+    (λ x a y. let q : ⊥ = omega (arith, a .0) in absurd q) (λ a C b d y. (a, b, d, C)) z in
     let long = is .2 in
     let lk = length-take-le k input most in
     let lm = length-take-le m input (omega arith) in
-    let taken : countAt (callOf state (take k input) replies report .report) 1 ≡ runOf s (take k input) room .taken =
-    counts-exact state (take k input) replies report (is .0) (is .1) (omega arith) .0 in
-    let ends : countAt (callOf state (take k input) replies report .report) 1 ≡ n =
-    count-after (callOf state (take k input) replies report .report) ∙ ap (λ (l : List ℕ). countAt l 0) (c .counts-are)
-    ∙ sym (count-after (callOf state (take n input) replies report .report)) ∙ c .whole-taken in
+    let taken : countAt (runCall g state (take k input) replies report .report) 1 ≡ runOf s (take k input) room .taken =
+    counts-exact g (is .3) state (take k input) replies report (is .0) (is .1) (omega arith) .0 in
+    let ends : countAt (runCall g state (take k input) replies report .report) 1 ≡ n =
+    count-after (runCall g state (take k input) replies report .report) ∙ ap (λ (l : List ℕ). countAt l 0) (c .counts-are)
+    ∙ sym (count-after (runCall g state (take n input) replies report .report)) ∙ c .whole-taken in
     let done : runOf s (take m input) room .refusal ≡ 0 =
-    sym (ap (λ (x : Called). x .result) (good state (take m input) replies report (is .0) (is .1) (omega arith))) ∙ w in
+    sym (ap (λ (x : Called). x .result) (good (g .mode) state (take m input) replies report (is .0) (is .3 .mode) (is .1) (omega arith))) ∙ w in
     let front = takes-more s (take k input) room m (omega arith) (ap (λ (l : List ℕ). runOf s l room .refusal) (take-take m k input up) ∙ done) in
     omega arith
 
 -- ---- a single event
 
 -- a command hands out no byte
-pub command-byte : (s : State) (code : ℕ) → commandOf s code .byte ≡ 0
+pub command-byte : (rule : Rule) (s : State) (code : ℕ) → commandUnder rule s code .byte ≡ 0
 unfolding commandUnder carried
-command-byte s code =
+command-byte rule s code =
     picked (λ (a : Answer). a .byte ≡ 0) (busy s) _ _ refl (by-kind (decoded (code % 128)))
   where
-    by-kind : (k : Kind) → answerByKind baseRule s (sr code) k .byte ≡ 0
+    by-kind : (k : Kind) → answerByKind rule s (sr code) k .byte ≡ 0
     by-kind (Known c) = picked (λ (a : Answer). a .byte ≡ 0) (s .pending) _ _ refl (picked (λ (a : Answer). a .byte ≡ 0) (properOperands c (s .stack)) _ _ refl refl)
     by-kind Derived = refl
     by-kind Unknown = refl
@@ -248,7 +251,7 @@ unfolding pushOf popOf readOf resetOf acknowledgeOf
 event-byte c kind byte top status bits =
     either-eq Small kind 1 _ _ (λ e. ready _ (omega arith)) (λ a.
     either-eq Small kind 2 _ _ (λ e. ready _ top) (λ b.
-    either-eq Small kind 3 _ _ (λ e. let z = command-byte (c .chip) byte in omega arith) (λ d.
+    either-eq Small kind 3 _ _ (λ e. let z = command-byte (c .on .rule) (c .chip) byte in omega arith) (λ d.
     either-eq Small kind 4 _ _ (λ e. ready _ status) (λ f.
     either-eq Small kind 5 _ _ (λ e. ready _ (omega arith)) (λ g.
     either-eq Small kind 6 _ _ (λ e. ready _ (omega arith)) (λ h.
@@ -273,7 +276,7 @@ event-byte c kind byte top status bits =
         pick false = h
 
 -- the bits that bytes are read as
-bits-byte : (l : List ℕ) → Bytes l → cardIn l .memory .bits < 256
+bits-byte : (l : List ℕ) → Bytes l → memoryIn l .bits < 256
 bits-byte l h = by (eqb (length l) 19)
   where
     by : (x : Bool) → (cond {A = Memory} x emptyMemory (record { bits = getD l 19 0; code = getD l 20 0 })) .bits < 256
@@ -282,29 +285,30 @@ bits-byte l h = by (eqb (length l) 19)
 
 pub event-kept : EventKept
 unfolding signalOf
-event-kept state kind byte bytes = by (isState state)
+event-kept g state kind byte bytes = by (isMode (g .mode)) (isState state)
   where
     a : CardAnswer
-    a = answerToKind (cardIn state) kind byte
+    a = answerToKind (cardIn (settingsIn g) state) kind byte
 
     small : a .byte < 256
-    small = event-byte (cardIn state) kind byte (byte-at (take 16 state) (bytes-take 16 state bytes) 0) (byte-at state bytes 17) (bits-byte state bytes)
+    small = event-byte (cardIn (settingsIn g) state) kind byte (byte-at (take 16 state) (bytes-take 16 state bytes) 0) (byte-at state bytes 17) (bits-byte state bytes)
 
-    by : (b : Bool) → 256 ≤ (cond b (signalBy state a) (record { result = joinedOf 13 0; state = state })) .result
-        → (cond b (signalBy state a) (record { result = joinedOf 13 0; state = state })) .state ≡ state
-    by true h =
+    by : (k b : Bool) → 256 ≤ (cond k (cond b (signalBy state a) (unsent BadState state)) (unsent BadMode state)) .result
+        → (cond k (cond b (signalBy state a) (unsent BadState state)) (unsent BadMode state)) .state ≡ state
+    by true true h =
         either-eq (λ (l : List ℕ). l ≡ state) (numberOf (a .refusal)) 0 (laidOut (length state) (a .card)) state
         (λ z. let y : ⊥ = omega (arith, small) in absurd y) (λ z. refl)
-    by false h = refl
+    by true false h = refl
+    by false b h = refl
 
 -- ---- a state stays a state
 
 pub state-stays : StateStays
-state-stays state input replies report h g b =
-    calls state input replies report (λ c. (isState (c .state) ≡ true) × (length (c .state) ≡ length state)) (λ c a. (ap isState (a .1) ∙ b, ap length (a .1)))
-    (λ n d m.
-    let k = runOf (cardIn state) input (length replies) .state in
-    let r = run-ready (cardIn state) input (length replies) (card-ready state h b) g in
+state-stays g state input replies report h i b =
+    calls g state input replies report (λ c. (isState (c .state) ≡ true) × (length (c .state) ≡ length state)) (λ c a. (ap isState (a .1) ∙ b, ap length (a .1)))
+    (λ n C d m.
+    let k = runOf (cardIn (settingsIn g) state) input (length replies) .state in
+    let r = run-ready (cardIn (settingsIn g) state) input (length replies) (card-ready (settingsIn g) state h b) i in
     let z = stands state b .size in
     (laid-state k r (length state) z, laid-length k (r .chip .stack .sixteen) (length state) z))
 
@@ -325,9 +329,13 @@ event-ready c kind byte h r =
 
 pub state-stays-event : StateStaysEvent
 unfolding signalOf
-state-stays-event state kind byte h g b =
-    let a = answerToKind (cardIn state) kind byte in
-    let r = event-ready (cardIn state) kind byte g (card-ready state h b) in
+state-stays-event g state kind byte h i b =
+    let a = answerToKind (cardIn (settingsIn g) state) kind byte in
+    let r = event-ready (cardIn (settingsIn g) state) kind byte i (card-ready (settingsIn g) state h b) in
     let z = stands state b .size in
-    rw b (either-eq (λ (l : List ℕ). (isState l ≡ true) × (length l ≡ length state)) (numberOf (a .refusal)) 0 (laidOut (length state) (a .card)) state
-    (λ y. (laid-state (a .card) r (length state) z, laid-length (a .card) (r .chip .stack .sixteen) (length state) z)) (λ y. (b, refl)))
+    rw b (by (isMode (g .mode)) _ (either-eq (λ (l : List ℕ). (isState l ≡ true) × (length l ≡ length state)) (numberOf (a .refusal)) 0 (laidOut (length state) (a .card)) state
+    (λ y. (laid-state (a .card) r (length state) z, laid-length (a .card) (r .chip .stack .sixteen) (length state) z)) (λ y. (b, refl))))
+  where
+    by : (x : Bool) (t : Signal) → (isState (t .state) ≡ true) × (length (t .state) ≡ length state) → (isState (cond x t (unsent BadMode state) .state) ≡ true) × (length (cond x t (unsent BadMode state) .state) ≡ length state)
+    by true t q = q
+    by false t q = (b, refl)

@@ -24,3 +24,4 @@ pub mod WrongCores
 pub mod OldLimits
 pub mod LongBlocks
 pub mod ErrorMemory
+pub mod Modes

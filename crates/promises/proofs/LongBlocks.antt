@@ -59,13 +59,13 @@ module _ (s : State) (b : busy s ≡ false) (h : length (s .stack) ≡ 16) where
 -- ---- the statement
 pub long-blocks : LongBlocks
 long-blocks = record {
-  push-240 = λ s m p room b h n i.
-      sym (ap (λ (k : ℕ). runOf (cardWith s m) ((2 + k) ∷ 0 ∷ 1 ∷ 0 ∷ p) room) n)
-      ∙ push-alone s m p room b (omega arith) (omega arith) i
-      ∙ ap₂ (λ (t : State) (k : ℕ). took (cardWith t m) (4 + k) (3 ∷ 0 ∷ 129 ∷ 0 ∷ 0 ∷ [])) (after-pushes s b h p n) n;
-  pop-240 = λ s m room b h i.
-      pop-alone s m 240 room b (lit≤ tt) (lit≤ tt) i
-      ∙ ap₂ (λ (t : State) (l : List ℕ). took (cardWith t m) 5 (243 ∷ 0 ∷ 130 ∷ 0 ∷ 0 ∷ l)) (after-pops s b h) (pops-bytes 240 s (ready s b) ∙ rounds 15 (s .stack) h .0);
+  push-240 = λ on s m p room b h n i.
+      sym (ap (λ (k : ℕ). runOf (cardWith on s m) ((2 + k) ∷ 0 ∷ 1 ∷ 0 ∷ p) room) n)
+      ∙ push-alone on s m p room b (omega arith) (omega arith) i
+      ∙ ap₂ (λ (t : State) (k : ℕ). took (cardWith on t m) (4 + k) (3 ∷ 0 ∷ 129 ∷ 0 ∷ 0 ∷ [])) (after-pushes s b h p n) n;
+  pop-240 = λ on s m room b h i.
+      pop-alone on s m 240 room b (lit≤ tt) (lit≤ tt) i
+      ∙ ap₂ (λ (t : State) (l : List ℕ). took (cardWith on t m) 5 (243 ∷ 0 ∷ 130 ∷ 0 ∷ 0 ∷ l)) (after-pops s b h) (pops-bytes 240 s (ready s b) ∙ rounds 15 (s .stack) h .0);
   in-turn = in-turn;
   round = λ s n i b h l. ap (λ (k : List ℕ). getD k i 0) (pops-bytes n s (ready s b)) ∙ byte-round n i (s .stack) h l;
 }

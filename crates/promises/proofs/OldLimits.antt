@@ -18,6 +18,7 @@ use Rattle.records.proofs.Wider.{same-run, same-up-to}
 use Rattle.stored.specs.Bytes.{cardIn}
 use Rattle.pundaliket.specs.Calls.{ranOf}
 use Rattle.pundaliket.proofs.Calling.{good}
+use Rattle.promises.specs.Given.{settingsIn}
 use Rattle.promises.specs.OldLimits.{OldLimits}
 
 -- a head that is 7 ends a run at once
@@ -41,6 +42,6 @@ old-limits = record {
   old-count = λ s room n rest h. seven s (3 ∷ 0 ∷ 2 ∷ 0 ∷ n ∷ rest) room (long-pop n rest h) (omega arith);
   same = same-run 16 240 (lit≤ tt) (lit≤ tt);
   up-to = same-up-to 16 240 (lit≤ tt) (lit≤ tt);
-  call = λ state input replies report a b d no.
-      good state input replies report a b d ∙ ap (λ (o : Outcome). ranOf (length state) o replies) (same-run 16 240 (lit≤ tt) (lit≤ tt) (cardIn state) input (length replies) no);
+  call = λ g C state input replies report a b d no.
+      good (g .mode) state input replies report a (C .mode) b d ∙ ap (λ (o : Outcome). ranOf (length state) o replies) (same-run 16 240 (lit≤ tt) (lit≤ tt) (cardIn (settingsIn g) state) input (length replies) no);
 }

@@ -31,6 +31,7 @@ use Rattle.stored.specs.Bytes.{stateOf, cardIn, flagOf}
 use Rattle.stored.proofs.Cards.{card-ready, laid-at}
 use Rattle.pundaliket.proofs.Calling.{false-true}
 use Rattle.promises.specs.Cores.{Sendable, onBus}
+use Rattle.promises.specs.Given.{settingsIn}
 use Rattle.promises.specs.Pending.{Answers, stateWith, movedSince, Odd, Bus, PendingByte, BusEvents}
 use Rattle.promises.proofs.Refusals.{numbers}
 use Rattle.promises.proofs.Kept.{good-states}
@@ -154,11 +155,11 @@ odd-flag true n o = either-eq (λ (x : ℕ). 1 ≡ n % 2) (n % 2) 0 0 0 (λ e. a
 odd-flag false n o = either-eq (λ (x : ℕ). 0 ≡ n % 2) (n % 2) 0 0 0 (λ e. sym e) (λ z. absurd (false-true (o .set (omega arith))))
 
 pub pending-byte : PendingByte
-pending-byte c M state es B g S =
-    let r = card-ready state B g in
-    let k = afterAll (cardIn state) (onBus es) in
-    let o = parity (under Am9511A) es (stateOf state) (getD state 16 0) (r .chip) S (flag-odd (getD state 16 0) (good-states state .0 g .pending)) in
-    ap (λ (l : List ℕ). getD l 16 0) (cores c M .states state (onBus es) B g S)
-    ∙ laid-at k (all-good (onBus es) (cardIn state) r S .chip .stack .sixteen) (length state) 0
-    ∙ ap (λ (s : State). flagOf (s .pending)) (chip-alone (cardIn state) es)
-    ∙ odd-flag ((afterEvents (under Am9511A) (stateOf state) es) .pending) (movedSince (getD state 16 0) es) o
+pending-byte g C c M state es B i S =
+    let r = card-ready (settingsIn g) state B i in
+    let k = afterAll (cardIn (settingsIn g) state) (onBus es) in
+    let o = parity (settingsIn g) es (stateOf state) (getD state 16 0) (r .chip) S (flag-odd (getD state 16 0) (good-states state .0 i .pending)) in
+    ap (λ (l : List ℕ). getD l 16 0) (cores g C c M .states state (onBus es) B i S)
+    ∙ laid-at k (all-good (onBus es) (cardIn (settingsIn g) state) r S .chip .stack .sixteen) (length state) 0
+    ∙ ap (λ (s : State). flagOf (s .pending)) (chip-alone (cardIn (settingsIn g) state) es)
+    ∙ odd-flag ((afterEvents (settingsIn g) (stateOf state) es) .pending) (movedSince (getD state 16 0) es) o

@@ -28,6 +28,7 @@ use Rattle.records.proofs.Single.{one-turn, no-turn, stopped-by, push-alone, po
 use Rattle.records.proofs.Ready.{event-fair, run-ready}
 use Rattle.stored.specs.Bytes.{cardIn}
 use Rattle.pundaliket.proofs.Calling.{good}
+use Rattle.promises.specs.Given.{settingsIn}
 use Rattle.promises.specs.Records.{IsRecord, joined, EachTaken, repliesOf, InTurn, EachSmall, InReply, Split, Counted, CountsExact, PushRecord, PopRecord, CommandRecord, StatusRecord, ResetRecord, AcknowledgeRecord, RecallRecord, ForgetRecord, NoRoomRecord, BadHead}
 
 -- ---- records in turn
@@ -103,12 +104,12 @@ counted =
 -- ---- the report's counts
 
 pub counts-exact : CountsExact
-counts-exact state input replies report a b d =
-    let o = runOf (cardIn state) input (length replies) in
-    let t = tally lawful (cardIn state) input (length replies) in
+counts-exact g C state input replies report a b d =
+    let o = runOf (cardIn (settingsIn g) state) input (length replies) in
+    let t = tally lawful (cardIn (settingsIn g) state) input (length replies) in
     let i = t .in-file in
     let f = t .few in
-    rw (good state input replies report a b d) (le4-exact (o .taken) (omega arith), le4-exact (length (o .written)) (omega arith))
+    rw (good (g .mode) state input replies report a (C .mode) b d) (le4-exact (o .taken) (omega arith), le4-exact (length (o .written)) (omega arith))
 
 -- ---- one whole record
 
@@ -134,19 +135,19 @@ pub command-record : CommandRecord
 command-record = command-alone
 
 pub status-record : StatusRecord
-status-record s m room calm h = status-alone s m room calm h
+status-record on s m room calm h = status-alone on s m room calm h
 
 pub reset-record : ResetRecord
-reset-record s m room calm h = reset-alone s m room calm h
+reset-record on s m room calm h = reset-alone on s m room calm h
 
 pub acknowledge-record : AcknowledgeRecord
-acknowledge-record s m room calm h = acknowledge-alone s m room calm h
+acknowledge-record on s m room calm h = acknowledge-alone on s m room calm h
 
 pub recall-record : RecallRecord
-recall-record s m room calm h = recall-alone s m room calm h
+recall-record on s m room calm h = recall-alone on s m room calm h
 
 pub forget-record : ForgetRecord
-forget-record s m room calm h = forget-alone s m room calm h
+forget-record on s m room calm h = forget-alone on s m room calm h
 
 -- ---- refusals in replies
 
@@ -155,14 +156,18 @@ abbrev pub recorded : Card → List ℕ → Event → Outcome
 recorded s r e =
     took (answerOf s (drop 4 r) e .card) (4 + payloadOf e) (replyOf (kindOf e) (numberOf (answerOf s (drop 4 r) e .refusal)) (dataOf s e))
 
-pub record-run : (s : Card) (r : List ℕ) (room : ℕ) (one : IsRecord r) → runOf s r room .refusal ≡ 0 → runOf s r room ≡ recorded s r (one .event)
-record-run s r room one z =
-    either-lt (λ (n : ℕ). runOf s r room ≡ recorded s r (one .event)) room (5 + answeredOf (one .event)) 0 0
+-- a record that one card takes every card takes, since the room alone decides
+pub record-runs : (s t : Card) (r : List ℕ) (room : ℕ) (one : IsRecord r) → runOf s r room .refusal ≡ 0 → runOf t r room ≡ recorded t r (one .event)
+record-runs s t r room one z =
+    either-lt (λ (n : ℕ). runOf t r room ≡ recorded t r (one .event)) room (5 + answeredOf (one .event)) 0 0
     (λ g.
     let y : 8 ≡ 0 = sym (ap (λ (o : Outcome). o .refusal) (no-turn s r room (one .event) (one .held) (one .size) g)) ∙ z in
     let x : ⊥ = omega arith in
     absurd x)
-    (λ g. one-turn s r room (one .event) (one .held) (one .size) g)
+    (λ g. one-turn t r room (one .event) (one .held) (one .size) g)
+
+pub record-run : (s : Card) (r : List ℕ) (room : ℕ) (one : IsRecord r) → runOf s r room .refusal ≡ 0 → runOf s r room ≡ recorded s r (one .event)
+record-run s = record-runs s s
 
 pub bytes-parts : (k l : List ℕ) → Bytes (k ++ l) → Bytes k × Bytes l
 bytes-parts [] l h = (tt, h)

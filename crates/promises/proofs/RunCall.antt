@@ -9,7 +9,8 @@ use borrow.Author.Tests.{eq-eqb}
 use lib.Dec.{ltb}
 use lib.ListN.{length, take, drop, getD, length-drop}
 use lib.Seq.{drop-append-add}
-use Rattle.terms.specs.declared.Refusal.the-variants.{NoRoom, InputTooLong, BadState}
+use Rattle.terms.specs.declared.Refusal.the-variants.{NoRoom, InputTooLong, BadState, BadMode}
+use Rattle.terms.specs.Settings.{Settings, isMode}
 use Rattle.stack.specs.Stack.{Bytes}
 use Rattle.memory.specs.Memory.{Card, cardWith}
 use Rattle.memory.proofs.Good.{ReadyCard}
@@ -24,6 +25,7 @@ use Rattle.stored.specs.Bytes.{isState, cardIn, laidOut}
 use Rattle.stored.proofs.Cards.{laid-is, card-returns, card-ready, card-short, card-long, laid-state}
 use Rattle.pundaliket.specs.Calls.{Called, ranOf, away, callOf}
 use Rattle.pundaliket.proofs.Calling.{good}
+use Rattle.promises.specs.Given.{settingsIn, runCall}
 use Rattle.promises.specs.Records.{joined, total, lengths}
 use Rattle.promises.specs.RunCall.{Laid, StandsFor, Reports, RunCall, ReportsResult, StopsAgain}
 use Rattle.promises.proofs.Records.{counted, counts-exact}
@@ -32,12 +34,12 @@ use Rattle.promises.proofs.Kept.{good-states}
 use Rattle.records.proofs.Prefix.{lawful}
 
 -- the card that good bytes stand for is the one that is read
-stands-read : (state : List ℕ) (c : Card) → isState state ≡ true → StandsFor state c → cardIn state ≡ c
+stands-read : (state : List ℕ) (c : Card) → isState state ≡ true → StandsFor state c → cardIn (c .on) state ≡ c
 stands-read state c g f =
     let n = f .laid .sixteen in
     ⊎-elim
-    (λ a. ap cardIn (f .laid .short a ∙ sym (laid-is 19 c)) ∙ card-short c n ∙ ap (cardWith (c .chip)) (sym (f .empty a)))
-    (λ b. ap cardIn (f .laid .long b ∙ sym (laid-is 21 c)) ∙ card-long c n)
+    (λ a. ap (cardIn (c .on)) (f .laid .short a ∙ sym (laid-is 19 c)) ∙ card-short c n ∙ ap (cardWith (c .on) (c .chip)) (sym (f .empty a)))
+    (λ b. ap (cardIn (c .on)) (f .laid .long b ∙ sym (laid-is 21 c)) ∙ card-long c n)
     (good-states state .0 g .size)
 
 -- the bytes that a card is laid out in
@@ -45,12 +47,12 @@ laid-so : (n : ℕ) (c : Card) → length (c .chip .stack) ≡ 16 → Laid n (la
 laid-so n c h = record { sixteen = h; short = λ a. ap (λ (m : ℕ). laidOut m c) a ∙ laid-is 19 c; long = λ b. ap (λ (m : ℕ). laidOut m c) b ∙ laid-is 21 c }
 
 pub run-call : RunCall
-run-call c state input replies report B I g f n d =
+run-call g C c set state input replies report B I h f n d =
     let o = runOf c input (length replies) in
-    let is = stands-read state c g f in
-    let r = run-ready c input (length replies) (subst ReadyCard is (card-ready state B g)) I in
-    let e : callOf state input replies report ≡ ranOf (length state) o replies =
-    good state input replies report n g d ∙ ap (λ (x : Card). ranOf (length state) (runOf x input (length replies)) replies) is in
+    let is : cardIn (settingsIn g) state ≡ c = ap (λ (on : Settings). cardIn on state) (sym set) ∙ stands-read state c h f in
+    let r = run-ready c input (length replies) (subst ReadyCard is (card-ready (settingsIn g) state B h)) I in
+    let e : runCall g state input replies report ≡ ranOf (length state) o replies =
+    good (g .mode) state input replies report n (C .mode) h d ∙ ap (λ (x : Card). ranOf (length state) (runOf x input (length replies)) replies) is in
     subst (λ (x : Called). Reports (length state) x o replies) (sym e) (record {
       result = refl;
       state = laid-so (length state) (o .state) (r .chip .stack .sixteen);
@@ -61,18 +63,20 @@ run-call c state input replies report B I g f n d =
 -- every way but 14
 pub reports-result : ReportsResult
 unfolding callOf
-reports-result state input replies report n = rw (eq-eqb (length report) 9 n) (by (isState state) (ltb 12288 (length input)))
+reports-result g state input replies report n = rw (eq-eqb (length report) 9 n) (by (isMode (g .mode)) (isState state) (ltb 12288 (length input)))
   where
     Says : Called → Type 0
     Says c = getD (c .report) 0 0 ≡ c .result
 
-    by : (x y : Bool) → Says (cond x (cond y (away InputTooLong state replies) (ranOf (length state) (runOf (cardIn state) input (length replies)) replies)) (away BadState state replies))
-    by true true = refl
-    by true false = refl
-    by false y = refl
+    by : (k x y : Bool)
+        → Says (cond k (cond x (cond y (away InputTooLong state replies) (ranOf (length state) (runOf (cardIn (settingsIn g) state) input (length replies)) replies)) (away BadState state replies)) (away BadMode state replies))
+    by true true true = refl
+    by true true false = refl
+    by true false y = refl
+    by false x y = refl
 
 -- what follows the records of a split file
-after-joined : (rs : List (List ℕ)) (rest : List ℕ) → drop (total (lengths rs)) (joined rs ++ rest) ≡ rest
+pub after-joined : (rs : List (List ℕ)) (rest : List ℕ) → drop (total (lengths rs)) (joined rs ++ rest) ≡ rest
 after-joined [] rest = refl
 after-joined (r ∷ rs) rest =
     ap (drop (length r + total (lengths rs))) (append-assoc r (joined rs) rest) ∙ drop-append-add r (joined rs ++ rest) (total (lengths rs)) ∙ after-joined rs rest
@@ -119,23 +123,23 @@ module _ (s : Card) (l : List ℕ) (room : ℕ) (z : runOf s l room .refusal ≡
       first-stops lawful d left room-left (idle (runOf s l room .refusal) d) t some-left z
 
 pub stops-again : StopsAgain
-stops-again state input replies report B I g n d z =
-    let s = cardIn state in
-    let size = good-states state .0 g .size in
+stops-again g C state input replies report B I h n d z =
+    let s = cardIn (settingsIn g) state in
+    let size = good-states state .0 h .size in
     let o = runOf s input (length replies) in
-    let e = good state input replies report n g d in
-    let c = counts-exact state input replies report n g d in
+    let e = good (g .mode) state input replies report n (C .mode) h d in
+    let c = counts-exact g C state input replies report n h d in
     let y : o .refusal ≡ 0 → ⊥ = λ x. z (ap (λ (q : Called). q .result) e ∙ x) in
     let r = tally lawful s input (length replies) .range y in
-    let G = run-ready s input (length replies) (card-ready state B g) I in
+    let G = run-ready s input (length replies) (card-ready (settingsIn g) state B h) I in
     let m = length-drop (o .taken) input in
     let bytes = laidOut (length state) (o .state) in
     let stand = laid-state (o .state) G (length state) size in
-    let k = cardIn bytes in
+    let k = cardIn (settingsIn g) bytes in
     let room = drop (length (o .written)) replies in
-    let again : callOf bytes (drop (o .taken) input) room report ≡ record { result = o .refusal; state = bytes; replies = room; report = o .refusal ∷ 0 ∷ 0 ∷ 0 ∷ 0 ∷ 0 ∷ 0 ∷ 0 ∷ 0 ∷ [] } =
-    good bytes (drop (o .taken) input) room report n stand (omega arith)
+    let again : runCall g bytes (drop (o .taken) input) room report ≡ record { result = o .refusal; state = bytes; replies = room; report = o .refusal ∷ 0 ∷ 0 ∷ 0 ∷ 0 ∷ 0 ∷ 0 ∷ 0 ∷ 0 ∷ [] } =
+    good (g .mode) bytes (drop (o .taken) input) room report n (C .mode) stand (omega arith)
     ∙ ap (λ (x : ℕ). ranOf (length bytes) (runOf k (drop (o .taken) input) x) room) (length-drop (length (o .written)) replies)
     ∙ ap (λ (p : Outcome). ranOf (length bytes) p room) (stops-on s input (length replies) y k)
-    ∙ ap (λ (l : List ℕ). record { result = o .refusal; state = l; replies = room; report = o .refusal ∷ 0 ∷ 0 ∷ 0 ∷ 0 ∷ 0 ∷ 0 ∷ 0 ∷ 0 ∷ [] }) (card-returns bytes stand) in
+    ∙ ap (λ (l : List ℕ). record { result = o .refusal; state = l; replies = room; report = o .refusal ∷ 0 ∷ 0 ∷ 0 ∷ 0 ∷ 0 ∷ 0 ∷ 0 ∷ 0 ∷ [] }) (card-returns (settingsIn g) bytes stand) in
     rw (c .0, c .1, e) (r .0, r .1, again)

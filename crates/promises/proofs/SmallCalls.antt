@@ -8,12 +8,15 @@ use native.Mathlib.Omega.{arith}
 use borrow.Author.Tests.{lt-leb, eq-eqb, ne-eqb, eqb-true, eqb-false}
 use lib.Dec.{eqb, leb, lit≤}
 use lib.ListN.{length, take, getD, length-append}
-use lib.Seq.{take-at, getD-append-add}
-use Rattle.terms.specs.declared.Mode.the-variants.{Am9511A}
+use lib.Seq.{take-at, take-append-le, getD-append-add}
+use Rattle.terms.specs.declared.Mode.{Mode}
+use Rattle.terms.specs.declared.Mode.the-variants.{Am9511A, Am9511}
+use Rattle.terms.specs.Settings.{Settings, modeOf}
 use Rattle.stack.specs.Stack.{zeros}
 use Rattle.chip.specs.declared.State.{State}
 use Rattle.chip.specs.declared.Event.the-variants.{Reset}
-use Rattle.chip.specs.Step.{done, pushOf, popOf, readOf, resetOf, acknowledgeOf}
+use Rattle.chip.specs.State.{afterReset}
+use Rattle.chip.specs.Step.{done, pushOf, popOf, readOf, resetOf, acknowledgeOf, under}
 use Rattle.memory.specs.declared.Memory.{Memory}
 use Rattle.memory.specs.Memory.{emptyMemory, Card, cardWith, around, answerWith}
 use Rattle.host.specs.declared.Reply.{Reply}
@@ -21,21 +24,21 @@ use Rattle.terms.specs.declared.Refusal.the-variants.{Done}
 use Rattle.stored.specs.Bytes.{isState, stateOf, memoryIn, cardIn, flagOf, laidOut}
 use Rattle.stored.proofs.States.{short-memory, long-memory}
 use Rattle.stored.proofs.Cards.{flag-back, laid-is}
-use Rattle.pundaliket.specs.Calls.{signalBy, signalOf, answerToKind, sentOf}
+use Rattle.pundaliket.specs.Calls.{Signal, signalBy, signalUnder, signalOf, answerToKind, sentOf}
+use Rattle.pundaliket.proofs.Calling.{event-chosen}
+use Rattle.promises.specs.Given.{Given, Chosen, settingsIn, eventCall}
 use Rattle.promises.specs.Host.{number, outward, inward}
 use Rattle.promises.specs.Kept.{Remembers}
-use Rattle.promises.specs.SmallCalls.{signalled, Tail, none as no-tail, two, Parts, EventCall, Converts, ConversionCalls}
+use Rattle.promises.specs.SmallCalls.{signalled, Tail, none as no-tail, two, Parts, EventCallUnder, EventCall, Converts, ConversionCalls}
 use Rattle.promises.proofs.Fronts.{none}
 use Rattle.promises.proofs.Kept.{good-states}
 
 -- ---- turned away
-bad-state : (state : List ℕ) (kind byte : ℕ) → isState state ≡ false → signalOf state kind byte ≡ signalled 3328 state
-unfolding signalOf
-bad-state state kind byte h = rw h
+bad-state : (on : Settings) (state : List ℕ) (kind byte : ℕ) → isState state ≡ false → signalUnder on state kind byte ≡ signalled 3328 state
+bad-state on state kind byte h = rw h
 
-bad-kind : (state : List ℕ) (kind byte : ℕ) → isState state ≡ true → (kind ≡ 0) ⊎ (8 < kind) → signalOf state kind byte ≡ signalled 1280 state
-unfolding signalOf
-bad-kind state kind byte g h =
+bad-kind : (on : Settings) (state : List ℕ) (kind byte : ℕ) → isState state ≡ true → (kind ≡ 0) ⊎ (8 < kind) → signalUnder on state kind byte ≡ signalled 1280 state
+bad-kind on state kind byte g h =
     rw (
       g,
       ne-eqb kind 1 (none kind h 1 (lit≤ tt) (lit≤ tt)),
@@ -49,9 +52,9 @@ bad-kind state kind byte g h =
     )
 
 -- neither a push nor a command
-byte-ignored : (state : List ℕ) (kind byte other : ℕ) → (kind ≡ 1 → ⊥) → (kind ≡ 3 → ⊥) → signalOf state kind byte ≡ signalOf state kind other
+byte-ignored : (g : Given) (state : List ℕ) (kind byte other : ℕ) → (kind ≡ 1 → ⊥) → (kind ≡ 3 → ⊥) → eventCall g state kind byte ≡ eventCall g state kind other
 unfolding signalOf
-byte-ignored state kind byte other a b = rw (ne-eqb kind 1 a, ne-eqb kind 3 b)
+byte-ignored g state kind byte other a b = rw (ne-eqb kind 1 a, ne-eqb kind 3 b)
 
 -- ---- done
 -- a flag turned is 1 less its byte
@@ -109,15 +112,15 @@ module _ (l : List ℕ) (p u v : ℕ) (t : List ℕ) (P : Parts l p u v t) where
       none-there [] z = refl
       none-there (x ∷ k) z = absurd (let y : ⊥ = omega arith in y)
 
-  reads : cardIn (laid l p u v t) ≡ cardWith (stood l p u v) (behindIs t)
-  reads =
+  reads : (on : Settings) → cardIn on (laid l p u v t) ≡ cardWith on (stood l p u v) (behindIs t)
+  reads on =
       let chip : stateOf (laid l p u v t) ≡ stood l p u v = λ i. record {
         stack = take-at l (p ∷ u ∷ v ∷ t) 16 (P .sixteen) i;
         pending = eqb (at 0 i) 1;
         status = at 1 i;
         service = eqb (at 2 i) 1;
       } in
-      ap₂ cardWith chip memory-read
+      ap₂ (cardWith on) chip memory-read
 
   -- the bytes written behind the flags, of a memory that stays and of one that is emptied
   tail-back : cond (eqb (length (laid l p u v t)) 19) [] (getD t 0 0 ∷ getD t 1 0 ∷ []) ≡ t
@@ -135,15 +138,14 @@ module _ (l : List ℕ) (p u v : ℕ) (t : List ℕ) (P : Parts l p u v t) where
       by (b ∷ k ∷ []) (two bits code h) = refl
 
   -- an event that is done
-  signals : (kind byte b : ℕ) (s : State) (m : Memory) {after : List ℕ} → answerToKind (cardWith (stood l p u v) (behindIs t)) kind byte ≡ record { refusal = Done; byte = b; card = cardWith s m }
+  signals : (on : Settings) (kind byte b : ℕ) (s : State) (m : Memory) {after : List ℕ} → answerToKind (cardWith on (stood l p u v) (behindIs t)) kind byte ≡ record { refusal = Done; byte = b; card = cardWith on s m }
       → cond (eqb (length (laid l p u v t)) 19) [] (m .bits ∷ m .code ∷ []) ≡ after
-      → signalOf (laid l p u v t) kind byte ≡ signalled b (s .stack ++ (flagOf (s .pending) ∷ s .status ∷ flagOf (s .service) ∷ after))
-  unfolding signalOf
-  signals kind byte b s m e a =
-      ap (λ (x : Bool). cond x (signalBy state (answerToKind (cardIn state) kind byte)) (signalled 3328 state)) stands
-      ∙ ap (λ (c : Card). signalBy state (answerToKind c kind byte)) reads
+      → signalUnder on (laid l p u v t) kind byte ≡ signalled b (s .stack ++ (flagOf (s .pending) ∷ s .status ∷ flagOf (s .service) ∷ after))
+  signals on kind byte b s m e a =
+      ap (λ (x : Bool). cond x (signalBy state (answerToKind (cardIn on state) kind byte)) (signalled 3328 state)) stands
+      ∙ ap (λ (c : Card). signalBy state (answerToKind c kind byte)) (reads on)
       ∙ ap (signalBy state) e
-      ∙ ap₂ signalled same (laid-is (length (laid l p u v t)) (cardWith s m) ∙ ap (λ (k : List ℕ). s .stack ++ (flagOf (s .pending) ∷ s .status ∷ flagOf (s .service) ∷ k)) a)
+      ∙ ap₂ signalled same (laid-is (length (laid l p u v t)) (cardWith on s m) ∙ ap (λ (k : List ℕ). s .stack ++ (flagOf (s .pending) ∷ s .status ∷ flagOf (s .service) ∷ k)) a)
     where
       state : List ℕ
       state = laid l p u v t
@@ -162,19 +164,19 @@ module _ (l : List ℕ) (p u v : ℕ) (t : List ℕ) (P : Parts l p u v t) where
   unfolding readOf
   statuses = rw ready
 
-  resets : resetOf Am9511A (stood l p u v) ≡ done 0 (record { stack = zeros 16; pending = false; status = 0; service = false })
+  resets : (mode : Mode) → resetOf mode (stood l p u v) ≡ done 0 (afterReset mode (stood l p u v))
   unfolding resetOf
-  resets = rw ready
+  resets mode = rw ready
 
   acknowledges : acknowledgeOf (stood l p u v) ≡ done 0 (record { stack = l; pending = eqb p 1; status = u; service = false })
   unfolding acknowledgeOf
   acknowledges = rw ready
 
-  recalls : answerToKind (cardWith (stood l p u v) (behindIs t)) 7 0 ≡ record { refusal = Done; byte = getD t 0 0; card = cardWith (stood l p u v) (behindIs t) }
-  recalls = rw ready
+  recalls : (on : Settings) → answerToKind (cardWith on (stood l p u v) (behindIs t)) 7 0 ≡ record { refusal = Done; byte = getD t 0 0; card = cardWith on (stood l p u v) (behindIs t) }
+  recalls on = rw ready
 
-  forgets : answerToKind (cardWith (stood l p u v) (behindIs t)) 8 0 ≡ record { refusal = Done; byte = 0; card = cardWith (stood l p u v) emptyMemory }
-  forgets = rw ready
+  forgets : (on : Settings) → answerToKind (cardWith on (stood l p u v) (behindIs t)) 8 0 ≡ record { refusal = Done; byte = 0; card = cardWith on (stood l p u v) emptyMemory }
+  forgets on = rw ready
 
   -- the bytes behind a stack whose flag pending is turned, and as it was
   turned : (k : List ℕ) → k ++ (flagOf (not (eqb p 1)) ∷ u ∷ flagOf (eqb v 1) ∷ t) ≡ laid k (1 - p) u v t
@@ -187,20 +189,57 @@ pops : (b : ℕ) (l : List ℕ) (p u v : ℕ) → u < 128 → popOf (stood (b �
 unfolding popOf
 pops b l p u v h = rw (lt-leb 128 u h)
 
+-- what a reset leaves of the bytes, whichever part's it is
+reset-signals : (mode : Mode) (byte : ℕ) (l : List ℕ) (p u v : ℕ) (t : List ℕ) → Parts l p u v t
+    → signalUnder (under mode) (laid l p u v t) 5 byte ≡ signalled 0 (afterReset mode (stood l p u v) .stack ++ (0 ∷ 0 ∷ 0 ∷ zeros (length t)))
+reset-signals Am9511A byte l p u v t P =
+    signals l p u v t P (under Am9511A) 5 byte 0 _ emptyMemory (ap (answerWith (under Am9511A) (behindIs t) Reset) (resets l p u v t P Am9511A)) (tail-gone l p u v t P)
+reset-signals Am9511 byte l p u v t P =
+    signals l p u v t P (under Am9511) 5 byte 0 _ emptyMemory (ap (answerWith (under Am9511) (behindIs t) Reset) (resets l p u v t P Am9511)) (tail-gone l p u v t P)
+
+-- the mode of a number that is known
+mode-is : (g : Given) (n : ℕ) → g .mode ≡ n → settingsIn g ≡ under (modeOf n)
+mode-is g n e = ap (λ (m : ℕ). under (modeOf m)) e
+
+module _ (g : Given) (C : Chosen g) where
+  -- the settings, and the call under them
+  abbrev set : Settings
+  set = settingsIn g
+
+  chosen : (state : List ℕ) (kind byte : ℕ) {x : Signal} → signalUnder set state kind byte ≡ x → eventCall g state kind byte ≡ x
+  chosen state kind byte e = event-chosen (g .mode) state kind byte (C .mode) ∙ e
+
+  reset-told : (n : ℕ) → g .mode ≡ n → (byte : ℕ) (l : List ℕ) (p u v : ℕ) (t : List ℕ) → Parts l p u v t
+      → eventCall g (laid l p u v t) 5 byte ≡ signalled 0 (afterReset (modeOf n) (stood l p u v) .stack ++ (0 ∷ 0 ∷ 0 ∷ zeros (length t)))
+  reset-told n m byte l p u v t P =
+      chosen (laid l p u v t) 5 byte (ap (λ (on : Settings). signalUnder on (laid l p u v t) 5 byte) (mode-is g n m) ∙ reset-signals (modeOf n) byte l p u v t P)
+
+  event-under : EventCallUnder g
+  event-under = record {
+    bad-state = λ state kind byte h. chosen state kind byte (bad-state set state kind byte h);
+    bad-kind = λ state kind byte i h. chosen state kind byte (bad-kind set state kind byte i h);
+    byte-ignored = λ state kind byte other a b. byte-ignored g state kind byte other a b;
+    push-call = λ b l p u v t P.
+        chosen (laid l p u v t) 1 b (signals l p u v t P set 1 b 0 _ (behindIs t) (ap (around set (behindIs t)) (pushes l p u v t P b)) (tail-back l p u v t P)) ∙ ap (signalled 0) (turned l p u v t P (b ∷ take 15 l));
+    pop-call = λ b byte l p u v t P.
+        chosen (laid (b ∷ l) p u v t) 2 byte (signals (b ∷ l) p u v t P set 2 byte b _ (behindIs t) (ap (around set (behindIs t)) (pops b l p u v (P .ready))) (tail-back (b ∷ l) p u v t P)) ∙ ap (signalled b) (turned (b ∷ l) p u v t P (l ++ (b ∷ [])));
+    status-call = λ byte l p u v t P.
+        chosen (laid l p u v t) 4 byte (signals l p u v t P set 4 byte u _ (behindIs t) (ap (around set (behindIs t)) (statuses l p u v t P)) (tail-back l p u v t P)) ∙ ap (signalled u) (back l p u v t P l t);
+    reset-call = λ m byte l p u v t P. reset-told 0 m byte l p u v t P;
+    older-reset-call = λ m byte l u v t P. reset-told 1 m byte l 0 u v t P;
+    realigned-call = λ m b byte l u v t P.
+        let n = P .sixteen in
+        reset-told 1 m byte (b ∷ l) 1 u v t P ∙ ap (λ (k : List ℕ). signalled 0 ((k ++ (0 ∷ 0 ∷ [])) ++ (0 ∷ 0 ∷ 0 ∷ zeros (length t)))) (take-append-le 14 l (b ∷ []) (omega arith));
+    acknowledge-call = λ byte l p u v t P.
+        chosen (laid l p u v t) 6 byte (signals l p u v t P set 6 byte 0 _ (behindIs t) (ap (around set (behindIs t)) (acknowledges l p u v t P)) (tail-back l p u v t P)) ∙ ap (λ (x : ℕ). signalled 0 (l ++ (x ∷ u ∷ 0 ∷ t))) (flag-back p (P .pending));
+    recall-call = λ byte l p u v t P.
+        chosen (laid l p u v t) 7 byte (signals l p u v t P set 7 byte (getD t 0 0) _ (behindIs t) (recalls l p u v t P set) (tail-back l p u v t P)) ∙ ap (signalled (getD t 0 0)) (back l p u v t P l t);
+    forget-call = λ byte l p u v t P.
+        chosen (laid l p u v t) 8 byte (signals l p u v t P set 8 byte 0 _ emptyMemory (forgets l p u v t P set) (tail-gone l p u v t P)) ∙ ap (signalled 0) (back l p u v t P l (zeros (length t)));
+  }
+
 pub event-call : EventCall
-event-call = record {
-  bad-state = λ state kind byte h. bad-state state kind byte h;
-  bad-kind = λ state kind byte g h. bad-kind state kind byte g h;
-  byte-ignored = λ state kind byte other a b. byte-ignored state kind byte other a b;
-  push-call = λ b l p u v t P. signals l p u v t P 1 b 0 _ (behindIs t) (ap (around (behindIs t)) (pushes l p u v t P b)) (tail-back l p u v t P) ∙ ap (signalled 0) (turned l p u v t P (b ∷ take 15 l));
-  pop-call = λ b byte l p u v t P. signals (b ∷ l) p u v t P 2 byte b _ (behindIs t) (ap (around (behindIs t)) (pops b l p u v (P .ready))) (tail-back (b ∷ l) p u v t P) ∙ ap (signalled b) (turned (b ∷ l) p u v t P (l ++ (b ∷ [])));
-  status-call = λ byte l p u v t P. signals l p u v t P 4 byte u _ (behindIs t) (ap (around (behindIs t)) (statuses l p u v t P)) (tail-back l p u v t P) ∙ ap (signalled u) (back l p u v t P l t);
-  reset-call = λ byte l p u v t P. signals l p u v t P 5 byte 0 _ emptyMemory (ap (answerWith (behindIs t) Reset) (resets l p u v t P)) (tail-gone l p u v t P);
-  acknowledge-call = λ byte l p u v t P.
-      signals l p u v t P 6 byte 0 _ (behindIs t) (ap (around (behindIs t)) (acknowledges l p u v t P)) (tail-back l p u v t P) ∙ ap (λ (x : ℕ). signalled 0 (l ++ (x ∷ u ∷ 0 ∷ t))) (flag-back p (P .pending));
-  recall-call = λ byte l p u v t P. signals l p u v t P 7 byte (getD t 0 0) _ (behindIs t) (recalls l p u v t P) (tail-back l p u v t P) ∙ ap (signalled (getD t 0 0)) (back l p u v t P l t);
-  forget-call = λ byte l p u v t P. signals l p u v t P 8 byte 0 _ emptyMemory (forgets l p u v t P) (tail-gone l p u v t P) ∙ ap (signalled 0) (back l p u v t P l (zeros (length t)));
-}
+event-call = event-under
 
 -- ---- conversions
 module _ (reply : Reply) where

@@ -1,9 +1,9 @@
 -- No wrong core meets the promises: its contract gives what it does with one input, and that is not what its class does. Assumes nothing.
-use mathlib.Core.Path.{_≡_, refl, sym, ap, _∙_}
+use mathlib.Core.Path.{_≡_, refl, sym, ap, subst, _∙_}
 use mathlib.Core.Logic.{_⊎_, inl, inr}
 use mathlib.Core.Bool.{Bool, true, false, _&&_}
 use mathlib.Core.List.{List, [], _∷_, _++_}
-use Prim.Native.Nat.{ℕ, _<_}
+use Prim.Native.Nat.{ℕ, _^_, _≤_, _<_}
 use native.Mathlib.Omega.{arith}
 use borrow.Author.Tests.{ltb-true}
 use lib.Dec.{ltb, lit<, lit≤}
@@ -17,9 +17,11 @@ use Rattle.host.specs.Host.{hostOf, takenOf}
 use Rattle.files.specs.Run.{run, runBy}
 use Rattle.records.specs.declared.head.Event.the-variants.{Push, Reset}
 use Rattle.records.specs.Record.{frameUnder, turnUnder}
-use Rattle.stored.specs.Bytes.{isState}
-use Rattle.pundaliket.specs.Calls.{callOf, signalOf, sentOf}
-use Rattle.pundaliket.proofs.Calling.{bad-state, too-long}
+use Rattle.stored.specs.Bytes.{isState, cardIn}
+use Rattle.records.specs.Run.{runOf}
+use Rattle.pundaliket.specs.Calls.{Called, Calls, Signal, Signals, ranOf, callOf, signalUnder, sentOf}
+use Rattle.pundaliket.proofs.Calling.{bad-state, too-long, good, event-chosen}
+use Rattle.promises.specs.Given.{Given, Chosen, settingsIn, runCall}
 use Rattle.promises.specs.Chains.{Change}
 use Rattle.promises.specs.Records.{IsRecord, countAt}
 use Rattle.promises.specs.Cores.{Core, Meets, driven, Begins, busRun}
@@ -67,11 +69,11 @@ begins : Begins fresh 0x01800000
 unfolding isState
 begins = record { bytes = fresh-bytes; good = refl; whole = refl; proper = record { fits = lit< tt; is-proper = refl } }
 
-module _ (c : Core) (M : Meets c) where
+module _ (g : Given) (C : Chosen g) (c : Core) (M : Meets g c) where
   -- the sign of 1 changed
   chain-told : take 4 (driven c fresh (busRun 0x01800000 (λ (n : ℕ). false) (Change ∷ []))) ≡ 0x81 ∷ 0x80 ∷ 0 ∷ 0 ∷ []
   unfolding chsf
-  chain-told = cores c M .chain-bytes fresh 0x01800000 (λ (n : ℕ). false) (Change ∷ []) begins (tt, tt)
+  chain-told = cores g C c M .chain-bytes fresh 0x01800000 (λ (n : ℕ). false) (Change ∷ []) begins (tt, tt)
 
   -- 1.0 as an f32
   float-told : (c .word-to-f32 0x01800000 (zeros 4)) .out ≡ 0 ∷ 0 ∷ 0x80 ∷ 0x3f ∷ []
@@ -79,130 +81,144 @@ module _ (c : Core) (M : Meets c) where
   float-told = M .word-to-f32 0x01800000 (zeros 4) (lit< tt) four-bytes .out-is ∙ ap (λ (n : ℕ). le4 n) (float-comes-back 0x3f800000 (lit< tt) refl .bits-are)
 
 -- ---- what the definitions give
-tells : (c : Core) → Meets c → Tells c
-unfolding callOf signalOf sentOf isState runBy run turnUnder frameUnder hostOf takenOf pushOf resetOf
-tells c M = record {
-  run-0 = M .run fresh [] [] nine fresh-bytes tt tt nine-bytes .result-is;
+module _ (g : Given) (C : Chosen g) (c : Core) (M : Meets g c) where
+  -- a good call of the run, and of the event, on the bytes after a reset
+  run-told : (input replies : List ℕ) → Bytes input → Bytes replies → length input ≤ 12288
+      → Calls (ranOf 19 (runOf (cardIn (settingsIn g) fresh) input (length replies)) replies) ((c .run fresh input replies nine) .result) ((c .run fresh input replies nine) .state)
+      ((c .run fresh input replies nine) .replies) ((c .run fresh input replies nine) .report)
+  run-told input replies i w l =
+      subst (λ (x : Called). Calls x ((c .run fresh input replies nine) .result) ((c .run fresh input replies nine) .state) ((c .run fresh input replies nine) .replies) ((c .run fresh input replies nine) .report))
+      (good (g .mode) fresh input replies nine refl (C .mode) (begins .good) l) (M .run fresh input replies nine fresh-bytes i w nine-bytes)
+
+  event-told : (kind byte : ℕ) → kind < 2 ^ 32 → byte < 256 → Signals (signalUnder (settingsIn g) fresh kind byte) ((c .event fresh kind byte) .result) ((c .event fresh kind byte) .state)
+  event-told kind byte k b =
+      subst (λ (x : Signal). Signals x ((c .event fresh kind byte) .result) ((c .event fresh kind byte) .state)) (event-chosen (g .mode) fresh kind byte (C .mode)) (M .event fresh kind byte fresh-bytes k b)
+
+tells : (g : Given) → Chosen g → (c : Core) → Meets g c → Tells c
+unfolding callOf sentOf isState runBy run turnUnder frameUnder hostOf takenOf pushOf resetOf
+tells g C c M = record {
+  run-0 = run-told g C c M [] [] tt tt (lit≤ tt) .result-is;
   run-14 = M .run fresh [] [] [] fresh-bytes tt tt tt .result-is;
-  event-0 = M .event fresh 5 0 fresh-bytes (lit< tt) (lit< tt) .result-is;
-  event-5 = M .event fresh 0 0 fresh-bytes (lit< tt) (lit< tt) .result-is;
+  event-0 = event-told g C c M 5 0 (lit< tt) (lit< tt) .result-is;
+  event-5 = event-told g C c M 0 0 (lit< tt) (lit< tt) .result-is;
   float-0 = M .word-to-f32 0 (zeros 4) (lit< tt) four-bytes .result-is;
   float-4 = M .word-to-f32 1 (zeros 4) (lit< tt) four-bytes .result-is;
   word-0 = M .f32-to-word 0 (zeros 4) (lit< tt) four-bytes .result-is;
   word-10 = M .f32-to-word 0x7f800000 (zeros 4) (lit< tt) four-bytes .result-is;
-  one-state = M .run fresh first (zeros 10) nine fresh-bytes first-bytes ten-bytes nine-bytes .state-is;
-  one-replies = M .run fresh first (zeros 10) nine fresh-bytes first-bytes ten-bytes nine-bytes .replies-is;
-  one-report = M .run fresh first (zeros 10) nine fresh-bytes first-bytes ten-bytes nine-bytes .report-is;
-  reset-replies = M .run fresh fresher (zeros 10) nine fresh-bytes fresher-bytes ten-bytes nine-bytes .replies-is;
-  two-state = M .run fresh (first ++ second) (zeros 10) nine fresh-bytes two-bytes ten-bytes nine-bytes .state-is;
-  two-replies = M .run fresh (first ++ second) (zeros 10) nine fresh-bytes two-bytes ten-bytes nine-bytes .replies-is;
-  two-report = M .run fresh (first ++ second) (zeros 10) nine fresh-bytes two-bytes ten-bytes nine-bytes .report-is;
-  event-state = M .event fresh 1 0x55 fresh-bytes (lit< tt) (lit< tt) .state-is;
-  float-out = float-told c M;
+  one-state = run-told g C c M first (zeros 10) first-bytes ten-bytes (lit≤ tt) .state-is;
+  one-replies = run-told g C c M first (zeros 10) first-bytes ten-bytes (lit≤ tt) .replies-is;
+  one-report = run-told g C c M first (zeros 10) first-bytes ten-bytes (lit≤ tt) .report-is;
+  reset-replies = run-told g C c M fresher (zeros 10) fresher-bytes ten-bytes (lit≤ tt) .replies-is;
+  two-state = run-told g C c M (first ++ second) (zeros 10) two-bytes ten-bytes (lit≤ tt) .state-is;
+  two-replies = run-told g C c M (first ++ second) (zeros 10) two-bytes ten-bytes (lit≤ tt) .replies-is;
+  two-report = run-told g C c M (first ++ second) (zeros 10) two-bytes ten-bytes (lit≤ tt) .report-is;
+  event-state = event-told g C c M 1 0x55 (lit< tt) (lit< tt) .state-is;
+  float-out = float-told g C c M;
   word-out = M .f32-to-word 0x3f800000 (zeros 4) (lit< tt) four-bytes .out-is;
-  chain = chain-told c M;
+  chain = chain-told g C c M;
 }
 
 -- ---- two bytes that are not the same are no one byte
 apart : (x y i : ℕ) {l m : List ℕ} → l ≡ m → getD l i 0 ≡ x → getD m i 0 ≡ y → (x ≡ y → ⊥) → ⊥
 apart x y i e a b n = n (sym a ∙ ap (λ (k : List ℕ). getD k i 0) e ∙ b)
 
-refuses-everything : No RefusesEverything
-refuses-everything c M (never-run f) = f fresh [] [] nine fresh-bytes tt tt nine-bytes (tells c M .run-0)
-refuses-everything c M (never-event f) = let e = tells c M .event-0 in f fresh 5 0 fresh-bytes (lit< tt) (lit< tt) (omega arith)
-refuses-everything c M (never-float f) = f 0 (zeros 4) (lit< tt) four-bytes (tells c M .float-0)
-refuses-everything c M (never-word f) = f 0 (zeros 4) (lit< tt) four-bytes (tells c M .word-0)
+module _ (g : Given) (C : Chosen g) where
+  refuses-everything : No g RefusesEverything
+  refuses-everything c M (never-run f) = f fresh [] [] nine fresh-bytes tt tt nine-bytes (tells g C c M .run-0)
+  refuses-everything c M (never-event f) = let e = tells g C c M .event-0 in f fresh 5 0 fresh-bytes (lit< tt) (lit< tt) (omega arith)
+  refuses-everything c M (never-float f) = f 0 (zeros 4) (lit< tt) four-bytes (tells g C c M .float-0)
+  refuses-everything c M (never-word f) = f 0 (zeros 4) (lit< tt) four-bytes (tells g C c M .word-0)
 
--- two numbers that are both-of n are the same
-alike : (n x y : ℕ) {a b : ℕ} → a ≡ n → b ≡ n → a ≡ x → b ≡ y → x ≡ y
-alike n x y p q r s = sym r ∙ p ∙ sym q ∙ s
+  -- two numbers that are both-of n are the same
+  alike : (n x y : ℕ) {a b : ℕ} → a ≡ n → b ≡ n → a ≡ x → b ≡ y → x ≡ y
+  alike n x y p q r s = sym r ∙ p ∙ sym q ∙ s
 
-single-reply : No SingleReply
-single-reply c M (same-run n f) =
-    let e = alike n 0 14 (f fresh [] [] nine fresh-bytes tt tt nine-bytes) (f fresh [] [] [] fresh-bytes tt tt tt) (tells c M .run-0) (tells c M .run-14) in
-    omega arith
-single-reply c M (same-event n f) =
-    let e = alike n 0 1280 (f fresh 5 0 fresh-bytes (lit< tt) (lit< tt)) (f fresh 0 0 fresh-bytes (lit< tt) (lit< tt)) (tells c M .event-0) (tells c M .event-5) in
-    omega arith
-single-reply c M (same-float n f) =
-    let e = alike n 0 4 (f 0 (zeros 4) (lit< tt) four-bytes) (f 1 (zeros 4) (lit< tt) four-bytes) (tells c M .float-0) (tells c M .float-4) in
-    omega arith
-single-reply c M (same-word n f) =
-    let e = alike n 0 10 (f 0 (zeros 4) (lit< tt) four-bytes) (f 0x7f800000 (zeros 4) (lit< tt) four-bytes) (tells c M .word-0) (tells c M .word-10) in
-    omega arith
+  single-reply : No g SingleReply
+  single-reply c M (same-run n f) =
+      let e = alike n 0 14 (f fresh [] [] nine fresh-bytes tt tt nine-bytes) (f fresh [] [] [] fresh-bytes tt tt tt) (tells g C c M .run-0) (tells g C c M .run-14) in
+      omega arith
+  single-reply c M (same-event n f) =
+      let e = alike n 0 1280 (f fresh 5 0 fresh-bytes (lit< tt) (lit< tt)) (f fresh 0 0 fresh-bytes (lit< tt) (lit< tt)) (tells g C c M .event-0) (tells g C c M .event-5) in
+      omega arith
+  single-reply c M (same-float n f) =
+      let e = alike n 0 4 (f 0 (zeros 4) (lit< tt) four-bytes) (f 1 (zeros 4) (lit< tt) four-bytes) (tells g C c M .float-0) (tells g C c M .float-4) in
+      omega arith
+  single-reply c M (same-word n f) =
+      let e = alike n 0 10 (f 0 (zeros 4) (lit< tt) four-bytes) (f 0x7f800000 (zeros 4) (lit< tt) four-bytes) (tells g C c M .word-0) (tells g C c M .word-10) in
+      omega arith
 
-does-nothing : No DoesNothing
-does-nothing c M (back-state f) = apart 0x55 0 0 (sym (tells c M .one-state) ∙ f fresh first (zeros 10) nine fresh-bytes first-bytes ten-bytes nine-bytes) refl refl (λ e. omega (arith, e))
-does-nothing c M (back-replies f) = apart 3 0 0 (sym (tells c M .one-replies) ∙ f fresh first (zeros 10) nine fresh-bytes first-bytes ten-bytes nine-bytes) refl refl (λ e. omega (arith, e))
-does-nothing c M (back-report f) = apart 5 0 1 (sym (tells c M .one-report) ∙ f fresh first (zeros 10) nine fresh-bytes first-bytes ten-bytes nine-bytes) refl refl (λ e. omega (arith, e))
-does-nothing c M (back-event f) = apart 0x55 0 0 (sym (tells c M .event-state) ∙ f fresh 1 0x55 fresh-bytes (lit< tt) (lit< tt)) refl refl (λ e. omega (arith, e))
-does-nothing c M (back-float f) = apart 0x80 0 2 (sym (tells c M .float-out) ∙ f 0x01800000 (zeros 4) (lit< tt) four-bytes) refl refl (λ e. omega (arith, e))
-does-nothing c M (back-word f) = apart 0x80 0 2 (sym (tells c M .word-out) ∙ f 0x3f800000 (zeros 4) (lit< tt) four-bytes) refl refl (λ e. omega (arith, e))
+  does-nothing : No g DoesNothing
+  does-nothing c M (back-state f) = apart 0x55 0 0 (sym (tells g C c M .one-state) ∙ f fresh first (zeros 10) nine fresh-bytes first-bytes ten-bytes nine-bytes) refl refl (λ e. omega (arith, e))
+  does-nothing c M (back-replies f) = apart 3 0 0 (sym (tells g C c M .one-replies) ∙ f fresh first (zeros 10) nine fresh-bytes first-bytes ten-bytes nine-bytes) refl refl (λ e. omega (arith, e))
+  does-nothing c M (back-report f) = apart 5 0 1 (sym (tells g C c M .one-report) ∙ f fresh first (zeros 10) nine fresh-bytes first-bytes ten-bytes nine-bytes) refl refl (λ e. omega (arith, e))
+  does-nothing c M (back-event f) = apart 0x55 0 0 (sym (tells g C c M .event-state) ∙ f fresh 1 0x55 fresh-bytes (lit< tt) (lit< tt)) refl refl (λ e. omega (arith, e))
+  does-nothing c M (back-float f) = apart 0x80 0 2 (sym (tells g C c M .float-out) ∙ f 0x01800000 (zeros 4) (lit< tt) four-bytes) refl refl (λ e. omega (arith, e))
+  does-nothing c M (back-word f) = apart 0x80 0 2 (sym (tells g C c M .word-out) ∙ f 0x3f800000 (zeros 4) (lit< tt) four-bytes) refl refl (λ e. omega (arith, e))
 
--- the first record is one
-one-record : IsRecord first
-one-record = record {
-  event = Push 1;
-  held = record { length-is = refl; kind-is = refl; there = lit≤ tt; small = lit≤ tt; carried = lit≤ tt };
-  size = refl;
-}
+  -- the first record is one
+  one-record : IsRecord first
+  one-record = record {
+    event = Push 1;
+    held = record { length-is = refl; kind-is = refl; there = lit≤ tt; small = lit≤ tt; carried = lit≤ tt };
+    size = refl;
+  }
 
--- and so is the one that resets
-reset-record : IsRecord fresher
-reset-record = record {
-  event = Reset;
-  held = record { length-is = refl; kind-is = refl; there = lit≤ tt; small = lit≤ tt; carried = tt };
-  size = refl;
-}
+  -- and so is the one that resets
+  reset-record : IsRecord fresher
+  reset-record = record {
+    event = Reset;
+    held = record { length-is = refl; kind-is = refl; there = lit≤ tt; small = lit≤ tt; carried = tt };
+    size = refl;
+  }
 
-same-replies : No SameReplies
-same-replies c M f =
-    apart 129 133 2 (sym (tells c M .one-replies) ∙ f fresh first fresher (zeros 10) nine one-record reset-record fresh-bytes first-bytes fresher-bytes ten-bytes nine-bytes ∙ tells c M .reset-replies) refl refl (λ e. omega (arith, e))
+  same-replies : No g SameReplies
+  same-replies c M f =
+      apart 129 133 2 (sym (tells g C c M .one-replies) ∙ f fresh first fresher (zeros 10) nine one-record reset-record fresh-bytes first-bytes fresher-bytes ten-bytes nine-bytes ∙ tells g C c M .reset-replies) refl refl (λ e. omega (arith, e))
 
-first-record-only : No FirstRecordOnly
-first-record-only c M (first-state f) =
-    apart 0xaa 0x55 0 (sym (tells c M .two-state) ∙ f fresh first second (zeros 10) nine one-record fresh-bytes first-bytes second-bytes ten-bytes nine-bytes ∙ tells c M .one-state) refl refl (λ e. omega (arith, e))
-first-record-only c M (first-replies f) =
-    apart 3 0 5 (sym (tells c M .two-replies) ∙ f fresh first second (zeros 10) nine one-record fresh-bytes first-bytes second-bytes ten-bytes nine-bytes ∙ tells c M .one-replies) refl refl (λ e. omega (arith, e))
+  first-record-only : No g FirstRecordOnly
+  first-record-only c M (first-state f) =
+      apart 0xaa 0x55 0 (sym (tells g C c M .two-state) ∙ f fresh first second (zeros 10) nine one-record fresh-bytes first-bytes second-bytes ten-bytes nine-bytes ∙ tells g C c M .one-state) refl refl (λ e. omega (arith, e))
+  first-record-only c M (first-replies f) =
+      apart 3 0 5 (sym (tells g C c M .two-replies) ∙ f fresh first second (zeros 10) nine one-record fresh-bytes first-bytes second-bytes ten-bytes nine-bytes ∙ tells g C c M .one-replies) refl refl (λ e. omega (arith, e))
 
--- both-of counts are 0 where a call is turned away
-none-counted : (state input replies report : List ℕ) → length report ≡ 9 → (isState state ≡ false) ⊎ (12288 < length input)
-    → (countAt ((callOf state input replies report) .report) 1 ≡ 0) × (countAt ((callOf state input replies report) .report) 5 ≡ 0)
-none-counted state input replies report n (inl b) = rw (bad-state state input replies report n b) (refl, refl)
-none-counted state input replies report n (inr l) = go (isState state) refl
-  where
-    go : (g : Bool) → isState state ≡ g → (countAt ((callOf state input replies report) .report) 1 ≡ 0) × (countAt ((callOf state input replies report) .report) 5 ≡ 0)
-    go true e = rw (too-long state input replies report n e l) (refl, refl)
-    go false e = rw (bad-state state input replies report n e) (refl, refl)
+  -- both-of counts are 0 where a call is turned away
+  none-counted : (state input replies report : List ℕ) → length report ≡ 9 → (isState state ≡ false) ⊎ (12288 < length input)
+      → (countAt ((runCall g state input replies report) .report) 1 ≡ 0) × (countAt ((runCall g state input replies report) .report) 5 ≡ 0)
+  none-counted state input replies report n (inl b) = rw (bad-state (g .mode) state input replies report n (C .mode) b) (refl, refl)
+  none-counted state input replies report n (inr l) = go (isState state) refl
+    where
+      go : (x : Bool) → isState state ≡ x → (countAt ((runCall g state input replies report) .report) 1 ≡ 0) × (countAt ((runCall g state input replies report) .report) 5 ≡ 0)
+      go true e = rw (too-long (g .mode) state input replies report n (C .mode) e l) (refl, refl)
+      go false e = rw (bad-state (g .mode) state input replies report n (C .mode) e) (refl, refl)
 
-invented-counts : No InventedCounts
-invented-counts c M (wrong-taken state input replies report s i w p n g l split differs) =
-    differs (ap (λ (x : List ℕ). countAt x 1) (M .run state input replies report s i w p .report-is) ∙ counts-exact state input replies report n g l .0 ∙ split .taken)
-invented-counts c M (wrong-written state input replies report s i w p n g l split differs) =
-    differs (ap (λ (x : List ℕ). countAt x 5) (M .run state input replies report s i w p .report-is) ∙ counts-exact state input replies report n g l .1 ∙ split .written)
-invented-counts c M (wrong-away state input replies report s i w p n g differs) =
-    let e = M .run state input replies report s i w p .report-is in
-    let z = none-counted state input replies report n g in
-    differs (ap (λ (x : List ℕ). countAt x 1) e ∙ z .0, ap (λ (x : List ℕ). countAt x 5) e ∙ z .1)
+  invented-counts : No g (InventedCounts g)
+  invented-counts c M (wrong-taken state input replies report s i w p n q l split differs) =
+      differs (ap (λ (x : List ℕ). countAt x 1) (M .run state input replies report s i w p .report-is) ∙ counts-exact g C state input replies report n q l .0 ∙ split .taken)
+  invented-counts c M (wrong-written state input replies report s i w p n q l split differs) =
+      differs (ap (λ (x : List ℕ). countAt x 5) (M .run state input replies report s i w p .report-is) ∙ counts-exact g C state input replies report n q l .1 ∙ split .written)
+  invented-counts c M (wrong-away state input replies report s i w p n q differs) =
+      let e = M .run state input replies report s i w p .report-is in
+      let z = none-counted state input replies report n q in
+      differs (ap (λ (x : List ℕ). countAt x 1) e ∙ z .0, ap (λ (x : List ℕ). countAt x 5) e ∙ z .1)
 
-zero-chains : No ZeroChains
-zero-chains c M f = apart 0x81 0 0 (sym (tells c M .chain) ∙ f fresh 0x01800000 (λ (n : ℕ). false) Change [] begins (tt, tt)) refl refl (λ e. omega (arith, e))
+  zero-chains : No g ZeroChains
+  zero-chains c M f = apart 0x81 0 0 (sym (tells g C c M .chain) ∙ f fresh 0x01800000 (λ (n : ℕ). false) Change [] begins (tt, tt)) refl refl (λ e. omega (arith, e))
 
 -- ---- the statement
 pub wrong-cores : WrongCores
-wrong-cores = record {
+wrong-cores g C = record {
   met = record {
     run = λ state input replies report s i w p. record { result-is = refl; state-is = refl; replies-is = refl; report-is = refl };
     event = λ state kind byte s k b. record { result-is = refl; state-is = refl };
     word-to-f32 = λ word out h o. record { result-is = refl; out-is = refl };
     f32-to-word = λ bits out h o. record { result-is = refl; out-is = refl };
   };
-  tells = tells;
-  refuses-everything = refuses-everything;
-  single-reply = single-reply;
-  same-replies = same-replies;
-  does-nothing = does-nothing;
-  first-record-only = first-record-only;
-  invented-counts = invented-counts;
-  zero-chains = zero-chains;
+  tells = tells g C;
+  refuses-everything = refuses-everything g C;
+  single-reply = single-reply g C;
+  same-replies = same-replies g C;
+  does-nothing = does-nothing g C;
+  first-record-only = first-record-only g C;
+  invented-counts = invented-counts g C;
+  zero-chains = zero-chains g C;
 }

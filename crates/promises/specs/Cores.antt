@@ -21,11 +21,13 @@ use Rattle.memory.specs.Memory.{Card, eventIn}
 use Rattle.memory.specs.History.{afterAll}
 use Rattle.host.specs.Host.{hostOf, takenOf, hostReply, takenReply}
 use Rattle.stored.specs.Bytes.{isState, cardIn, laidOut}
-use Rattle.pundaliket.specs.Calls.{Called, Signal, Sent, callOf, Calls, signalOf, Signals, sentOf, Sends, joinedOf}
+use Rattle.pundaliket.specs.Calls.{Called, Signal, Sent, Calls, Signals, sentOf, Sends, joinedOf}
+use Rattle.promises.specs.Given.{Given, Chosen, settingsIn, runCall, eventCall}
 use Rattle.promises.specs.Chains.{Step, Constants, reversing, wordAfter, runEvents}
 
 -- ---- cores
--- any four functions of the calls' types: what a call returns and what it leaves in each slice, by what it was lent
+-- any four functions of the calls' types under the numbers that are given with them: what a call returns and what it leaves in each slice, by what it was lent;
+-- a program of the calls has one such core for each choice of numbers
 pub record Core : Type 0 where
   pub run : List ℕ → List ℕ → List ℕ → List ℕ → Called
   pub event : List ℕ → ℕ → ℕ → Signal
@@ -33,22 +35,22 @@ pub record Core : Type 0 where
   pub f32-to-word : ℕ → List ℕ → Sent
 
 -- a core meets the promises where each call keeps its contract, for every slice of bytes that can be lent
-pub record Meets (c : Core) : Type 0 where
+pub record Meets (g : Given) (c : Core) : Type 0 where
   pub run : (state input replies report : List ℕ) → Bytes state → Bytes input → Bytes replies → Bytes report
-      → Calls (callOf state input replies report) ((c .run state input replies report) .result) ((c .run state input replies report) .state)
+      → Calls (runCall g state input replies report) ((c .run state input replies report) .result) ((c .run state input replies report) .state)
       ((c .run state input replies report) .replies) ((c .run state input replies report) .report)
   pub event : (state : List ℕ) (kind byte : ℕ) → Bytes state → kind < 2 ^ 32 → byte < 256
-      → Signals (signalOf state kind byte) ((c .event state kind byte) .result) ((c .event state kind byte) .state)
+      → Signals (eventCall g state kind byte) ((c .event state kind byte) .result) ((c .event state kind byte) .state)
   pub word-to-f32 : (word : ℕ) (out : List ℕ) → word < 2 ^ 32 → Bytes out
       → Sends (sentOf (hostReply (hostOf word)) out) ((c .word-to-f32 word out) .result) ((c .word-to-f32 word out) .out)
   pub f32-to-word : (bits : ℕ) (out : List ℕ) → bits < 2 ^ 32 → Bytes out
       → Sends (sentOf (takenReply (takenOf bits)) out) ((c .f32-to-word bits out) .result) ((c .f32-to-word bits out) .out)
 
 -- the core that the contracts describe
-abbrev pub described : Core
-described = record {
-  run = callOf;
-  event = signalOf;
+abbrev pub described : Given → Core
+described g = record {
+  run = runCall g;
+  event = eventCall g;
   word-to-f32 = λ (word : ℕ) (out : List ℕ). sentOf (hostReply (hostOf word)) out;
   f32-to-word = λ (bits : ℕ) (out : List ℕ). sentOf (takenReply (takenOf bits)) out;
 }
@@ -146,11 +148,11 @@ abbrev pub wordLeft : Core → List ℕ → List Event → ℕ
 wordLeft c state es = tos 4 (driven c state es)
 
 -- ---- the statement: of the 19 or 21 bytes of any good state, and any events
-pub record Driven (c : Core) : Type 0 where
+pub record Driven (g : Given) (c : Core) : Type 0 where
   -- the bytes after the events are those of the card that the statements speak of, as many as were lent
-  pub states : (state : List ℕ) (es : List Event) → Bytes state → isState state ≡ true → Sendable es → driven c state es ≡ laidOut (length state) (afterAll (cardIn state) es)
+  pub states : (state : List ℕ) (es : List Event) → Bytes state → isState state ≡ true → Sendable es → driven c state es ≡ laidOut (length state) (afterAll (cardIn (settingsIn g) state) es)
   -- and the calls return its answers; of 19 bytes the memory is gone after each call
-  pub returns : (state : List ℕ) (es : List Event) → Bytes state → isState state ≡ true → Sendable es → Keeps state es → returned c state es ≡ answersOf (cardIn state) es
+  pub returns : (state : List ℕ) (es : List Event) → Bytes state → isState state ≡ true → Sendable es → Keeps state es → returned c state es ≡ answersOf (cardIn (settingsIn g) state) es
   -- demand 3 at the event call: every call of a run returns 0, error bits or not
   pub chain-answers : (state : List ℕ) (w : ℕ) (sr : ℕ → Bool) (ks : List Step) → Begins state w → Constants ks → allZero (returned c state (busRun w sr ks)) ≡ true
   -- at the end the word of demand 2 lies on top, high byte first, a function of the word and the chain alone
@@ -167,4 +169,4 @@ pub record Driven (c : Core) : Type 0 where
 
 -- every core that meets the promises
 abbrev pub Cores : Type 0
-Cores = (c : Core) → Meets c → Driven c
+Cores = (g : Given) → Chosen g → (c : Core) → Meets g c → Driven g c

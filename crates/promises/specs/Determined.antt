@@ -4,19 +4,20 @@ use Prim.Native.Nat.{ℕ}
 use mathlib.Core.Path.{_≡_}
 use mathlib.Core.List.{List}
 use Rattle.host.specs.Host.{hostOf, takenOf, hostReply, takenReply}
-use Rattle.pundaliket.specs.Calls.{callOf, Calls, signalOf, Signals, sentOf, Sends}
+use Rattle.pundaliket.specs.Calls.{Calls, Signals, sentOf, Sends}
+use Rattle.promises.specs.Given.{Given, runCall, eventCall}
 
 -- pundaliket_run: the refusal, and every byte of state, replies and report
 abbrev pub RunDetermined : Type 0
 RunDetermined =
-    (state input replies report : List ℕ) (r q : ℕ) (s t w v p o : List ℕ)
-    → Calls (callOf state input replies report) r s w p → Calls (callOf state input replies report) q t v o
+    (g : Given) (state input replies report : List ℕ) (r q : ℕ) (s t w v p o : List ℕ)
+    → Calls (runCall g state input replies report) r s w p → Calls (runCall g state input replies report) q t v o
     → (r ≡ q) × (s ≡ t) × (w ≡ v) × (p ≡ o)
 
 -- pundaliket_event: the number, and every byte of the state
 abbrev pub EventDetermined : Type 0
 EventDetermined =
-    (state : List ℕ) (kind byte r q : ℕ) (s t : List ℕ) → Signals (signalOf state kind byte) r s → Signals (signalOf state kind byte) q t
+    (g : Given) (state : List ℕ) (kind byte r q : ℕ) (s t : List ℕ) → Signals (eventCall g state kind byte) r s → Signals (eventCall g state kind byte) q t
     → (r ≡ q) × (s ≡ t)
 
 -- pundaliket_word_to_f32: the refusal, and every byte of the slice

@@ -16,6 +16,7 @@ use Rattle.memory.specs.History.{History, memoryOf, from, told, afterAll, histo
 use Rattle.records.specs.Run.{runOf}
 use Rattle.stored.specs.Bytes.{isState, cardIn}
 use Rattle.promises.specs.Records.{joined, EachTaken, repliesOf}
+use Rattle.promises.specs.Given.{Given, Chosen, settingsIn}
 use Rattle.promises.specs.Cores.{Core, Meets, kindNumber, byteOf, Sendable, driven}
 
 -- ---- through the event call
@@ -63,29 +64,29 @@ abbrev pub rememberedAfter : Card → List Event → Memory
 rememberedAfter k es = memoryOf (historyOf k es (from (k .memory)))
 
 -- what is lent for records in turn and one of kind 7 behind them: a good state, a report of nine bytes, records that are each taken, room for the reply
-pub record Lent (state : List ℕ) (rs : List (List ℕ)) (replies report : List ℕ) : Type 0 where
+pub record Lent (g : Given) (state : List ℕ) (rs : List (List ℕ)) (replies report : List ℕ) : Type 0 where
   pub bytes : Bytes state × Bytes (joined rs) × Bytes replies × Bytes report
   pub good : isState state ≡ true
   pub nine : length report ≡ 9
-  pub each : EachTaken (cardIn state) rs (length replies)
+  pub each : EachTaken (cardIn (settingsIn g) state) rs (length replies)
   pub short : length (joined rs) + 4 ≤ 12288
-  pub room : length (joined (repliesOf (cardIn state) rs (length replies))) + 7 ≤ length replies
+  pub room : length (joined (repliesOf (cardIn (settingsIn g) state) rs (length replies))) + 7 ≤ length replies
 
 -- ---- the statement, of every core that meets the promises
-pub record MemoryIsHistory (c : Core) : Type 0 where
+pub record MemoryIsHistory (g : Given) (c : Core) : Type 0 where
   -- the event call on 21 bytes: after any events the last two are what the history of the calls says, on top of the two that stood
   pub events : (state : List ℕ) (es : List Event) → Bytes state → isState state ≡ true → length state ≡ 21 → Sendable es
       → memoryAt (driven c state es) ≡ memoryOf (callHistory c state es (from (memoryAt state)))
   -- files on 21 bytes: the last two are what the history of the records' events says
-  pub files : (state : List ℕ) (rs : List (List ℕ)) (replies report : List ℕ) → Lent state rs replies report → length state ≡ 21
-      → memoryAt ((c .run state (joined rs) replies report) .state) ≡ rememberedAfter (cardIn state) (eventsIn rs)
+  pub files : (state : List ℕ) (rs : List (List ℕ)) (replies report : List ℕ) → Lent g state rs replies report → length state ≡ 21
+      → memoryAt ((c .run state (joined rs) replies report) .state) ≡ rememberedAfter (cardIn (settingsIn g) state) (eventsIn rs)
   -- files on 19 or 21 bytes: a record of kind 7 behind them is answered with the two, which on 19 bytes began empty
-  pub recalled : (state : List ℕ) (rs : List (List ℕ)) (replies report : List ℕ) → Lent state rs replies report
-      → take 7 (drop (length (joined (repliesOf (cardIn state) rs (length replies)))) ((c .run state (joined rs ++ (2 ∷ 0 ∷ 7 ∷ 0 ∷ [])) replies report) .replies))
-      ≡ 5 ∷ 0 ∷ 135 ∷ 0 ∷ 0 ∷ rememberedAfter (cardIn state) (eventsIn rs) .bits ∷ rememberedAfter (cardIn state) (eventsIn rs) .code ∷ []
+  pub recalled : (state : List ℕ) (rs : List (List ℕ)) (replies report : List ℕ) → Lent g state rs replies report
+      → take 7 (drop (length (joined (repliesOf (cardIn (settingsIn g) state) rs (length replies)))) ((c .run state (joined rs ++ (2 ∷ 0 ∷ 7 ∷ 0 ∷ [])) replies report) .replies))
+      ≡ 5 ∷ 0 ∷ 135 ∷ 0 ∷ 0 ∷ rememberedAfter (cardIn (settingsIn g) state) (eventsIn rs) .bits ∷ rememberedAfter (cardIn (settingsIn g) state) (eventsIn rs) .code ∷ []
 
 abbrev pub ErrorMemory : Type 0
-ErrorMemory = (c : Core) → Meets c → MemoryIsHistory c
+ErrorMemory = (g : Given) → Chosen g → (c : Core) → Meets g c → MemoryIsHistory g c
 
 -- the run of records in turn is the run of their events, whatever stands on the card
 abbrev pub RecordsAreEvents : Type 0
@@ -114,4 +115,4 @@ pub record Shortened (c : Core) : Type 0 where
       }
 
 abbrev pub ShortStates : Type 0
-ShortStates = (c : Core) → Meets c → Shortened c
+ShortStates = (g : Given) → Chosen g → (c : Core) → Meets g c → Shortened c

@@ -13,6 +13,7 @@ use Rattle.memory.specs.declared.Event.{Event}
 use Rattle.memory.specs.declared.Event.the-variants.{Chip, Recall, Forget}
 use Rattle.stored.specs.Bytes.{isState}
 use Rattle.pundaliket.specs.Calls.{Called}
+use Rattle.promises.specs.Given.{Given, Chosen}
 use Rattle.promises.specs.Records.{countAt}
 use Rattle.promises.specs.Chains.{Step, Constants, reversing, wordAfter}
 use Rattle.promises.specs.Cores.{Core, Meets, kindNumber, byteOf, Sendable, Keeps, driven, returned, drivenQuietly, Begins, busRun}
@@ -74,7 +75,7 @@ pub record Lent (c : Core) (state : List ℕ) (es : List Event) (replies report 
 -- ---- of any core that meets the promises, any events
 abbrev pub EventFiles : Type 0
 EventFiles =
-    (c : Core) → Meets c → (state : List ℕ) (es : List Event) (replies report : List ℕ) → Sendable es → Lent c state es replies report
+    (g : Given) → Chosen g → (c : Core) → Meets g c → (state : List ℕ) (es : List Event) (replies report : List ℕ) → Sendable es → Lent c state es replies report
     → FileOfEvents (c .run state (fileOf es) replies report) es (driven c state es) (returned c state es) (codesBefore c state es) replies
 
 -- ---- demand 3 for files: the file of a chain's events
@@ -106,4 +107,4 @@ pub record ChainFiles (c : Core) : Type 0 where
       → Le (tos 4 ((c .run state' (chainFile w sr' ks) replies' report') .state)) (tos 4 ((c .run state (chainFile v sr ks) replies report) .state))
 
 abbrev pub Demand3Files : Type 0
-Demand3Files = (c : Core) → Meets c → ChainFiles c
+Demand3Files = (g : Given) → Chosen g → (c : Core) → Meets g c → ChainFiles c

@@ -12,8 +12,10 @@ use Rattle.memory.specs.Memory.{Card}
 use Rattle.host.specs.declared.Reply.{Reply}
 use Rattle.records.specs.Record.{turnOf}
 use Rattle.records.specs.Run.{runOf}
+use Rattle.terms.specs.Settings.{Settings}
 use Rattle.stored.specs.Bytes.{isState, cardIn, laidOut}
-use Rattle.pundaliket.specs.Calls.{Called, callOf, signalOf, sentOf}
+use Rattle.pundaliket.specs.Calls.{Called, sentOf}
+use Rattle.promises.specs.Given.{Given, Chosen, runCall, eventCall}
 use Rattle.promises.specs.Records.{countAt}
 
 -- ---- a call that is turned away
@@ -21,21 +23,21 @@ use Rattle.promises.specs.Records.{countAt}
 -- 14 writes nothing, whatever else is wrong
 abbrev pub NoReport : Type 0
 NoReport =
-    (state input replies report : List ℕ) → (length report ≡ reportBytes → ⊥)
-    → callOf state input replies report ≡ record { result = 14; state = state; replies = replies; report = report }
+    (g : Given) (state input replies report : List ℕ) → (length report ≡ reportBytes → ⊥)
+    → runCall g state input replies report ≡ record { result = 14; state = state; replies = replies; report = report }
 
 -- 13 writes the report alone, both counts 0
 abbrev pub NoState : Type 0
 NoState =
-    (state input replies report : List ℕ) → length report ≡ reportBytes → isState state ≡ false
-    → callOf state input replies report
+    (g : Given) → Chosen g → (state input replies report : List ℕ) → length report ≡ reportBytes → isState state ≡ false
+    → runCall g state input replies report
     ≡ record { result = 13; state = state; replies = replies; report = 13 ∷ 0 ∷ 0 ∷ 0 ∷ 0 ∷ 0 ∷ 0 ∷ 0 ∷ 0 ∷ [] }
 
 -- and so does 9, over 12,288 bytes
 abbrev pub LongInput : Type 0
 LongInput =
-    (state input replies report : List ℕ) → length report ≡ reportBytes → isState state ≡ true → mostInput < length input
-    → callOf state input replies report
+    (g : Given) → Chosen g → (state input replies report : List ℕ) → length report ≡ reportBytes → isState state ≡ true → mostInput < length input
+    → runCall g state input replies report
     ≡ record { result = 9; state = state; replies = replies; report = 9 ∷ 0 ∷ 0 ∷ 0 ∷ 0 ∷ 0 ∷ 0 ∷ 0 ∷ 0 ∷ [] }
 
 -- which two bytes stand for an error memory: no bit outside 4 to 1, no code without bits, no bits without a code
@@ -58,20 +60,20 @@ GoodStates = (l : List ℕ) → (isState l ≡ true → Stands l) × (Stands l �
 
 -- they come back as they were: nothing is lost in reading and writing a state
 abbrev pub StateReturns : Type 0
-StateReturns = (l : List ℕ) → isState l ≡ true → laidOut (length l) (cardIn l) ≡ l
+StateReturns = (on : Settings) (l : List ℕ) → isState l ≡ true → laidOut (length l) (cardIn on l) ≡ l
 
 -- an input of no bytes ends at once with 0
 abbrev pub EmptyInput : Type 0
 EmptyInput =
-    (state replies report : List ℕ) → length report ≡ reportBytes → isState state ≡ true
-    → callOf state [] replies report
+    (g : Given) → Chosen g → (state replies report : List ℕ) → length report ≡ reportBytes → isState state ≡ true
+    → runCall g state [] replies report
     ≡ record { result = 0; state = state; replies = replies; report = 0 ∷ 0 ∷ 0 ∷ 0 ∷ 0 ∷ 0 ∷ 0 ∷ 0 ∷ 0 ∷ [] }
 
 -- a refused event leaves every byte of the state
 abbrev pub EventKept : Type 0
 EventKept =
-    (state : List ℕ) (kind byte : ℕ) → Bytes state → 256 ≤ signalOf state kind byte .result
-    → signalOf state kind byte .state ≡ state
+    (g : Given) (state : List ℕ) (kind byte : ℕ) → Bytes state → 256 ≤ eventCall g state kind byte .result
+    → eventCall g state kind byte .state ≡ state
 
 -- a refused conversion leaves every byte of the slice
 abbrev pub OutKept : Type 0
@@ -80,22 +82,22 @@ OutKept = (reply : Reply) (out : List ℕ) → (sentOf reply out .result ≡ 0 �
 -- a run and an event leave bytes that stand for a state again, as many as were lent
 abbrev pub StateStays : Type 0
 StateStays =
-    (state input replies report : List ℕ) → Bytes state → Bytes input → isState state ≡ true
-    → (isState (callOf state input replies report .state) ≡ true) × (length (callOf state input replies report .state) ≡ length state)
+    (g : Given) (state input replies report : List ℕ) → Bytes state → Bytes input → isState state ≡ true
+    → (isState (runCall g state input replies report .state) ≡ true) × (length (runCall g state input replies report .state) ≡ length state)
 
 abbrev pub StateStaysEvent : Type 0
 StateStaysEvent =
-    (state : List ℕ) (kind byte : ℕ) → Bytes state → byte < 256 → isState state ≡ true
-    → (isState (signalOf state kind byte .state) ≡ true) × (length (signalOf state kind byte .state) ≡ length state)
+    (g : Given) (state : List ℕ) (kind byte : ℕ) → Bytes state → byte < 256 → isState state ≡ true
+    → (isState (eventCall g state kind byte .state) ≡ true) × (length (eventCall g state kind byte .state) ≡ length state)
 
 -- ---- replies
 
 -- every byte of replies at or past the report's second count stays, and their number
 abbrev pub RepliesStay : Type 0
 RepliesStay =
-    (state input replies report : List ℕ)
-    → (length (callOf state input replies report .replies) ≡ length replies)
-    × ((i : ℕ) → countAt (callOf state input replies report .report) 5 ≤ i → getD (callOf state input replies report .replies) i 0 ≡ getD replies i 0)
+    (g : Given) (state input replies report : List ℕ)
+    → (length (runCall g state input replies report .replies) ≡ length replies)
+    × ((i : ℕ) → countAt (runCall g state input replies report .report) 5 ≤ i → getD (runCall g state input replies report .replies) i 0 ≡ getD replies i 0)
 
 -- ---- a bad file
 
@@ -109,13 +111,13 @@ StopsThere =
 -- all that it leaves but the refusal is what the file of the bytes taken leaves: the records done before, and nothing of the one that stops
 abbrev pub BadFile : Type 0
 BadFile =
-    (state input replies report : List ℕ) → length report ≡ reportBytes → isState state ≡ true → length input ≤ mostInput
-    → callOf state (take (countAt (callOf state input replies report .report) 1) input) replies report
+    (g : Given) → Chosen g → (state input replies report : List ℕ) → length report ≡ reportBytes → isState state ≡ true → length input ≤ mostInput
+    → runCall g state (take (countAt (runCall g state input replies report .report) 1) input) replies report
     ≡ record {
       result = 0;
-      state = callOf state input replies report .state;
-      replies = callOf state input replies report .replies;
-      report = 0 ∷ drop 1 (callOf state input replies report .report);
+      state = runCall g state input replies report .state;
+      replies = runCall g state input replies report .replies;
+      report = 0 ∷ drop 1 (runCall g state input replies report .report);
     }
 
 -- ---- a file cut after any byte
@@ -134,12 +136,12 @@ pub record CutCall (cut whole : Called) (k n : ℕ) : Type 0 where
 -- a file that ends with 0, cut after any byte and run on the same state in the same room, leaves what its whole records leave
 abbrev pub CutFile : Type 0
 CutFile =
-    (state input replies report : List ℕ) → callOf state input replies report .result ≡ 0 → (k : ℕ) → k ≤ length input
-    → (n : ℕ) × CutCall (callOf state (take k input) replies report) (callOf state (take n input) replies report) k n
+    (g : Given) (state input replies report : List ℕ) → runCall g state input replies report .result ≡ 0 → (k : ℕ) → k ≤ length input
+    → (n : ℕ) × CutCall (runCall g state (take k input) replies report) (runCall g state (take n input) replies report) k n
 
 -- and n is the last record end at or below k: no longer front of the file, up to k, ends with 0
 abbrev pub LastEnd : Type 0
 LastEnd =
-    (state input replies report : List ℕ) → callOf state input replies report .result ≡ 0 → (k n : ℕ) → k ≤ length input
-    → CutCall (callOf state (take k input) replies report) (callOf state (take n input) replies report) k n
-    → (m : ℕ) → m ≤ k → callOf state (take m input) replies report .result ≡ 0 → m ≤ n
+    (g : Given) (state input replies report : List ℕ) → runCall g state input replies report .result ≡ 0 → (k n : ℕ) → k ≤ length input
+    → CutCall (runCall g state (take k input) replies report) (runCall g state (take n input) replies report) k n
+    → (m : ℕ) → m ≤ k → runCall g state (take m input) replies report .result ≡ 0 → m ≤ n

@@ -10,6 +10,7 @@ pub mod Host
 pub mod Bench
 pub mod Roots
 pub mod Chains
+pub mod Given
 pub mod Cores
 pub mod Fronts
 pub mod RunCall
@@ -24,3 +25,4 @@ pub mod WrongCores
 pub mod OldLimits
 pub mod LongBlocks
 pub mod ErrorMemory
+pub mod Modes

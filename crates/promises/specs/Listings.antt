@@ -4,7 +4,9 @@ use Prim.Native.Nat.{ℕ, _+_, _*_, _-_, _/_, _%_, _^_, _≤_, _<_}
 use mathlib.Core.Path.{_≡_}
 use mathlib.Core.List.{List, [], _∷_, _++_, map}
 use lib.ListN.{length, drop, getD}
+use Rattle.terms.specs.declared.Mode.the-variants.{Am9511A}
 use Rattle.chip.specs.State.{resetState}
+use Rattle.chip.specs.Step.{under}
 use Rattle.memory.specs.Memory.{emptyMemory, Card, cardWith}
 use Rattle.records.specs.Record.{replyOf}
 use Rattle.records.specs.Run.{runOf}
@@ -61,7 +63,7 @@ lastLine refusal taken = 101 ∷ 110 ∷ 100 ∷ ((32 ∷ decimal refusal) ++ ((
 
 -- the card after a reset
 abbrev pub fresh : Card
-fresh = cardWith resetState emptyMemory
+fresh = cardWith (under Am9511A) resetState emptyMemory
 
 pub record Listings : Type 0 where
   -- an input of at most 12,288 bytes, run from reset with 65,536 bytes of room and split into the records taken and the rest (Records: every file splits so):

@@ -9,7 +9,8 @@ use Rattle.terms.specs.Limits.{mostInput, reportBytes}
 use Rattle.memory.specs.Memory.{Card}
 use Rattle.records.specs.Run.{Outcome, ended, after, runUnder, runOf}
 use Rattle.stored.specs.Bytes.{isState, cardIn}
-use Rattle.pundaliket.specs.Calls.{ranOf, callOf}
+use Rattle.pundaliket.specs.Calls.{ranOf}
+use Rattle.promises.specs.Given.{Given, Chosen, settingsIn, runCall}
 
 -- the run while a record pushed or popped at most 16 bytes and its length said at most 18
 abbrev pub oldRun : Card → List ℕ → ℕ → Outcome
@@ -28,6 +29,6 @@ pub record OldLimits : Type 0 where
       ≡ after (oldRun s file room .taken) (oldRun s file room .written)
       (runOf (oldRun s file room .state) (drop (oldRun s file room .taken) file) (room - length (oldRun s file room .written)))
   -- and so does the call on lent bytes
-  pub call : (state input replies report : List ℕ) → length report ≡ reportBytes → isState state ≡ true → length input ≤ mostInput
-      → (oldRun (cardIn state) input (length replies) .refusal ≡ 7 → ⊥)
-      → callOf state input replies report ≡ ranOf (length state) (oldRun (cardIn state) input (length replies)) replies
+  pub call : (g : Given) → Chosen g → (state input replies report : List ℕ) → length report ≡ reportBytes → isState state ≡ true → length input ≤ mostInput
+      → (oldRun (cardIn (settingsIn g) state) input (length replies) .refusal ≡ 7 → ⊥)
+      → runCall g state input replies report ≡ ranOf (length state) (oldRun (cardIn (settingsIn g) state) input (length replies)) replies

@@ -17,6 +17,7 @@ use Rattle.chip.specs.declared.Event.the-variants.{Push, Pop, Command, Status, 
 use Rattle.chip.specs.Step.{answerTo, under}
 use Rattle.chip.specs.Events.{afterEvents}
 use Rattle.stored.specs.Bytes.{isState}
+use Rattle.promises.specs.Given.{Given, Chosen}
 use Rattle.promises.specs.Cores.{Core, Meets, Sendable, onBus, driven}
 
 -- an answer's number, the byte read, and the whole state after
@@ -75,7 +76,7 @@ pub record Bus (on : Settings) : Type 0 where
 -- the same of the event call of any core that meets the promises: byte 16 of the state is that number modulo 2
 abbrev pub PendingByte : Type 0
 PendingByte =
-    (c : Core) → Meets c → (state : List ℕ) (es : List Event) → Bytes state → isState state ≡ true → Sendable (onBus es)
+    (g : Given) → Chosen g → (c : Core) → Meets g c → (state : List ℕ) (es : List Event) → Bytes state → isState state ≡ true → Sendable (onBus es)
     → getD (driven c state (onBus es)) 16 0 ≡ movedSince (getD state 16 0) es % 2
 
 -- of the chip as it stands

@@ -9,9 +9,10 @@ use Rattle.terms.specs.Refusal.{numberOf}
 use Rattle.terms.specs.Limits.{mostInput, mostPayload, reportBytes}
 use Rattle.stack.specs.Stack.{Bytes, IsStack}
 use Rattle.chip.specs.declared.State.{State}
-use Rattle.chip.specs.State.{busy, resetState, acknowledged}
+use Rattle.chip.specs.State.{busy, afterReset, acknowledged}
 use Rattle.chip.specs.declared.Event.the-variants.{Command}
-use Rattle.chip.specs.Step.{commandOf}
+use Rattle.terms.specs.Settings.{Settings}
+use Rattle.chip.specs.Step.{commandUnder}
 use Rattle.chip.specs.InTurn.{afterPushes, afterPops, bytesPopped}
 use Rattle.memory.specs.declared.Memory.{Memory}
 use Rattle.memory.specs.Memory.{emptyMemory, isMemory, Card, cardWith, keptAfter}
@@ -19,7 +20,7 @@ use Rattle.records.specs.declared.head.Event.{Event}
 use Rattle.records.specs.Record.{payloadOf, answeredOf, headNumber, headOf, Holds}
 use Rattle.records.specs.Run.{Outcome, ended, took, after, runOf}
 use Rattle.stored.specs.Bytes.{isState, cardIn}
-use Rattle.pundaliket.specs.Calls.{callOf}
+use Rattle.promises.specs.Given.{Given, Chosen, settingsIn, runCall}
 
 -- ---- records in turn
 
@@ -106,53 +107,53 @@ countAt l i = getD l i 0 + 256 * (getD l (i + 1) 0 + 256 * (getD l (i + 2) 0 + 2
 -- the report's two counts are exact
 abbrev pub CountsExact : Type 0
 CountsExact =
-    (state input replies report : List ℕ) → length report ≡ reportBytes → isState state ≡ true → length input ≤ mostInput
-    → (countAt (callOf state input replies report .report) 1 ≡ runOf (cardIn state) input (length replies) .taken)
-    × (countAt (callOf state input replies report .report) 5 ≡ length (runOf (cardIn state) input (length replies) .written))
+    (g : Given) → Chosen g → (state input replies report : List ℕ) → length report ≡ reportBytes → isState state ≡ true → length input ≤ mostInput
+    → (countAt (runCall g state input replies report .report) 1 ≡ runOf (cardIn (settingsIn g) state) input (length replies) .taken)
+    × (countAt (runCall g state input replies report .report) 5 ≡ length (runOf (cardIn (settingsIn g) state) input (length replies) .written))
 
 -- ---- one whole record, by the table of kinds, on a chip beside a memory
 
 abbrev pub PushRecord : Type 0
 PushRecord =
-    (s : State) (m : Memory) (payload : List ℕ) (room : ℕ) → busy s ≡ false → 1 ≤ length payload → length payload ≤ mostPayload → 5 ≤ room
-    → runOf (cardWith s m) ((2 + length payload) ∷ 0 ∷ 1 ∷ 0 ∷ payload) room ≡ took (cardWith (afterPushes s payload) m) (4 + length payload) (3 ∷ 0 ∷ 129 ∷ 0 ∷ 0 ∷ [])
+    (on : Settings) (s : State) (m : Memory) (payload : List ℕ) (room : ℕ) → busy s ≡ false → 1 ≤ length payload → length payload ≤ mostPayload → 5 ≤ room
+    → runOf (cardWith on s m) ((2 + length payload) ∷ 0 ∷ 1 ∷ 0 ∷ payload) room ≡ took (cardWith on (afterPushes s payload) m) (4 + length payload) (3 ∷ 0 ∷ 129 ∷ 0 ∷ 0 ∷ [])
 
 abbrev pub PopRecord : Type 0
 PopRecord =
-    (s : State) (m : Memory) (n room : ℕ) → busy s ≡ false → 1 ≤ n → n ≤ mostPayload → 5 + n ≤ room
-    → runOf (cardWith s m) (3 ∷ 0 ∷ 2 ∷ 0 ∷ n ∷ []) room ≡ took (cardWith (afterPops n s) m) 5 ((3 + n) ∷ 0 ∷ 130 ∷ 0 ∷ 0 ∷ bytesPopped n s)
+    (on : Settings) (s : State) (m : Memory) (n room : ℕ) → busy s ≡ false → 1 ≤ n → n ≤ mostPayload → 5 + n ≤ room
+    → runOf (cardWith on s m) (3 ∷ 0 ∷ 2 ∷ 0 ∷ n ∷ []) room ≡ took (cardWith on (afterPops n s) m) 5 ((3 + n) ∷ 0 ∷ 130 ∷ 0 ∷ 0 ∷ bytesPopped n s)
 
 abbrev pub CommandRecord : Type 0
 CommandRecord =
-    (s : State) (m : Memory) (code room : ℕ) → 5 ≤ room
-    → runOf (cardWith s m) (3 ∷ 0 ∷ 3 ∷ 0 ∷ code ∷ []) room
-    ≡ took (cardWith (commandOf s code .state) (keptAfter m (Command code) (commandOf s code))) 5 (3 ∷ 0 ∷ 131 ∷ 0 ∷ numberOf (commandOf s code .refusal) ∷ [])
+    (on : Settings) (s : State) (m : Memory) (code room : ℕ) → 5 ≤ room
+    → runOf (cardWith on s m) (3 ∷ 0 ∷ 3 ∷ 0 ∷ code ∷ []) room
+    ≡ took (cardWith on (commandUnder (on .rule) s code .state) (keptAfter m (Command code) (commandUnder (on .rule) s code))) 5 (3 ∷ 0 ∷ 131 ∷ 0 ∷ numberOf (commandUnder (on .rule) s code .refusal) ∷ [])
 
 abbrev pub StatusRecord : Type 0
 StatusRecord =
-    (s : State) (m : Memory) (room : ℕ) → busy s ≡ false → 6 ≤ room
-    → runOf (cardWith s m) (2 ∷ 0 ∷ 4 ∷ 0 ∷ []) room ≡ took (cardWith s m) 4 (4 ∷ 0 ∷ 132 ∷ 0 ∷ 0 ∷ s .status ∷ [])
+    (on : Settings) (s : State) (m : Memory) (room : ℕ) → busy s ≡ false → 6 ≤ room
+    → runOf (cardWith on s m) (2 ∷ 0 ∷ 4 ∷ 0 ∷ []) room ≡ took (cardWith on s m) 4 (4 ∷ 0 ∷ 132 ∷ 0 ∷ 0 ∷ s .status ∷ [])
 
 abbrev pub ResetRecord : Type 0
 ResetRecord =
-    (s : State) (m : Memory) (room : ℕ) → busy s ≡ false → 5 ≤ room
-    → runOf (cardWith s m) (2 ∷ 0 ∷ 5 ∷ 0 ∷ []) room ≡ took (cardWith resetState emptyMemory) 4 (3 ∷ 0 ∷ 133 ∷ 0 ∷ 0 ∷ [])
+    (on : Settings) (s : State) (m : Memory) (room : ℕ) → busy s ≡ false → 5 ≤ room
+    → runOf (cardWith on s m) (2 ∷ 0 ∷ 5 ∷ 0 ∷ []) room ≡ took (cardWith on (afterReset (on .mode) s) emptyMemory) 4 (3 ∷ 0 ∷ 133 ∷ 0 ∷ 0 ∷ [])
 
 abbrev pub AcknowledgeRecord : Type 0
 AcknowledgeRecord =
-    (s : State) (m : Memory) (room : ℕ) → busy s ≡ false → 5 ≤ room
-    → runOf (cardWith s m) (2 ∷ 0 ∷ 6 ∷ 0 ∷ []) room ≡ took (cardWith (acknowledged s) m) 4 (3 ∷ 0 ∷ 134 ∷ 0 ∷ 0 ∷ [])
+    (on : Settings) (s : State) (m : Memory) (room : ℕ) → busy s ≡ false → 5 ≤ room
+    → runOf (cardWith on s m) (2 ∷ 0 ∷ 6 ∷ 0 ∷ []) room ≡ took (cardWith on (acknowledged s) m) 4 (3 ∷ 0 ∷ 134 ∷ 0 ∷ 0 ∷ [])
 
 -- 02, ask 3: "Record kind 7 returns the two bytes in that order; kind 8 clears them; neither has a payload"
 abbrev pub RecallRecord : Type 0
 RecallRecord =
-    (s : State) (m : Memory) (room : ℕ) → busy s ≡ false → 7 ≤ room
-    → runOf (cardWith s m) (2 ∷ 0 ∷ 7 ∷ 0 ∷ []) room ≡ took (cardWith s m) 4 (5 ∷ 0 ∷ 135 ∷ 0 ∷ 0 ∷ m .bits ∷ m .code ∷ [])
+    (on : Settings) (s : State) (m : Memory) (room : ℕ) → busy s ≡ false → 7 ≤ room
+    → runOf (cardWith on s m) (2 ∷ 0 ∷ 7 ∷ 0 ∷ []) room ≡ took (cardWith on s m) 4 (5 ∷ 0 ∷ 135 ∷ 0 ∷ 0 ∷ m .bits ∷ m .code ∷ [])
 
 abbrev pub ForgetRecord : Type 0
 ForgetRecord =
-    (s : State) (m : Memory) (room : ℕ) → busy s ≡ false → 5 ≤ room
-    → runOf (cardWith s m) (2 ∷ 0 ∷ 8 ∷ 0 ∷ []) room ≡ took (cardWith s emptyMemory) 4 (3 ∷ 0 ∷ 136 ∷ 0 ∷ 0 ∷ [])
+    (on : Settings) (s : State) (m : Memory) (room : ℕ) → busy s ≡ false → 5 ≤ room
+    → runOf (cardWith on s m) (2 ∷ 0 ∷ 8 ∷ 0 ∷ []) room ≡ took (cardWith on s emptyMemory) 4 (3 ∷ 0 ∷ 136 ∷ 0 ∷ 0 ∷ [])
 
 -- a whole record whose reply has no room is 8, and nothing of it is done
 abbrev pub NoRoomRecord : Type 0

@@ -9,7 +9,8 @@ use Rattle.stack.specs.Stack.{Bytes}
 use Rattle.memory.specs.Memory.{emptyMemory, Card}
 use Rattle.records.specs.Run.{Outcome, runOf}
 use Rattle.stored.specs.Bytes.{isState}
-use Rattle.pundaliket.specs.Calls.{Called, callOf}
+use Rattle.pundaliket.specs.Calls.{Called}
+use Rattle.promises.specs.Given.{Given, Chosen, settingsIn, runCall}
 use Rattle.promises.specs.Records.{countAt}
 
 -- the bytes of a card, of which there are n: 0 to 15 the stack, top first, 16 pending, 17 status, 18 service, and of 21 the memory's bits and its code
@@ -40,29 +41,29 @@ pub record Reports (n : ℕ) (c : Called) (o : Outcome) (replies : List ℕ) : T
 -- for a state that is taken, a report of 9 bytes and at most 12,288 bytes of input
 abbrev pub RunCall : Type 0
 RunCall =
-    (c : Card) (state input replies report : List ℕ) → Bytes state → Bytes input → isState state ≡ true → StandsFor state c → length report ≡ 9 → length input ≤ 12288
-    → Reports (length state) (callOf state input replies report) (runOf c input (length replies)) replies
+    (g : Given) → Chosen g → (c : Card) → c .on ≡ settingsIn g → (state input replies report : List ℕ) → Bytes state → Bytes input → isState state ≡ true → StandsFor state c → length report ≡ 9 → length input ≤ 12288
+    → Reports (length state) (runCall g state input replies report) (runOf c input (length replies)) replies
 
 -- byte 0 of the report is the number returned, for every call but one that returns 14
 abbrev pub ReportsResult : Type 0
 ReportsResult =
-    (state input replies report : List ℕ) → length report ≡ 9
-    → getD (callOf state input replies report .report) 0 0 ≡ callOf state input replies report .result
+    (g : Given) (state input replies report : List ℕ) → length report ≡ 9
+    → getD (runCall g state input replies report .report) 0 0 ≡ runCall g state input replies report .result
 
--- a call that returns neither 0 nor 9 nor 13 nor 14 returns 5 to 8; given again on the state that it left, the bytes after those taken and the room after the
+-- a call that is not turned away and does not return 0 returns 5 to 8; given again on the state that it left, the bytes after those taken and the room after the
 -- replies written, it returns the same number, and takes, writes and changes nothing
 abbrev pub StopsAgain : Type 0
 StopsAgain =
-    (state input replies report : List ℕ) → Bytes state → Bytes input → isState state ≡ true → length report ≡ 9 → length input ≤ 12288
-    → (callOf state input replies report .result ≡ 0 → ⊥)
-    → (5 ≤ callOf state input replies report .result) × (callOf state input replies report .result ≤ 8)
-    × (callOf (callOf state input replies report .state)
-    (drop (countAt (callOf state input replies report .report) 1) input)
-    (drop (countAt (callOf state input replies report .report) 5) replies)
+    (g : Given) → Chosen g → (state input replies report : List ℕ) → Bytes state → Bytes input → isState state ≡ true → length report ≡ 9 → length input ≤ 12288
+    → (runCall g state input replies report .result ≡ 0 → ⊥)
+    → (5 ≤ runCall g state input replies report .result) × (runCall g state input replies report .result ≤ 8)
+    × (runCall g (runCall g state input replies report .state)
+    (drop (countAt (runCall g state input replies report .report) 1) input)
+    (drop (countAt (runCall g state input replies report .report) 5) replies)
     report
     ≡ record {
-      result = callOf state input replies report .result;
-      state = callOf state input replies report .state;
-      replies = drop (countAt (callOf state input replies report .report) 5) replies;
-      report = callOf state input replies report .result ∷ 0 ∷ 0 ∷ 0 ∷ 0 ∷ 0 ∷ 0 ∷ 0 ∷ 0 ∷ [];
+      result = runCall g state input replies report .result;
+      state = runCall g state input replies report .state;
+      replies = drop (countAt (runCall g state input replies report .report) 5) replies;
+      report = runCall g state input replies report .result ∷ 0 ∷ 0 ∷ 0 ∷ 0 ∷ 0 ∷ 0 ∷ 0 ∷ 0 ∷ [];
     })

@@ -10,13 +10,14 @@ use Rattle.terms.specs.Limits.{mostInput, reportBytes}
 use Rattle.stack.specs.Stack.{Bytes, zeros}
 use Rattle.records.specs.Run.{runOf as fileRun}
 use Rattle.stored.specs.Bytes.{isState, cardIn}
+use Rattle.promises.specs.Given.{Given, Chosen, settingsIn}
 use Rattle.promises.specs.Cores.{Core, Meets, described, driven, Begins, busRun}
 use Rattle.promises.specs.Chains.{Step, Change, Constants}
 use Rattle.promises.specs.Records.{IsRecord, Split, total, lengths, repliesOf, countAt}
 
 -- no core of a class meets the promises
-abbrev pub No : (Core → Type 0) → Type 0
-No Class = (c : Core) → Meets c → Class c → ⊥
+abbrev pub No : Given → (Core → Type 0) → Type 0
+No g Class = (c : Core) → Meets g c → Class c → ⊥
 
 -- ---- (a) refuses everything: one of its calls never answers 0 (a single event answers 0 where it returns less than 256)
 pub data RefusesEverything (c : Core) : Type 0 where
@@ -56,15 +57,15 @@ pub data FirstRecordOnly (c : Core) : Type 0 where
 
 -- ---- (e) invented byte counts: on some one input a count is not the summed sizes of the records taken, those refused with 1 to 4 among them, or of their
 -- replies (Records: every file splits so); or it is not 0 where the call is turned away with 13 or 9
-pub data InventedCounts (c : Core) : Type 0 where
+pub data InventedCounts (g : Given) (c : Core) : Type 0 where
   wrong-taken : (state input replies report : List ℕ) → Bytes state → Bytes input → Bytes replies → Bytes report → length report ≡ reportBytes → isState state ≡ true → length input ≤ mostInput
-      → (split : Split (cardIn state) input (length replies) (fileRun (cardIn state) input (length replies)))
-      → (countAt ((c .run state input replies report) .report) 1 ≡ total (lengths (split .records)) → ⊥) → InventedCounts c
+      → (split : Split (cardIn (settingsIn g) state) input (length replies) (fileRun (cardIn (settingsIn g) state) input (length replies)))
+      → (countAt ((c .run state input replies report) .report) 1 ≡ total (lengths (split .records)) → ⊥) → InventedCounts g c
   wrong-written : (state input replies report : List ℕ) → Bytes state → Bytes input → Bytes replies → Bytes report → length report ≡ reportBytes → isState state ≡ true → length input ≤ mostInput
-      → (split : Split (cardIn state) input (length replies) (fileRun (cardIn state) input (length replies)))
-      → (countAt ((c .run state input replies report) .report) 5 ≡ total (lengths (repliesOf (cardIn state) (split .records) (length replies))) → ⊥) → InventedCounts c
+      → (split : Split (cardIn (settingsIn g) state) input (length replies) (fileRun (cardIn (settingsIn g) state) input (length replies)))
+      → (countAt ((c .run state input replies report) .report) 5 ≡ total (lengths (repliesOf (cardIn (settingsIn g) state) (split .records) (length replies))) → ⊥) → InventedCounts g c
   wrong-away : (state input replies report : List ℕ) → Bytes state → Bytes input → Bytes replies → Bytes report → length report ≡ reportBytes → (isState state ≡ false) ⊎ (mostInput < length input)
-      → ((countAt ((c .run state input replies report) .report) 1 ≡ 0) × (countAt ((c .run state input replies report) .report) 5 ≡ 0) → ⊥) → InventedCounts c
+      → ((countAt ((c .run state input replies report) .report) 1 ≡ 0) × (countAt ((c .run state input replies report) .report) 5 ≡ 0) → ⊥) → InventedCounts g c
 
 -- ---- (f) answers every chain with zero
 -- after every chain of one or more steps, from any state with nothing pending, on any proper word, the zero word lies on top
@@ -115,17 +116,20 @@ pub record Tells (c : Core) : Type 0 where
   -- (f): the sign of 1 changed is -1
   pub chain : take 4 (driven c fresh (busRun 0x01800000 (λ (n : ℕ). false) (Change ∷ []))) ≡ 0x81 ∷ 0x80 ∷ 0 ∷ 0 ∷ []
 
--- ---- the statement
-pub record WrongCores : Type 0 where
+-- ---- the statement, under any numbers that are not turned away
+pub record WrongCoresUnder (g : Given) : Type 0 where
   -- the promises can be met
-  pub met : Meets described
+  pub met : Meets g (described g)
   -- every core that meets them does this with the inputs that tell
-  pub tells : (c : Core) → Meets c → Tells c
+  pub tells : (c : Core) → Meets g c → Tells c
   -- so that none of these does
-  pub refuses-everything : No RefusesEverything
-  pub single-reply : No SingleReply
-  pub same-replies : No SameReplies
-  pub does-nothing : No DoesNothing
-  pub first-record-only : No FirstRecordOnly
-  pub invented-counts : No InventedCounts
-  pub zero-chains : No ZeroChains
+  pub refuses-everything : No g RefusesEverything
+  pub single-reply : No g SingleReply
+  pub same-replies : No g SameReplies
+  pub does-nothing : No g DoesNothing
+  pub first-record-only : No g FirstRecordOnly
+  pub invented-counts : No g (InventedCounts g)
+  pub zero-chains : No g ZeroChains
+
+abbrev pub WrongCores : Type 0
+WrongCores = (g : Given) → Chosen g → WrongCoresUnder g

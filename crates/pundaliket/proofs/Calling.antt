@@ -1,22 +1,23 @@
 -- The ways through the exported calls: by their tests, which case of the definition holds. Assumes nothing.
 use mathlib.Core.Path.{_≡_, refl, sym, ap, ap₂, subst, _∙_}
 use mathlib.Core.Logic.{⊎-elim}
-use mathlib.Core.Bool.{Bool, true, false, not}
+use mathlib.Core.Bool.{Bool, true, false, not, cond}
 use mathlib.Core.List.{List, _++_}
 use Prim.Native.Nat.{ℕ, _+_, _≤_, _<_}
 use native.Mathlib.Omega.{arith}
+use lib.Dec.{eqb}
 use lib.ListN.{length, take, drop, getD, length-append, length-drop, take-append-drop}
 use lib.Seq.{length-take-le, getD-append-add, getD-drop, take-at}
-use borrow.Author.Tests.{lt-ltb, le-ltb, eq-eqb, ne-eqb}
-use Rattle.terms.specs.declared.Mode.the-variants.{Am9511A}
+use borrow.Author.Tests.{lt-ltb, le-ltb, lt-leb, le-leb, eq-eqb, ne-eqb}
 use Rattle.little.specs.Little.{le4}
 use Rattle.terms.specs.declared.Refusal.{Refusal}
-use Rattle.terms.specs.declared.Refusal.the-variants.{Done, NoSuchKind, NoRoom, InputTooLong, BadState}
+use Rattle.terms.specs.declared.Refusal.the-variants.{Done, NoSuchKind, NoRoom, InputTooLong, BadState, BadMode}
 use Rattle.terms.specs.Refusal.{numberOf}
+use Rattle.terms.specs.Settings.{Settings}
 use Rattle.chip.specs.declared.State.{State}
 use Rattle.chip.specs.declared.Event.{Event as ChipEvent}
 use Rattle.chip.specs.declared.place.Left.{Left}
-use Rattle.chip.specs.Step.{eventOf}
+use Rattle.chip.specs.Step.{answerTo}
 use Rattle.chip.specs.Place.{held, answerBy}
 use Rattle.memory.specs.declared.Memory.{Memory}
 use Rattle.memory.specs.declared.Event.{Event}
@@ -29,13 +30,13 @@ use Rattle.memory.proofs.Good.{recalled, forgotten}
 use Rattle.host.specs.declared.Reply.{Reply}
 use Rattle.files.specs.Run.{Runs}
 use Rattle.records.specs.Run.{Outcome, runOf}
-use Rattle.stored.specs.Bytes.{Sized, isState, stateOf, memoryIn, cardIn, memoryBytesOf, laidOut, reportOf}
+use Rattle.stored.specs.Bytes.{Sized, isState, stateOf, memoryIn, cardIn, memoryBytesOf, laid, laidOut, reportOf}
 use Rattle.stored.proofs.Laid.{other-memory}
 use Rattle.stored.proofs.States.{least, sized-as, state-sized, state-ready, short-memory, long-memory}
 use Rattle.stored.proofs.Cards.{card-returns, long-back}
 use Rattle.pundaliket.specs.declared.Named.{Named}
 use Rattle.pundaliket.specs.declared.Named.the-variants.{Unknown}
-use Rattle.pundaliket.specs.Calls.{ranOf, away, callOf, Calls, answeredBy, Names, Signal, joinedOf, signalBy, signalOf, Signals, sentOf, Sends}
+use Rattle.pundaliket.specs.Calls.{settingsOf, ranOf, away, callUnder, signalUnder, callOf, Calls, answeredBy, Names, Signal, joinedOf, signalBy, signalOf, Signals, sentOf, Sends}
 
 pub false-true : false ≡ true → ⊥
 false-true e = let z : _≡_ {A = ℕ} 0 1 = cc in omega arith
@@ -75,24 +76,24 @@ module _ (l x : List ℕ) (h : Sized l) (n : length x ≡ 16) where
 
   -- the chip's bytes written behind it, then what an event of the chip leaves remembered
   module _ (pending : Bool) (status : ℕ) (service : Bool) (e : ChipEvent) {y : List ℕ}
-      (put : y ≡ laidOut (length (x ++ drop 16 l)) (cardWith (held (take 16 (x ++ drop 16 l)) pending status service) (memoryIn (x ++ drop 16 l))))
+      (put : y ≡ laid (length (x ++ drop 16 l)) (held (take 16 (x ++ drop 16 l)) pending status service) (memoryIn (x ++ drop 16 l)))
       (same : length y ≡ length (x ++ drop 16 l)) where
-    flags-back : y ≡ laidOut (length l) (cardWith (held x pending status service) (memoryIn l))
+    flags-back : y ≡ laid (length l) (held x pending status service) (memoryIn l)
     flags-back =
         put
-        ∙ ap (λ (m : Memory). laidOut (length (x ++ drop 16 l)) (cardWith (held (take 16 (x ++ drop 16 l)) pending status service) m)) memory-stays
+        ∙ ap (laid (length (x ++ drop 16 l)) (held (take 16 (x ++ drop 16 l)) pending status service)) memory-stays
         ∙ rw (same-size, take-at x (drop 16 l) 16 n)
 
     memory-back : memoryIn y ≡ memoryIn l
     memory-back =
         ⊎-elim (λ a. short-memory y (same ∙ same-size ∙ a) ∙ sym (short-memory l a))
-        (λ b. ap memoryIn flags-back ∙ long-back (cardWith (held x pending status service) (memoryIn l)) n (length l) b) h
+        (λ b. ap memoryIn flags-back ∙ long-back (held x pending status service) (memoryIn l) n (length l) b) h
 
     pub kept-back : {left : List ℕ} → left ≡ take 19 y ++ memoryBytesOf (length y) (keptBy (memoryIn y) e 0 status)
-        → left ≡ laidOut (length l) (cardWith (held x pending status service) (keptBy (memoryIn l) e 0 status))
+        → left ≡ laid (length l) (held x pending status service) (keptBy (memoryIn l) e 0 status)
     kept-back k =
-        other-memory (length l) (cardWith (held x pending status service) (memoryIn l)) (keptBy (memoryIn y) e 0 status) n flags-back (same ∙ same-size) k
-        ∙ ap (λ (m : Memory). laidOut (length l) (cardWith (held x pending status service) (keptBy m e 0 status))) memory-back
+        other-memory (length l) (held x pending status service) (memoryIn l) (keptBy (memoryIn y) e 0 status) n flags-back (same ∙ same-size) k
+        ∙ ap (λ (m : Memory). laid (length l) (held x pending status service) (keptBy m e 0 status)) memory-back
 
 -- the memory's bytes after an event of the chip, by which event it is
 pub kept-as : (l : List ℕ) (status : ℕ) {e o : ChipEvent} {left : List ℕ} → e ≡ o → left ≡ take 19 l ++ memoryBytesOf (length l) (keptBy (memoryIn l) o 0 status)
@@ -115,81 +116,98 @@ pub turned-away : (r : Refusal) (n : ℕ) (state replies report : List ℕ) → 
     → Calls (away r state replies) n state replies report
 turned-away r n state replies report e h = record { result-is = e; state-is = refl; replies-is = refl; report-is = h }
 
-module _ (state input replies report : List ℕ) where
-  pub bad-report : (length report ≡ 9 → ⊥) → (n : ℕ) → n ≡ 14 → Calls (callOf state input replies report) n state replies report
+module _ (mode : ℕ) (state input replies report : List ℕ) where
+  pub bad-report : (length report ≡ 9 → ⊥) → (n : ℕ) → n ≡ 14 → Calls (callOf mode state input replies report) n state replies report
   unfolding callOf
   bad-report a n e = simp ne-eqb record { result-is = e; state-is = refl; replies-is = refl; report-is = refl }
 
-  pub bad-state : length report ≡ 9 → isState state ≡ false → callOf state input replies report ≡ away BadState state replies
+  -- under numbers that are not turned away
+  pub run-chosen : mode ≤ 1 → callOf mode state input replies report ≡ cond (eqb (length report) 9) (callUnder (settingsOf mode) state input replies) (record { result = 14; state = state; replies = replies; report = report })
   unfolding callOf
-  bad-state a b = rw (eq-eqb (length report) 9 a, b)
+  run-chosen k = rw (le-leb mode 1 k)
 
-  pub too-long : length report ≡ 9 → isState state ≡ true → 12288 < length input → callOf state input replies report ≡ away InputTooLong state replies
+  pub bad-mode : length report ≡ 9 → 1 < mode → callOf mode state input replies report ≡ away BadMode state replies
   unfolding callOf
-  too-long a b d = rw (eq-eqb (length report) 9 a, b, lt-ltb 12288 (length input) d)
+  bad-mode a k = rw (eq-eqb (length report) 9 a, lt-leb mode 1 k)
 
-  pub good : length report ≡ 9 → isState state ≡ true → length input ≤ 12288
-      → callOf state input replies report ≡ ranOf (length state) (runOf (cardIn state) input (length replies)) replies
+  pub bad-state : length report ≡ 9 → mode ≤ 1 → isState state ≡ false → callOf mode state input replies report ≡ away BadState state replies
   unfolding callOf
-  good a b d = rw (eq-eqb (length report) 9 a, b, le-ltb 12288 (length input) d)
+  bad-state a k b = rw (eq-eqb (length report) 9 a, le-leb mode 1 k, b)
+
+  pub too-long : length report ≡ 9 → mode ≤ 1 → isState state ≡ true → 12288 < length input → callOf mode state input replies report ≡ away InputTooLong state replies
+  unfolding callOf
+  too-long a k b d = rw (eq-eqb (length report) 9 a, le-leb mode 1 k, b, lt-ltb 12288 (length input) d)
+
+  pub good : length report ≡ 9 → mode ≤ 1 → isState state ≡ true → length input ≤ 12288
+      → callOf mode state input replies report ≡ ranOf (length state) (runOf (cardIn (settingsOf mode) state) input (length replies)) replies
+  unfolding callOf
+  good a k b d = rw (eq-eqb (length report) 9 a, le-leb mode 1 k, b, le-ltb 12288 (length input) d)
 
 -- a single event: refused, and the stack where it lies as it was, or done
-module _ (state : List ℕ) (e : Event) (a : CardAnswer) (is : a ≡ eventIn (cardIn state) e) {n r : ℕ} (en : n ≡ numberOf (a .refusal)) (er : r ≡ joinedOf n (a .byte)) where
+module _ (on : Settings) (state : List ℕ) (e : Event) (a : CardAnswer) (is : a ≡ eventIn (cardIn on state) e) {n r : ℕ} (en : n ≡ numberOf (a .refusal)) (er : r ≡ joinedOf n (a .byte)) where
   kept : (n ≡ 0 → ⊥) → a .card .chip .stack ≡ take 16 state
   kept g =
       ap (λ (x : CardAnswer). x .card .chip .stack) is
-      ∙ ap (λ (c : Card). c .chip .stack) (refused-leaves (cardIn state) e (λ z. g (en ∙ ap (λ (x : CardAnswer). numberOf (x .refusal)) is ∙ z)))
+      ∙ ap (λ (c : Card). c .chip .stack) (refused-leaves (cardIn on state) e (λ z. g (en ∙ ap (λ (x : CardAnswer). numberOf (x .refusal)) is ∙ z)))
 
-  pub no-event : (n ≡ 0 → ⊥) → Signals (signalBy state (eventIn (cardIn state) e)) r (a .card .chip .stack ++ drop 16 state)
+  pub no-event : (n ≡ 0 → ⊥) → Signals (signalBy state (eventIn (cardIn on state) e)) r (a .card .chip .stack ++ drop 16 state)
   no-event g = rw (← is, ← en, ne-eqb n 0 g) record { result-is = er; state-is = ap (λ (l : List ℕ). l ++ drop 16 state) (kept g) ∙ take-append-drop 16 state }
 
-  pub an-event : (left : List ℕ) → n ≡ 0 → left ≡ laidOut (length state) (a .card) → Signals (signalBy state (eventIn (cardIn state) e)) r left
+  pub an-event : (left : List ℕ) → n ≡ 0 → left ≡ laidOut (length state) (a .card) → Signals (signalBy state (eventIn (cardIn on state) e)) r left
   an-event left g d = rw (← is, ← en, eq-eqb n 0 g) record { result-is = er; state-is = d }
 
 -- an event of the chip on the stack where it lies: refused, or its bytes written behind the stack, then what it leaves remembered
-module _ (state : List ℕ) (e : ChipEvent) (v : Left) (x : List ℕ) {s : State} (at : s ≡ stateOf state) (is : answerBy v x ≡ eventOf Am9511A s e) {n r : ℕ} (en : n ≡ numberOf (v .refusal)) (er : r ≡ joinedOf n (v .byte)) where
-  answered : answerWith (memoryIn state) e (answerBy v x) ≡ eventIn (cardIn state) (Chip e)
-  answered = ap (answerWith (memoryIn state) e) (is ∙ ap (λ (t : State). eventOf Am9511A t e) at)
+module _ (on : Settings) (state : List ℕ) (e : ChipEvent) (v : Left) (x : List ℕ) {s : State} (at : s ≡ stateOf state) (is : answerBy v x ≡ answerTo on s e) {n r : ℕ} (en : n ≡ numberOf (v .refusal)) (er : r ≡ joinedOf n (v .byte)) where
+  answered : answerWith on (memoryIn state) e (answerBy v x) ≡ eventIn (cardIn on state) (Chip e)
+  answered = ap (answerWith on (memoryIn state) e) (is ∙ ap (λ (t : State). answerTo on t e) at)
 
-  pub no-chip-event : (n ≡ 0 → ⊥) → Signals (signalBy state (eventIn (cardIn state) (Chip e))) r (x ++ drop 16 state)
-  no-chip-event z = no-event state (Chip e) (answerWith (memoryIn state) e (answerBy v x)) answered en er z
+  pub no-chip-event : (n ≡ 0 → ⊥) → Signals (signalBy state (eventIn (cardIn on state) (Chip e))) r (x ++ drop 16 state)
+  no-chip-event z = no-event on state (Chip e) (answerWith on (memoryIn state) e (answerBy v x)) answered en er z
 
   pub a-chip-event : {y left : List ℕ} → n ≡ 0 → Sized state → length x ≡ 16
-      → y ≡ laidOut (length (x ++ drop 16 state)) (cardWith (held (take 16 (x ++ drop 16 state)) (v .pending) (v .status) (v .service)) (memoryIn (x ++ drop 16 state)))
+      → y ≡ laid (length (x ++ drop 16 state)) (held (take 16 (x ++ drop 16 state)) (v .pending) (v .status) (v .service)) (memoryIn (x ++ drop 16 state))
       → length y ≡ length (x ++ drop 16 state) → left ≡ take 19 y ++ memoryBytesOf (length y) (keptBy (memoryIn y) e 0 (v .status))
-      → Signals (signalBy state (eventIn (cardIn state) (Chip e))) r left
+      → Signals (signalBy state (eventIn (cardIn on state) (Chip e))) r left
   a-chip-event {left = left} z h l put same k =
-      an-event state (Chip e) (answerWith (memoryIn state) e (answerBy v x)) answered en er left z
+      an-event on state (Chip e) (answerWith on (memoryIn state) e (answerBy v x)) answered en er left z
       (kept-back state x h l (v .pending) (v .status) (v .service) e put same k
-      ∙ ap (λ (i : ℕ). laidOut (length state) (cardWith (held x (v .pending) (v .status) (v .service)) (keptBy (memoryIn state) e i (v .status)))) (sym z ∙ en))
+      ∙ ap (λ (i : ℕ). laid (length state) (held x (v .pending) (v .status) (v .service)) (keptBy (memoryIn state) e i (v .status))) (sym z ∙ en))
 
 -- the memory read, and cleared
-module _ (state : List ℕ) (h : isState state ≡ true) {r : ℕ} where
-  pub a-recall : (m : Memory) → m ≡ memoryIn state → r ≡ joinedOf 0 (m .bits) → Signals (signalBy state (eventIn (cardIn state) Recall)) r state
+module _ (on : Settings) (state : List ℕ) (h : isState state ≡ true) {r : ℕ} where
+  pub a-recall : (m : Memory) → m ≡ memoryIn state → r ≡ joinedOf 0 (m .bits) → Signals (signalBy state (eventIn (cardIn on state) Recall)) r state
   a-recall m is er =
-      an-event state Recall (record { refusal = Done; byte = memoryIn state .bits; card = cardIn state }) (recalled (cardIn state) (state-ready state h)) refl (er ∙ ap (λ (k : Memory). joinedOf 0 (k .bits)) is) state refl (sym (card-returns state h))
+      an-event on state Recall (record { refusal = Done; byte = memoryIn state .bits; card = cardIn on state }) (recalled (cardIn on state) (state-ready state h)) refl (er ∙ ap (λ (k : Memory). joinedOf 0 (k .bits)) is) state refl (sym (card-returns on state h))
 
-  pub a-forget : (m : Memory) {left : List ℕ} → m ≡ emptyMemory → r ≡ joinedOf 0 0 → left ≡ take 19 state ++ memoryBytesOf (length state) m → Signals (signalBy state (eventIn (cardIn state) Forget)) r left
+  pub a-forget : (m : Memory) {left : List ℕ} → m ≡ emptyMemory → r ≡ joinedOf 0 0 → left ≡ take 19 state ++ memoryBytesOf (length state) m → Signals (signalBy state (eventIn (cardIn on state) Forget)) r left
   a-forget m {left} is er e =
-      an-event state Forget (record { refusal = Done; byte = 0; card = cardWith (stateOf state) emptyMemory }) (forgotten (cardIn state) (state-ready state h)) refl er left refl
-      (other-memory (length state) (cardIn state) emptyMemory (stack-size state (state-sized state h)) (sym (card-returns state h)) refl (e ∙ ap (λ (k : Memory). take 19 state ++ memoryBytesOf (length state) k) is))
+      an-event on state Forget (record { refusal = Done; byte = 0; card = cardWith on (stateOf state) emptyMemory }) (forgotten (cardIn on state) (state-ready state h)) refl er left refl
+      (other-memory (length state) (stateOf state) (memoryIn state) emptyMemory (stack-size state (state-sized state h)) (sym (card-returns on state h)) refl (e ∙ ap (λ (k : Memory). take 19 state ++ memoryBytesOf (length state) k) is))
 
 -- an event by its kind: turned away, one that the kind names, or 5
-module _ (state : List ℕ) (kind byte : ℕ) where
-  pub no-state : isState state ≡ false → (n r : ℕ) → n ≡ numberOf BadState → r ≡ joinedOf n 0 → Signals (signalOf state kind byte) r state
+module _ (mode : ℕ) (state : List ℕ) (kind byte : ℕ) where
+  pub no-mode : 1 < mode → (n r : ℕ) → n ≡ numberOf BadMode → r ≡ joinedOf n 0 → Signals (signalOf mode state kind byte) r state
   unfolding signalOf
-  no-state h n r e f = rw h record { result-is = f ∙ rw e; state-is = refl }
+  no-mode k n r e f = rw (lt-leb mode 1 k) record { result-is = f ∙ rw e; state-is = refl }
 
-  module _ (h : isState state ≡ true) (m : Named) (is : Names kind byte m) where
-    signalled : signalBy state (answeredBy (cardIn state) m) ≡ signalOf state kind byte
+  pub event-chosen : mode ≤ 1 → signalOf mode state kind byte ≡ signalUnder (settingsOf mode) state kind byte
+  unfolding signalOf
+  event-chosen k = rw (le-leb mode 1 k)
+
+  pub no-state : mode ≤ 1 → isState state ≡ false → (n r : ℕ) → n ≡ numberOf BadState → r ≡ joinedOf n 0 → Signals (signalOf mode state kind byte) r state
+  unfolding signalOf
+  no-state k h n r e f = rw (le-leb mode 1 k, h) record { result-is = f ∙ rw e; state-is = refl }
+
+  module _ (k : mode ≤ 1) (h : isState state ≡ true) (m : Named) (is : Names kind byte m) where
+    signalled : signalBy state (answeredBy (cardIn (settingsOf mode) state) m) ≡ signalOf mode state kind byte
     unfolding signalOf
-    signalled = rw h (ap (signalBy state) (is (cardIn state)))
+    signalled = rw (le-leb mode 1 k, h) (ap (signalBy state) (is (cardIn (settingsOf mode) state)))
 
-    pub named : {o : Named} {r : ℕ} {left : List ℕ} → m ≡ o → Signals (signalBy state (answeredBy (cardIn state) o)) r left → Signals (signalOf state kind byte) r left
-    named {o} {r} {left} k w = subst (λ (t : Signal). Signals t r left) (ap (λ (n : Named). signalBy state (answeredBy (cardIn state) n)) (sym k) ∙ signalled) w
+    pub named : {o : Named} {r : ℕ} {left : List ℕ} → m ≡ o → Signals (signalBy state (answeredBy (cardIn (settingsOf mode) state) o)) r left → Signals (signalOf mode state kind byte) r left
+    named {o} {r} {left} told w = subst (λ (t : Signal). Signals t r left) (ap (λ (n : Named). signalBy state (answeredBy (cardIn (settingsOf mode) state) n)) (sym told) ∙ signalled) w
 
-    pub unnamed : (n r : ℕ) → m ≡ Unknown → n ≡ numberOf NoSuchKind → r ≡ joinedOf n 0 → Signals (signalOf state kind byte) r state
-    unnamed n r k e f = named k (record { result-is = f ∙ rw e; state-is = refl })
+    pub unnamed : (n r : ℕ) → m ≡ Unknown → n ≡ numberOf NoSuchKind → r ≡ joinedOf n 0 → Signals (signalOf mode state kind byte) r state
+    unnamed n r told e f = named told (record { result-is = f ∙ rw e; state-is = refl })
 
 -- a conversion: a slice of another length, a refusal, the bits sent
 module _ (reply : Reply) (out : List ℕ) where

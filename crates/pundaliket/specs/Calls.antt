@@ -7,10 +7,13 @@ use lib.Dec.{eqb, ltb}
 use lib.ListN.{length, drop}
 use Rattle.little.specs.Little.{wordBytes, le4}
 use Rattle.terms.specs.declared.Refusal.{Refusal}
-use Rattle.terms.specs.declared.Refusal.the-variants.{NoSuchKind, NoRoom, InputTooLong, BadState, BadReport}
+use Rattle.terms.specs.declared.Refusal.the-variants.{NoSuchKind, NoRoom, InputTooLong, BadState, BadReport, BadMode}
 use Rattle.terms.specs.Refusal.{numberOf}
 use Rattle.terms.specs.Limits.{reportBytes, mostInput}
+use Rattle.terms.specs.Settings.{Settings, isMode, modeOf}
+use Rattle.chip.specs.Step.{under}
 use Rattle.chip.specs.declared.Event.the-variants.{Push, Pop, Command, Status, Reset, Acknowledge}
+use Rattle.memory.specs.declared.Event.{Event}
 use Rattle.memory.specs.declared.Event.the-variants.{Chip, Recall, Forget}
 use Rattle.memory.specs.Memory.{Card, CardAnswer, eventIn}
 use Rattle.host.specs.declared.Reply.{Reply}
@@ -18,6 +21,10 @@ use Rattle.records.specs.Run.{Outcome, runOf}
 use Rattle.stored.specs.Bytes.{isState, cardIn, laidOut, reportOf}
 use Rattle.pundaliket.specs.declared.Named.{Named}
 use Rattle.pundaliket.specs.declared.Named.the-variants.{Known, Recalls, Forgets, Unknown}
+
+-- what the numbers that are given with a call set: the mode
+abbrev pub settingsOf : ℕ → Settings
+settingsOf mode = under (modeOf mode)
 
 -- ---- the run
 
@@ -41,13 +48,18 @@ ranOf n o replies = record {
 abbrev pub away : Refusal → List ℕ → List ℕ → Called
 away r state replies = record { result = numberOf r; state = state; replies = replies; report = reportOf (numberOf r) 0 0 }
 
--- the order is 14, 13, 9; 14 writes nothing
-unfoldable pub callOf : List ℕ → List ℕ → List ℕ → List ℕ → Called
-callOf state input replies report =
+-- under settings: 13, then 9
+abbrev pub callUnder : Settings → List ℕ → List ℕ → List ℕ → Called
+callUnder on state input replies =
+    cond (isState state)
+    (cond (ltb mostInput (length input)) (away InputTooLong state replies) (ranOf (length state) (runOf (cardIn on state) input (length replies)) replies))
+    (away BadState state replies)
+
+-- the order is 14, 16, 13, 9; 14 writes nothing
+unfoldable pub callOf : ℕ → List ℕ → List ℕ → List ℕ → List ℕ → Called
+callOf mode state input replies report =
     cond (eqb (length report) reportBytes)
-    (cond (isState state)
-    (cond (ltb mostInput (length input)) (away InputTooLong state replies) (ranOf (length state) (runOf (cardIn state) input (length replies)) replies))
-    (away BadState state replies))
+    (cond (isMode mode) (callUnder (settingsOf mode) state input replies) (away BadMode state replies))
     (record { result = numberOf BadReport; state = state; replies = replies; report = report })
 
 -- what a call did beside the definition's
@@ -99,14 +111,25 @@ signalBy state a = record {
   state = cond (eqb (numberOf (a .refusal)) 0) (laidOut (length state) (a .card)) state;
 }
 
--- 13 comes first
-unfoldable pub signalOf : List ℕ → ℕ → ℕ → Signal
-signalOf state kind byte =
-    cond (isState state) (signalBy state (answerToKind (cardIn state) kind byte)) (record { result = joinedOf (numberOf BadState) 0; state = state })
+-- turned away: the number alone
+abbrev pub unsent : Refusal → List ℕ → Signal
+unsent r state = record { result = joinedOf (numberOf r) 0; state = state }
+
+-- under settings: 13 first
+abbrev pub signalUnder : Settings → List ℕ → ℕ → ℕ → Signal
+signalUnder on state kind byte = cond (isState state) (signalBy state (answerToKind (cardIn on state) kind byte)) (unsent BadState state)
+
+-- 16 comes before
+unfoldable pub signalOf : ℕ → List ℕ → ℕ → ℕ → Signal
+signalOf mode state kind byte = cond (isMode mode) (signalUnder (settingsOf mode) state kind byte) (unsent BadMode state)
 
 pub record Signals (t : Signal) (result : ℕ) (state : List ℕ) : Type 0 where
   pub result-is : result ≡ t .result
   pub state-is : state ≡ t .state
+
+-- an event that is the same whatever the settings
+abbrev pub SignalsAlike : List ℕ → Event → ℕ → List ℕ → Type 0
+SignalsAlike state e result left = (on : Settings) → Signals (signalBy state (eventIn (cardIn on state) e)) result left
 
 -- ---- a conversion
 

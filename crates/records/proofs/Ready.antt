@@ -30,7 +30,7 @@ pop-all-fair zero a f = f
 pop-all-fair (suc n) a f = pop-all-fair n (popOf (a .state)) (pop-fair (a .state) (f .left))
 
 -- ---- every event
-block-fair : (c : Card) (a : Answer) → ReadyCard c → Fair a → FairCard (around (c .memory) a)
+block-fair : (c : Card) (a : Answer) → ReadyCard c → Fair a → FairCard (around (c .on) (c .memory) a)
 block-fair c a r f = record { left = record { chip = f .left; memory = r .memory }; small = f .small }
 
 pub event-fair : (c : Card) (p : List ℕ) (e : Event) → ReadyCard c → Bytes p → FairCard (answerOf c p e)

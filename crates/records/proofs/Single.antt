@@ -9,16 +9,17 @@ use borrow.Author.Tests.{lt-ltb, le-ltb, leb-false}
 use lib.Dec.{lit≤}
 use lib.ListN.{length, drop, length-drop, drop-of-length-le}
 use lib.Seq.{take-all}
-use Rattle.terms.specs.declared.Mode.the-variants.{Am9511A}
+use Rattle.terms.specs.declared.Mode.{Mode}
 use Rattle.terms.specs.declared.Refusal.{Refusal}
 use Rattle.terms.specs.declared.Refusal.the-variants.{Done, NoRoom}
 use Rattle.terms.specs.Refusal.{numberOf}
+use Rattle.terms.specs.Settings.{Settings}
 use Rattle.terms.specs.Limits.{mostPayload}
 use Rattle.chip.specs.declared.State.{State}
 use Rattle.chip.specs.declared.Answer.{Answer}
 use Rattle.chip.specs.declared.Event.the-variants.{Command as CommandEvent}
-use Rattle.chip.specs.State.{busy, resetState, acknowledged}
-use Rattle.chip.specs.Step.{done, pushOf, popOf, readOf, resetOf, acknowledgeOf, commandOf}
+use Rattle.chip.specs.State.{busy, afterReset, acknowledged}
+use Rattle.chip.specs.Step.{done, pushOf, popOf, readOf, resetOf, acknowledgeOf, commandUnder}
 use Rattle.chip.specs.InTurn.{afterPushes, afterPops, bytesPopped}
 use Rattle.chip.proofs.InTurn.{push-done, pop-done}
 use Rattle.memory.specs.declared.Memory.{Memory}
@@ -69,9 +70,9 @@ read-is : (s : State) → busy s ≡ false → readOf s ≡ done (s .status) s
 unfolding readOf
 read-is s h = rw h
 
-reset-is : (s : State) → busy s ≡ false → resetOf Am9511A s ≡ done 0 resetState
+pub reset-is : (mode : Mode) (s : State) → busy s ≡ false → resetOf mode s ≡ done 0 (afterReset mode s)
 unfolding resetOf
-reset-is s h = rw h
+reset-is mode s h = rw h
 
 acknowledge-is : (s : State) → busy s ≡ false → acknowledgeOf s ≡ done 0 (acknowledged s)
 unfolding acknowledgeOf
@@ -91,18 +92,18 @@ pops (suc n) a h d =
     pops n (popOf (a .state)) (ap (λ (x : Answer). busy (x .state)) e ∙ h) (ap (λ (x : Answer). x .refusal) e)
 
 -- ---- one record of each kind, on a chip beside a memory
-module _ (s : State) (m : Memory) where
+module _ (on : Settings) (s : State) (m : Memory) where
   pub push-alone : (p : List ℕ) (room : ℕ) → busy s ≡ false → 1 ≤ length p → length p ≤ mostPayload → 5 ≤ room
-      → runOf (cardWith s m) ((2 + length p) ∷ 0 ∷ 1 ∷ 0 ∷ p) room ≡ took (cardWith (afterPushes s p) m) (4 + length p) (3 ∷ 0 ∷ 129 ∷ 0 ∷ 0 ∷ [])
+      → runOf (cardWith on s m) ((2 + length p) ∷ 0 ∷ 1 ∷ 0 ∷ p) room ≡ took (cardWith on (afterPushes s p) m) (4 + length p) (3 ∷ 0 ∷ 129 ∷ 0 ∷ 0 ∷ [])
   push-alone p room calm least most fits =
       let r : List ℕ = (2 + length p) ∷ 0 ∷ 1 ∷ 0 ∷ p in
       let e = Push (length p) in
       let h : Holds mostPayload r e = record { length-is = omega arith; kind-is = refl; there = omega arith; small = most; carried = least } in
       let q = pushes p (before s) calm refl in
-      one-turn (cardWith s m) r room e h (omega arith) (omega arith) ∙ rw (q .0, q .1)
+      one-turn (cardWith on s m) r room e h (omega arith) (omega arith) ∙ rw (q .0, q .1)
 
   pub pop-alone : (n room : ℕ) → busy s ≡ false → 1 ≤ n → n ≤ mostPayload → 5 + n ≤ room
-      → runOf (cardWith s m) (3 ∷ 0 ∷ 2 ∷ 0 ∷ n ∷ []) room ≡ took (cardWith (afterPops n s) m) 5 ((3 + n) ∷ 0 ∷ 130 ∷ 0 ∷ 0 ∷ bytesPopped n s)
+      → runOf (cardWith on s m) (3 ∷ 0 ∷ 2 ∷ 0 ∷ n ∷ []) room ≡ took (cardWith on (afterPops n s) m) 5 ((3 + n) ∷ 0 ∷ 130 ∷ 0 ∷ 0 ∷ bytesPopped n s)
   pop-alone n room calm least most fits =
       let r : List ℕ = 3 ∷ 0 ∷ 2 ∷ 0 ∷ n ∷ [] in
       let e = Pop n in
@@ -110,39 +111,39 @@ module _ (s : State) (m : Memory) where
       let q = pops n (before s) calm refl in
       let low : (3 + n) % 256 ≡ 3 + n = omega arith in
       let high : (3 + n) / 256 ≡ 0 = omega arith in
-      one-turn (cardWith s m) r room e h refl fits ∙ rw (q .0, q .1, length-popped n s, low, high)
+      one-turn (cardWith on s m) r room e h refl fits ∙ rw (q .0, q .1, length-popped n s, low, high)
 
   pub command-alone : (code room : ℕ) → 5 ≤ room
-      → runOf (cardWith s m) (3 ∷ 0 ∷ 3 ∷ 0 ∷ code ∷ []) room
-      ≡ took (cardWith (commandOf s code .state) (keptAfter m (CommandEvent code) (commandOf s code))) 5 (3 ∷ 0 ∷ 131 ∷ 0 ∷ numberOf (commandOf s code .refusal) ∷ [])
+      → runOf (cardWith on s m) (3 ∷ 0 ∷ 3 ∷ 0 ∷ code ∷ []) room
+      ≡ took (cardWith on (commandUnder (on .rule) s code .state) (keptAfter m (CommandEvent code) (commandUnder (on .rule) s code))) 5 (3 ∷ 0 ∷ 131 ∷ 0 ∷ numberOf (commandUnder (on .rule) s code .refusal) ∷ [])
   command-alone code room fits =
       let r : List ℕ = 3 ∷ 0 ∷ 3 ∷ 0 ∷ code ∷ [] in
       let h : Holds mostPayload r (Command code) = record { length-is = refl; kind-is = refl; there = omega arith; small = lit≤ tt; carried = refl } in
-      one-turn (cardWith s m) r room (Command code) h refl fits
+      one-turn (cardWith on s m) r room (Command code) h refl fits
 
 -- the kinds without a payload
 bare : (e : Event) (k : ℕ) → k ≡ kindOf e → payloadOf e ≡ 0 → Carried mostPayload 0 e → Holds mostPayload (2 ∷ 0 ∷ k ∷ 0 ∷ []) e
 bare e k a b c = record { length-is = omega arith; kind-is = omega arith; there = omega arith; small = omega arith; carried = c }
 
-module _ (s : State) (m : Memory) (room : ℕ) (calm : busy s ≡ false) where
-  pub status-alone : 6 ≤ room → runOf (cardWith s m) (2 ∷ 0 ∷ 4 ∷ 0 ∷ []) room ≡ took (cardWith s m) 4 (4 ∷ 0 ∷ 132 ∷ 0 ∷ 0 ∷ s .status ∷ [])
+module _ (on : Settings) (s : State) (m : Memory) (room : ℕ) (calm : busy s ≡ false) where
+  pub status-alone : 6 ≤ room → runOf (cardWith on s m) (2 ∷ 0 ∷ 4 ∷ 0 ∷ []) room ≡ took (cardWith on s m) 4 (4 ∷ 0 ∷ 132 ∷ 0 ∷ 0 ∷ s .status ∷ [])
   status-alone fits =
-      one-turn (cardWith s m) (2 ∷ 0 ∷ 4 ∷ 0 ∷ []) room Status (bare Status 4 refl refl tt) refl fits ∙ rw (read-is s calm)
+      one-turn (cardWith on s m) (2 ∷ 0 ∷ 4 ∷ 0 ∷ []) room Status (bare Status 4 refl refl tt) refl fits ∙ rw (read-is s calm)
 
-  pub reset-alone : 5 ≤ room → runOf (cardWith s m) (2 ∷ 0 ∷ 5 ∷ 0 ∷ []) room ≡ took (cardWith resetState emptyMemory) 4 (3 ∷ 0 ∷ 133 ∷ 0 ∷ 0 ∷ [])
+  pub reset-alone : 5 ≤ room → runOf (cardWith on s m) (2 ∷ 0 ∷ 5 ∷ 0 ∷ []) room ≡ took (cardWith on (afterReset (on .mode) s) emptyMemory) 4 (3 ∷ 0 ∷ 133 ∷ 0 ∷ 0 ∷ [])
   reset-alone fits =
-      one-turn (cardWith s m) (2 ∷ 0 ∷ 5 ∷ 0 ∷ []) room Reset (bare Reset 5 refl refl tt) refl fits ∙ rw (reset-is s calm)
+      one-turn (cardWith on s m) (2 ∷ 0 ∷ 5 ∷ 0 ∷ []) room Reset (bare Reset 5 refl refl tt) refl fits ∙ rw (reset-is (on .mode) s calm)
 
-  pub acknowledge-alone : 5 ≤ room → runOf (cardWith s m) (2 ∷ 0 ∷ 6 ∷ 0 ∷ []) room ≡ took (cardWith (acknowledged s) m) 4 (3 ∷ 0 ∷ 134 ∷ 0 ∷ 0 ∷ [])
+  pub acknowledge-alone : 5 ≤ room → runOf (cardWith on s m) (2 ∷ 0 ∷ 6 ∷ 0 ∷ []) room ≡ took (cardWith on (acknowledged s) m) 4 (3 ∷ 0 ∷ 134 ∷ 0 ∷ 0 ∷ [])
   acknowledge-alone fits =
-      one-turn (cardWith s m) (2 ∷ 0 ∷ 6 ∷ 0 ∷ []) room Acknowledge (bare Acknowledge 6 refl refl tt) refl fits ∙ rw (acknowledge-is s calm)
+      one-turn (cardWith on s m) (2 ∷ 0 ∷ 6 ∷ 0 ∷ []) room Acknowledge (bare Acknowledge 6 refl refl tt) refl fits ∙ rw (acknowledge-is s calm)
 
   pub recall-alone : 7 ≤ room
-      → runOf (cardWith s m) (2 ∷ 0 ∷ 7 ∷ 0 ∷ []) room ≡ took (cardWith s m) 4 (5 ∷ 0 ∷ 135 ∷ 0 ∷ 0 ∷ m .bits ∷ m .code ∷ [])
+      → runOf (cardWith on s m) (2 ∷ 0 ∷ 7 ∷ 0 ∷ []) room ≡ took (cardWith on s m) 4 (5 ∷ 0 ∷ 135 ∷ 0 ∷ 0 ∷ m .bits ∷ m .code ∷ [])
   recall-alone fits =
-      one-turn (cardWith s m) (2 ∷ 0 ∷ 7 ∷ 0 ∷ []) room Recall (bare Recall 7 refl refl tt) refl fits ∙ rw calm
+      one-turn (cardWith on s m) (2 ∷ 0 ∷ 7 ∷ 0 ∷ []) room Recall (bare Recall 7 refl refl tt) refl fits ∙ rw calm
 
   pub forget-alone : 5 ≤ room
-      → runOf (cardWith s m) (2 ∷ 0 ∷ 8 ∷ 0 ∷ []) room ≡ took (cardWith s emptyMemory) 4 (3 ∷ 0 ∷ 136 ∷ 0 ∷ 0 ∷ [])
+      → runOf (cardWith on s m) (2 ∷ 0 ∷ 8 ∷ 0 ∷ []) room ≡ took (cardWith on s emptyMemory) 4 (3 ∷ 0 ∷ 136 ∷ 0 ∷ 0 ∷ [])
   forget-alone fits =
-      one-turn (cardWith s m) (2 ∷ 0 ∷ 8 ∷ 0 ∷ []) room Forget (bare Forget 8 refl refl tt) refl fits ∙ rw calm
+      one-turn (cardWith on s m) (2 ∷ 0 ∷ 8 ∷ 0 ∷ []) room Forget (bare Forget 8 refl refl tt) refl fits ∙ rw calm

@@ -9,16 +9,16 @@ use lib.Bits.{or-zero-r}
 use lib.Dec.{lit<, eqb}
 use lib.ListN.{length, take, drop, length-drop}
 use lib.Seq.{length-take-le, drop-drop, drop-at, sets, sets-eq}
-use Rattle.terms.specs.declared.Mode.the-variants.{Am9511A}
 use Rattle.terms.specs.declared.Refusal.{Refusal}
 use Rattle.terms.specs.declared.Refusal.the-variants.{NoRoom, BadState}
 use Rattle.terms.specs.Refusal.{numberOf}
+use Rattle.terms.specs.Settings.{Settings}
 use Rattle.stack.specs.Stack.{zeros}
 use Rattle.chip.specs.declared.State.{State}
 use Rattle.chip.specs.declared.Answer.{Answer}
 use Rattle.chip.specs.declared.Event.{Event as ChipEvent}
 use Rattle.chip.specs.declared.Event.the-variants.{Command as CommandEvent, Status as StatusEvent, Reset as ResetEvent, Acknowledge as AcknowledgeEvent}
-use Rattle.chip.specs.Step.{done, refused, readOf, eventOf}
+use Rattle.chip.specs.Step.{done, refused, readOf, answerTo}
 use Rattle.chip.proofs.InPlace.{busy-event}
 use Rattle.memory.specs.declared.Memory.{Memory}
 use Rattle.memory.specs.declared.place.Rest.{Rest}
@@ -50,8 +50,8 @@ length-dataOf c Forget = refl
 
 module _ (stack : List ℕ) (f : Rest) where
   -- a record that stops
-  pub stays : (q : Refusal) (file room : List ℕ) {r : Pass} → r ≡ unchanged q f → 0 < numberOf q → Passed (stopped q (cardAt stack f)) r stack file room room
-  stays q file room e h = subst (λ (x : Pass). Passed (stopped q (cardAt stack f)) x stack file room room) (sym e) (record {
+  pub stays : (q : Refusal) (file room : List ℕ) {r : Pass} → r ≡ unchanged q f → 0 < numberOf q → Passed f (stopped q (cardAt stack f)) r stack file room room
+  stays q file room e h = subst (λ (x : Pass). Passed f (stopped q (cardAt stack f)) x stack file room room) (sym e) (record {
     refusal-is = refl;
     state-is = refl;
     size-is = refl;
@@ -63,7 +63,7 @@ module _ (stack : List ℕ) (f : Rest) where
   })
 
   pub no-room : (e : Event) (file room : List ℕ) {r : Pass} → r ≡ unchanged NoRoom f → length room < 5 + answeredOf e
-      → Passed (turnBy (cardAt stack f) file (length room) (Whole e)) r stack file room room
+      → Passed f (turnBy (cardAt stack f) file (length room) (Whole e)) r stack file room room
   no-room e file room er h = rw (lt-ltb (length room) (5 + answeredOf e) h) (stays NoRoom file room er (lit< tt))
 
 -- a reply that is written, and the room after it
@@ -98,8 +98,8 @@ took c e a file room ea ek er eb el there has =
     })
 
 -- a command that was refused leaves what is remembered
-pub refused-stays : (m : Memory) (code : ℕ) (r : Refusal) (s : State) → (numberOf r ≡ 0 → ⊥) → cardWith s m ≡ answerWith m (CommandEvent code) (refused r s) .card
-refused-stays m code r s h = rw (ne-eqb (numberOf r) 0 h)
+pub refused-stays : (on : Settings) (m : Memory) (code : ℕ) (r : Refusal) (s : State) → (numberOf r ≡ 0 → ⊥) → cardWith on s m ≡ answerWith on m (CommandEvent code) (refused r s) .card
+refused-stays on m code r s h = rw (ne-eqb (numberOf r) 0 h)
 
 -- and so does one that left no error bit
 stood-or-none : (n : ℕ) (b : Bool) → eqb n 0 ≡ b → n ≡ cond b 0 n
@@ -112,12 +112,12 @@ none-left m code status h =
 
 -- ---- a busy state
 module _ (c : Card) (h : 128 ≤ c .chip .status) where
-  busy-chip : (e : ChipEvent) → answerWith (c .memory) e (refused BadState (c .chip)) ≡ answerWith (c .memory) e (eventOf Am9511A (c .chip) e)
-  busy-chip e = ap (answerWith (c .memory) e) (busy-event Am9511A (c .chip) e h)
+  busy-chip : (e : ChipEvent) → answerWith (c .on) (c .memory) e (refused BadState (c .chip)) ≡ answerWith (c .on) (c .memory) e (answerTo (c .on) (c .chip) e)
+  busy-chip e = ap (answerWith (c .on) (c .memory) e) (busy-event (c .on) (c .chip) e h)
 
-  busy-answer : (p : List ℕ) (e : Event) → length p ≡ payloadOf e → Asks e → around (c .memory) (refused BadState (c .chip)) ≡ answerOf c p e
-  busy-answer p (Push n) l m = ap (around (c .memory)) (block-refused (c .chip) h p (omega (arith, l, m)))
-  busy-answer p (Pop n) l m = ap (around (c .memory)) (pops-refused (c .chip) h n m)
+  busy-answer : (p : List ℕ) (e : Event) → length p ≡ payloadOf e → Asks e → around (c .on) (c .memory) (refused BadState (c .chip)) ≡ answerOf c p e
+  busy-answer p (Push n) l m = ap (around (c .on) (c .memory)) (block-refused (c .chip) h p (omega (arith, l, m)))
+  busy-answer p (Pop n) l m = ap (around (c .on) (c .memory)) (pops-refused (c .chip) h n m)
   busy-answer p (Command code) l m = busy-chip (CommandEvent code)
   busy-answer p Status l m = busy-chip StatusEvent
   busy-answer p Reset l m = busy-chip ResetEvent
@@ -129,7 +129,7 @@ module _ (c : Card) (h : 128 ≤ c .chip .status) where
   busy-data (Push n) = refl
   busy-data (Pop n) = none-popped (c .chip) h n
   busy-data (Command code) = refl
-  busy-data Status = ap (λ (a : Answer). a .byte ∷ []) (busy-event Am9511A (c .chip) StatusEvent h)
+  busy-data Status = ap (λ (a : Answer). a .byte ∷ []) (busy-event (c .on) (c .chip) StatusEvent h)
   busy-data Reset = refl
   busy-data Acknowledge = refl
   busy-data Recall = rw (le-leb 128 (c .chip .status) h)
@@ -139,13 +139,13 @@ pub away : (stack : List ℕ) (f : Rest) (e : Event) (file room : List ℕ) {r :
     → r ≡ turnedAway f (payloadOf e) (answeredOf e)
     → left ≡ le2 (3 + answeredOf e) ++ (le2 (kindOf e + 128) ++ (13 ∷ (zeros (answeredOf e) ++ drop (answeredOf e) (drop 5 room))))
     → 4 + payloadOf e ≤ length file → 5 + answeredOf e ≤ length room
-    → Passed (turnBy (cardAt stack f) file (length room) (Whole e)) r stack file room left
+    → Passed f (turnBy (cardAt stack f) file (length room) (Whole e)) r stack file room left
 away stack f e file room {left = left} h m er el there has =
     let c = cardAt stack f in
     let p = take (payloadOf e) (drop 4 file) in
     let l : length p ≡ payloadOf e = length-take-le (payloadOf e) (drop 4 file) (omega (arith, length-drop 4 file)) in
-    subst (λ (x : Pass). Passed (turnBy c file (length room) (Whole e)) x stack file room left) (sym er)
-    (took c e (around (c .memory) (refused BadState (c .chip))) file room (busy-answer c h p e l m) refl refl (ap (λ (b : List ℕ). b ++ drop (answeredOf e) (drop 5 room)) (busy-data c h e)) el there has)
+    subst (λ (x : Pass). Passed f (turnBy c file (length room) (Whole e)) x stack file room left) (sym er)
+    (took c e (around (c .on) (c .memory) (refused BadState (c .chip))) file room (busy-answer c h p e l m) refl refl (ap (λ (b : List ℕ). b ++ drop (answeredOf e) (drop 5 room)) (busy-data c h e)) el there has)
 
 -- ---- what a worker lays behind the first five bytes
 pub behind : (room left : List ℕ) → 5 ≤ length room → drop 5 (take 5 room ++ left) ≡ left
@@ -167,6 +167,6 @@ pub recall-data : (c : Card) (room : List ℕ) → c .chip .status < 128 → 7 �
 recall-data c room ready h = stored room (c .memory .bits ∷ c .memory .code ∷ []) h ∙ rw (lt-leb 128 (c .chip .status) ready)
 
 -- the turn of an event that was found to be the record's
-pub as-event : {e d : Event} (s : Card) (r : Pass) (after file room left : List ℕ) → e ≡ d
-    → Passed (turnBy s file (length room) (Whole d)) r after file room left → Passed (turnBy s file (length room) (Whole e)) r after file room left
-as-event s r after file room left h = subst (λ (x : Event). Passed (turnBy s file (length room) (Whole x)) r after file room left) (sym h)
+pub as-event : {e d : Event} (f : Rest) (s : Card) (r : Pass) (after file room left : List ℕ) → e ≡ d
+    → Passed f (turnBy s file (length room) (Whole d)) r after file room left → Passed f (turnBy s file (length room) (Whole e)) r after file room left
+as-event f s r after file room left h = subst (λ (x : Event). Passed f (turnBy s file (length room) (Whole x)) r after file room left) (sym h)

@@ -161,8 +161,8 @@ popAll (suc n) a = popAll n (popOf (a .state))
 
 -- the answer to an event with this payload; a block leaves what is remembered
 abbrev pub answerOf : Card → List ℕ → Event → CardAnswer
-answerOf c payload (Push n) = around (c .memory) (pushAll (before (c .chip)) payload)
-answerOf c payload (Pop n) = around (c .memory) (popAll n (before (c .chip)))
+answerOf c payload (Push n) = around (c .on) (c .memory) (pushAll (before (c .chip)) payload)
+answerOf c payload (Pop n) = around (c .on) (c .memory) (popAll n (before (c .chip)))
 answerOf c payload (Command code) = eventIn c (Chip (CommandEvent code))
 answerOf c payload Status = eventIn c (Chip StatusEvent)
 answerOf c payload Reset = eventIn c (Chip ResetEvent)

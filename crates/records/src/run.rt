@@ -4,7 +4,7 @@ use memory::place::Rest;
 ghost use mathlib.Core.Path.{_≡_};
 ghost use lib.ListN.{length};
 ghost use Rattle.files.specs.Run.{Runs};
-ghost use Rattle.memory.specs.Held.{cardOf, cardAt};
+ghost use Rattle.memory.specs.Held.{cardOf, settingsAt, cardAt};
 ghost use Rattle.records.specs.Run.{runOf};
 
 // What became of a file: the refusal, the state beside the stack, the bytes of whole records taken and of replies written.
@@ -22,8 +22,9 @@ pub struct Ran {
 // Every record of `input` in turn, until one is refused or none is left.
 pub fn run_all(stack: &mut [u8], f: Rest, input: &[u8], replies: &mut [u8]) -> Ran
     requires { ⌜ length (now stack) ≡ 16 ⌝ }
-    ensures { λ r. ⌜ Runs (runOf (cardAt (now (stack .entry)) f) (now (input .entry)) (length (now (replies .entry)))) (r .refusal) (cardOf (now (stack .exit)) (r .pending) (r .status) (r .service) (r .bits) (r .code)) (r .taken) (r .written) (now (input .entry)) (now (replies .entry)) (now (replies .exit)) ⌝ }
+    ensures { λ r. ⌜ Runs (runOf (cardAt (now (stack .entry)) f) (now (input .entry)) (length (now (replies .entry)))) (r .refusal) (cardOf (settingsAt f) (now (stack .exit)) (r .pending) (r .status) (r .service) (r .bits) (r .code)) (r .taken) (r .written) (now (input .entry)) (now (replies .entry)) (now (replies .exit)) ⌝ }
 {
+    let mode = f.mode;
     let mut pending = f.pending;
     let mut status = f.status;
     let mut service = f.service;
@@ -33,6 +34,7 @@ pub fn run_all(stack: &mut [u8], f: Rest, input: &[u8], replies: &mut [u8]) -> R
     let mut w = 0;
     while at < input.len() {
         let f = Rest {
+            mode,
             pending,
             status,
             service,

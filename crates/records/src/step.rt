@@ -9,7 +9,6 @@ use memory::Memory;
 use memory::empty;
 use memory::place::Rest;
 use memory::remember;
-use terms::Mode;
 use terms::Refusal;
 use terms::number;
 ghost use mathlib.Core.Path.{_≡_};
@@ -97,7 +96,7 @@ fn turn_away(f: Rest, room: &mut [u8], kind: u16, payload: usize, n: usize) -> P
 // The n bytes of the payload pushed.
 fn pass_push(stack: &mut [u8], f: Rest, n: usize, rest: &[u8], room: &mut [u8]) -> Pass
     requires { ⌜ (length (now stack) ≡ 16) × (1 ≤ n) × (n ≤ mostPayload) × (4 + n ≤ length (now rest)) ⌝ }
-    ensures { λ r. ⌜ Passed (turnBy (cardAt (now (stack .entry)) f) (now (rest .entry)) (length (now (room .entry))) (Head.Whole (Event.Push n))) r (now (stack .exit)) (now (rest .entry)) (now (room .entry)) (now (room .exit)) ⌝ }
+    ensures { λ r. ⌜ Passed f (turnBy (cardAt (now (stack .entry)) f) (now (rest .entry)) (length (now (room .entry))) (Head.Whole (Event.Push n))) r (now (stack .exit)) (now (rest .entry)) (now (room .entry)) (now (room .exit)) ⌝ }
 {
     if room.len() < 5 {
         return stop(Refusal::NoRoom, f);
@@ -225,7 +224,7 @@ fn pass_status(f: Rest, room: &mut [u8]) -> Pass
     }
 }
 
-// Reset: stack all zero, nothing pending, status 0, service line low, nothing remembered.
+// Reset: the stack as the mode's part leaves it, nothing pending, status 0, service line low, nothing remembered.
 fn pass_reset(stack: &mut [u8], f: Rest, room: &mut [u8]) -> Pass
     requires { ⌜ length (now stack) ≡ 16 ⌝ }
     ensures { λ r. ⌜ Passes (now (stack .entry)) f Event.Reset r (now (stack .exit)) (now (room .entry)) (now (room .exit)) ⌝ }
@@ -236,7 +235,8 @@ fn pass_reset(stack: &mut [u8], f: Rest, room: &mut [u8]) -> Pass
     if 128 <= f.status {
         return turn_away(f, room, 133, 0, 0);
     }
-    let after = place::reset(stack, Mode::Am9511A, f.pending);
+    let mode = f.mode;
+    let after = place::reset(stack, mode, f.pending);
     let nothing = empty();
     open_reply(room, 0, 133, 0);
     Pass {
@@ -325,7 +325,7 @@ fn pass_forget(f: Rest, room: &mut [u8]) -> Pass
 // A whole record with its event: refused where the reply has no room, else done and answered.
 fn pass_whole(stack: &mut [u8], f: Rest, event: Event, rest: &[u8], room: &mut [u8]) -> Pass
     requires { ⌜ (length (now stack) ≡ 16) × (4 + payloadOf event ≤ length (now rest)) × (payloadOf event ≤ mostPayload) × (answeredOf event ≤ mostPayload) × Asks event ⌝ }
-    ensures { λ r. ⌜ Passed (turnBy (cardAt (now (stack .entry)) f) (now (rest .entry)) (length (now (room .entry))) (Head.Whole event)) r (now (stack .exit)) (now (rest .entry)) (now (room .entry)) (now (room .exit)) ⌝ }
+    ensures { λ r. ⌜ Passed f (turnBy (cardAt (now (stack .entry)) f) (now (rest .entry)) (length (now (room .entry))) (Head.Whole event)) r (now (stack .exit)) (now (rest .entry)) (now (room .entry)) (now (room .exit)) ⌝ }
 {
     match event {
         Event::Push(n) => pass_push(stack, f, n, rest, room),
@@ -342,7 +342,7 @@ fn pass_whole(stack: &mut [u8], f: Rest, event: Event, rest: &[u8], room: &mut [
 // The record step: what becomes of the record at the front of `rest`.
 pub fn pass_record(stack: &mut [u8], f: Rest, rest: &[u8], room: &mut [u8]) -> Pass
     requires { ⌜ length (now stack) ≡ 16 ⌝ }
-    ensures { λ r. ⌜ Passed (turnOf (cardAt (now (stack .entry)) f) (now (rest .entry)) (length (now (room .entry)))) r (now (stack .exit)) (now (rest .entry)) (now (room .entry)) (now (room .exit)) ⌝ }
+    ensures { λ r. ⌜ Passed f (turnOf (cardAt (now (stack .entry)) f) (now (rest .entry)) (length (now (room .entry)))) r (now (stack .exit)) (now (rest .entry)) (now (room .entry)) (now (room .exit)) ⌝ }
 {
     match read_head(rest) {
         Head::Whole(event) => pass_whole(stack, f, event, rest, room),

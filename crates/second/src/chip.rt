@@ -142,14 +142,34 @@ fn moved(c: Bytes, row: u8, b: u8) -> Bytes {
     bytes::with(left, 16, bytes::byte(c, 16) ^ 1)
 }
 
-// An event by the number of its kind.
-pub fn event(c: Bytes, kind: u32, b: u8) -> Reply {
+// The older part's stack where a half word is pending: the top byte to the bottom, the bottom two zero.
+fn aligned(c: Bytes) -> Bytes {
+    match bytes::byte(c, 16) {
+        1 => bytes::with(bytes::with(sheet::left(c, b'C', 0, 0), 14, 0), 15, 0),
+        _ => c,
+    }
+}
+
+// After a reset: all zero; of the older part all but the stack.
+fn reset(c: Bytes, mode: u32) -> Bytes {
+    match mode {
+        0 => [0; 32],
+        _ => remembering(
+            bytes::with(bytes::with(bytes::with(aligned(c), 16, 0), 17, 0), 18, 0),
+            0,
+            0,
+        ),
+    }
+}
+
+// An event by the number of its kind, in a mode that is 0 or 1.
+pub fn event(c: Bytes, mode: u32, kind: u32, b: u8) -> Reply {
     match kind {
         1 => answered(0, 0, moved(c, b'B', b)),
         2 => answered(0, bytes::byte(c, 0), moved(c, b'C', 0)),
         3 => command(c, b),
         4 => answered(0, bytes::byte(c, 17), c),
-        5 => answered(0, 0, [0; 32]),
+        5 => answered(0, 0, reset(c, mode)),
         6 => answered(0, 0, bytes::with(c, 18, 0)),
         7 => answered(0, bytes::byte(c, 19), c),
         8 => answered(0, 0, remembering(c, 0, 0)),
@@ -157,11 +177,14 @@ pub fn event(c: Bytes, kind: u32, b: u8) -> Reply {
     }
 }
 
-// An event on the first bytes of n, where they are a state.
-pub fn event_of(c: Bytes, n: usize, kind: u32, b: u8) -> Reply {
-    if is_state(c, n) {
-        event(c, kind, b)
-    } else {
-        answered(13, 0, c)
+// An event on the first bytes of n, where the mode is one and they are a state.
+pub fn event_of(c: Bytes, mode: u32, n: usize, kind: u32, b: u8) -> Reply {
+    match mode {
+        0 | 1 => if is_state(c, n) {
+            event(c, mode, kind, b)
+        } else {
+            answered(13, 0, c)
+        },
+        _ => answered(16, 0, c),
     }
 }

@@ -118,14 +118,14 @@ fn keep(replies: &mut [u8], to: usize, i: usize, n: usize, b: u8) {
 }
 
 // A record done: an event for each byte of input that it pushes, each byte read to its place in the reply.
-fn done(r: Progress, h: Head, input: &[u8], replies: &mut [u8]) -> Progress {
+fn done(r: Progress, h: Head, mode: u32, input: &[u8], replies: &mut [u8]) -> Progress {
     let mut chip = r.chip;
     let mut refusal = 0;
     let from = std::num::wrapping_add_usize(r.taken, 4);
     let to = std::num::wrapping_add_usize(r.written, 5);
     for i in 0..events(h) {
         let pushed = bytes::get(input, std::num::wrapping_add_usize(from, i));
-        let answer = chip::event(chip, h.kind, pushed);
+        let answer = chip::event(chip, mode, h.kind, pushed);
         chip = answer.chip;
         refusal = answer.refusal;
         keep(replies, to, i, data(h) as usize, byte_read(h, i, answer));
@@ -146,7 +146,7 @@ fn stopped(r: Progress, stop: u8) -> Progress {
 }
 
 // One record more, unless the run has stopped or none is left; a run that stops writes nothing.
-fn next(r: Progress, input: &[u8], replies: &mut [u8]) -> Progress {
+fn next(r: Progress, mode: u32, input: &[u8], replies: &mut [u8]) -> Progress {
     if (r.stop != 0) | (input.len() <= r.taken) {
         return r;
     }
@@ -157,11 +157,14 @@ fn next(r: Progress, input: &[u8], replies: &mut [u8]) -> Progress {
     if stop != 0 {
         return stopped(r, stop);
     }
-    done(r, h, input, replies)
+    done(r, h, mode, input, replies)
 }
 
 // What stops a run before its first record, or 0.
-fn first_stop(sound: bool, n: usize) -> u8 {
+fn first_stop(mode: u32, sound: bool, n: usize) -> u8 {
+    if 1 < mode {
+        return 16;
+    }
     match sound {
         false => 13,
         true => if 12288 < n { 9 } else { 0 },
@@ -176,15 +179,21 @@ fn report_of(r: Progress) -> Bytes {
 
 // A record has at least four bytes, so the turns are enough for every file. A state of 19 bytes has no place for the
 // memory, which is dropped.
-pub fn run(state: &mut [u8], input: &[u8], replies: &mut [u8], report: &mut [u8]) -> u32 {
+pub fn run(
+    mode: u32,
+    state: &mut [u8],
+    input: &[u8],
+    replies: &mut [u8],
+    report: &mut [u8],
+) -> u32 {
     if report.len() != 9 {
         return 14;
     }
     let chip = bytes::read(state, 0);
-    let stop = first_stop(chip::is_state(chip, state.len()), input.len());
+    let stop = first_stop(mode, chip::is_state(chip, state.len()), input.len());
     let mut r = begun(chip, stop);
     for _ in 0..input.len() / 4 + 1 {
-        r = next(r, input, replies);
+        r = next(r, mode, input, replies);
     }
     let after = r.chip;
     bytes::write(state, 0, after, 21);

@@ -10,13 +10,16 @@ use lib.ListN.{length, take, drop, getD, length-append, take-append-drop, drop-o
 use lib.Seq.{length-take-le, drop-cons, getD-append-add, take-at}
 use borrow.Author.Tests.{eq-eqb, ne-eqb, eqb-true, eqb-false}
 use Rattle.terms.specs.Limits.{stateBytes, longStateBytes}
+use Rattle.terms.specs.declared.Mode.the-variants.{Am9511A}
+use Rattle.terms.specs.Settings.{Settings}
+use Rattle.chip.specs.Step.{under}
 use Rattle.stack.specs.Stack.{Bytes}
 use Rattle.stack.proofs.Words.{bytes-append, bytes-take, byte-at}
 use Rattle.chip.specs.declared.State.{State}
 use Rattle.memory.specs.declared.Memory.{Memory}
-use Rattle.memory.specs.Memory.{Card, emptyMemory}
+use Rattle.memory.specs.Memory.{Card, cardWith, emptyMemory}
 use Rattle.memory.proofs.Good.{ReadyCard, memory-cases}
-use Rattle.stored.specs.Bytes.{isState, memoryIn, cardIn, flagOf, laidOut}
+use Rattle.stored.specs.Bytes.{isState, stateOf, memoryIn, cardIn, flagOf, laid, laidOut}
 use Rattle.stored.proofs.States.{state-stands, stands-state, state-sized, short-memory, long-memory, state-memory}
 
 -- ---- bytes, read and written back
@@ -61,8 +64,8 @@ pub laid-is : (n : ℕ) (c : Card) → laidOut n c ≡ c .chip .stack ++ behind 
 laid-is n c = append-assoc (c .chip .stack) (flagOf (c .chip .pending) ∷ c .chip .status ∷ flagOf (c .chip .service) ∷ []) (cond (eqb n stateBytes) [] (c .memory .bits ∷ c .memory .code ∷ []))
 
 -- the bytes of a state come back as they were
-pub card-returns : (l : List ℕ) → isState l ≡ true → laidOut (length l) (cardIn l) ≡ l
-card-returns l h = laid-is (length l) (cardIn l) ∙ ap (λ (t : List ℕ). take 16 l ++ t) ends ∙ take-append-drop 16 l
+pub card-returns : (on : Settings) (l : List ℕ) → isState l ≡ true → laidOut (length l) (cardIn on l) ≡ l
+card-returns on l h = laid-is (length l) (cardIn on l) ∙ ap (λ (t : List ℕ). take 16 l ++ t) ends ∙ take-append-drop 16 l
   where
     k : getD l 16 0 ≤ 1
     k = state-stands l h .chip .pending
@@ -70,14 +73,14 @@ card-returns l h = laid-is (length l) (cardIn l) ∙ ap (λ (t : List ℕ). take
     v : getD l 18 0 ≤ 1
     v = state-stands l h .chip .service
 
-    ends : behind (length l) (cardIn l) ≡ drop 16 l
+    ends : behind (length l) (cardIn on l) ≡ drop 16 l
     ends =
         ⊎-elim (λ a. rw (flag-back (getD l 16 0) k, flag-back (getD l 18 0) v, eq-eqb (length l) 19 a) (sym (short-end l a)))
         (λ b. rw (flag-back (getD l 16 0) k, flag-back (getD l 18 0) v, ne-eqb (length l) 19 (λ a. omega arith)) (sym (long-end l b))) (state-sized l h)
 
 -- and stand for a card that 13 does not turn away
-pub card-ready : (l : List ℕ) → Bytes l → isState l ≡ true → ReadyCard (cardIn l)
-card-ready l bytes h =
+pub card-ready : (on : Settings) (l : List ℕ) → Bytes l → isState l ≡ true → ReadyCard (cardIn on l)
+card-ready on l bytes h =
     let s = state-stands l h in
     record {
       chip = record { stack = record { sixteen = ⊎-elim (λ a. length-take-le 16 l (omega arith)) (λ b. length-take-le 16 l (omega arith)) (s .size); bytes = bytes-take 16 l bytes }; ready = s .chip .ready };
@@ -99,21 +102,22 @@ module _ (c : Card) (n : length (c .chip .stack) ≡ 16) where
       ∙ ⊎-elim (λ a. rw (eq-eqb size 19 a) (omega arith)) (λ b. rw (ne-eqb size 19 (λ a. omega arith)) (omega arith)) h
 
   -- the chip comes back, and the memory from 21 bytes
-  pub laid-chip : (size : ℕ) → cardIn (laidOut size c) .chip ≡ c .chip
+  pub laid-chip : (size : ℕ) → stateOf (laidOut size c) ≡ c .chip
   laid-chip size =
       rw (laid-at size 0, laid-at size 1, laid-at size 2, flag-read (c .chip .pending), flag-read (c .chip .service), laid-is size c)
       (ap (λ (s : List ℕ). record { stack = s; pending = c .chip .pending; status = c .chip .status; service = c .chip .service }) (take-at (c .chip .stack) (behind size c) 16 n))
 
-  pub card-short : cardIn (laidOut stateBytes c) ≡ record { chip = c .chip; memory = emptyMemory }
-  card-short = ap₂ (λ (s : State) (m : Memory). record { chip = s; memory = m }) (laid-chip 19) (short-memory (laidOut 19 c) (laid-length 19 (inl refl)))
+  pub card-short : cardIn (c .on) (laidOut stateBytes c) ≡ cardWith (c .on) (c .chip) emptyMemory
+  card-short = ap₂ (cardWith (c .on)) (laid-chip 19) (short-memory (laidOut 19 c) (laid-length 19 (inl refl)))
 
-  pub card-long : cardIn (laidOut longStateBytes c) ≡ c
+  pub card-long : cardIn (c .on) (laidOut longStateBytes c) ≡ c
   card-long =
-      ap₂ (λ (s : State) (m : Memory). record { chip = s; memory = m }) (laid-chip 21)
+      ap₂ (cardWith (c .on)) (laid-chip 21)
       (long-memory (laidOut 21 c) (laid-length 21 (inr refl)) ∙ ap₂ (λ (b k : ℕ). record { bits = b; code = k }) (laid-at 21 3) (laid-at 21 4))
 
-  pub long-back : (size : ℕ) → size ≡ longStateBytes → memoryIn (laidOut size c) ≡ c .memory
-  long-back size b = rw b (ap (λ (k : Card). k .memory) card-long)
+-- a memory, laid behind any chip
+pub long-back : (s : State) (m : Memory) → length (s .stack) ≡ 16 → (size : ℕ) → size ≡ longStateBytes → memoryIn (laid size s m) ≡ m
+long-back s m n size b = rw b (ap (λ (k : Card). k .memory) (card-long (cardWith (under Am9511A) s m) n))
 
 -- a card that 13 does not turn away
 module _ (c : Card) (r : ReadyCard c) where

@@ -9,10 +9,10 @@ use lib.ListN.{length, take, drop, set, getD, length-append, length-drop, take-a
 use borrow.Author.Tests.{eq-eqb, ne-eqb}
 use lib.Seq.{length-take-le, drop-cons, take-at, sets, sets-eq}
 use Rattle.little.specs.Little.{le4}
+use Rattle.chip.specs.declared.State.{State}
 use Rattle.chip.specs.Place.{held}
 use Rattle.memory.specs.declared.Memory.{Memory}
-use Rattle.memory.specs.Memory.{Card, cardWith}
-use Rattle.stored.specs.Bytes.{Sized, memoryIn, flagOf, stateBytesOf, memoryBytesOf, laidOut, reportOf}
+use Rattle.stored.specs.Bytes.{Sized, memoryIn, flagOf, stateBytesOf, memoryBytesOf, laid, reportOf}
 use Rattle.stored.proofs.States.{least}
 
 -- the bytes of a memory are those behind the chip's
@@ -27,7 +27,7 @@ as-it-stood l h = sym (take-append-drop 19 l) ∙ ap (λ (t : List ℕ). take 19
 
 -- three bytes behind the stack stored
 pub flags-laid : (l : List ℕ) (pending : Bool) (status : ℕ) (service : Bool) {p v : ℕ} → Sized l → p ≡ flagOf pending → v ≡ flagOf service
-    → sets l 16 (p ∷ status ∷ v ∷ []) ≡ laidOut (length l) (cardWith (held (take 16 l) pending status service) (memoryIn l))
+    → sets l 16 (p ∷ status ∷ v ∷ []) ≡ laid (length l) (held (take 16 l) pending status service) (memoryIn l)
 flags-laid l pending status service {p} {v} h ep ev =
     sets-eq (p ∷ status ∷ v ∷ []) l 16 (least l h)
     ∙ ap (λ (t : List ℕ). take 16 l ++ (p ∷ status ∷ v ∷ []) ++ t) (memory-behind l h)
@@ -43,15 +43,15 @@ pub none-laid : (l : List ℕ) (m : Memory) → length l ≡ 19 → l ≡ take 1
 none-laid l m h =
     sym (take-append-drop 19 l) ∙ rw (drop-of-length-le l {i = 19} (omega arith), eq-eqb (length l) 19 h)
 
--- a card laid out, then another memory behind its chip's bytes
-pub other-memory : (n : ℕ) (c : Card) (m : Memory) {l left : List ℕ} → length (c .chip .stack) ≡ 16 → l ≡ laidOut n c → length l ≡ n → left ≡ take 19 l ++ memoryBytesOf (length l) m
-    → left ≡ laidOut n (cardWith (c .chip) m)
-other-memory n c m {l} h is len e =
-    let k : length (stateBytesOf (c .chip)) ≡ 19 = length-append (c .chip .stack) (flagOf (c .chip .pending) ∷ c .chip .status ∷ flagOf (c .chip .service) ∷ []) ∙ omega arith in
+-- a chip and a memory laid out, then another memory behind the chip's bytes
+pub other-memory : (n : ℕ) (s : State) (k m : Memory) {l left : List ℕ} → length (s .stack) ≡ 16 → l ≡ laid n s k → length l ≡ n → left ≡ take 19 l ++ memoryBytesOf (length l) m
+    → left ≡ laid n s m
+other-memory n s k m {l} h is len e =
+    let x : length (stateBytesOf s) ≡ 19 = length-append (s .stack) (flagOf (s .pending) ∷ s .status ∷ flagOf (s .service) ∷ []) ∙ omega arith in
     e
     ∙ ap (λ (i : ℕ). take 19 l ++ memoryBytesOf i m) len
     ∙ ap (λ (t : List ℕ). take 19 t ++ memoryBytesOf n m) is
-    ∙ ap (λ (t : List ℕ). t ++ memoryBytesOf n m) (take-at (stateBytesOf (c .chip)) (memoryBytesOf n (c .memory)) 19 k)
+    ∙ ap (λ (t : List ℕ). t ++ memoryBytesOf n m) (take-at (stateBytesOf s) (memoryBytesOf n k) 19 x)
 
 -- four bytes from a place, written over
 abbrev pub over : ℕ → List ℕ → List ℕ → List ℕ

@@ -8,6 +8,7 @@ use lib.Dec.{eqb, ltb}
 use lib.ListN.{length, take, getD}
 use Rattle.little.specs.Little.{le4}
 use Rattle.terms.specs.Limits.{stackBytes, stateBytes, longStateBytes}
+use Rattle.terms.specs.Settings.{Settings}
 use Rattle.chip.specs.declared.State.{State}
 use Rattle.memory.specs.declared.Memory.{Memory}
 use Rattle.memory.specs.Memory.{Card, emptyMemory, isMemory}
@@ -39,8 +40,9 @@ stateOf l = record {
 abbrev pub memoryIn : List ℕ → Memory
 memoryIn l = cond (eqb (length l) stateBytes) emptyMemory (record { bits = getD l 19 0; code = getD l 20 0 })
 
-abbrev pub cardIn : List ℕ → Card
-cardIn l = record { chip = stateOf l; memory = memoryIn l }
+-- with the settings that the call was given
+abbrev pub cardIn : Settings → List ℕ → Card
+cardIn on l = record { on = on; chip = stateOf l; memory = memoryIn l }
 
 -- a flag as a byte
 abbrev pub flagOf : Bool → ℕ
@@ -54,9 +56,13 @@ stateBytesOf s = s .stack ++ (flagOf (s .pending) ∷ s .status ∷ flagOf (s .s
 abbrev pub memoryBytesOf : ℕ → Memory → List ℕ
 memoryBytesOf n m = cond (eqb n stateBytes) [] (m .bits ∷ m .code ∷ [])
 
--- the bytes of a card, of which so many were lent: "written back as 19 bytes, memory dropped"
+-- both, of which so many were lent: "written back as 19 bytes, memory dropped"
+abbrev pub laid : ℕ → State → Memory → List ℕ
+laid n s m = stateBytesOf s ++ memoryBytesOf n m
+
+-- those of a card; the settings are "not among the state's bytes"
 abbrev pub laidOut : ℕ → Card → List ℕ
-laidOut n c = stateBytesOf (c .chip) ++ cond (eqb n stateBytes) [] (c .memory .bits ∷ c .memory .code ∷ [])
+laidOut n c = laid n (c .chip) (c .memory)
 
 -- the report: refusal, bytes of whole records taken, bytes of replies written
 abbrev pub reportOf : ℕ → ℕ → ℕ → List ℕ

@@ -5,15 +5,16 @@ use memory::Memory;
 use memory::empty;
 use memory::is_memory;
 use memory::place::Rest;
+use terms::Mode;
 ghost use mathlib.Core.Path.{_≡_};
 ghost use mathlib.Core.List.{_++_};
 ghost use Prim.Native.Nat.{_≤_};
 ghost use lib.ListN.{length, take};
 ghost use Rattle.terms.specs.Limits.{stackBytes, stateBytes, reportBytes};
+ghost use Rattle.chip.specs.Step.{under};
 ghost use Rattle.chip.specs.Place.{held};
-ghost use Rattle.memory.specs.Memory.{cardWith};
 ghost use Rattle.memory.specs.Held.{cardAt};
-ghost use Rattle.stored.specs.Bytes.{Sized, isChip, isState, stateOf, memoryIn, cardIn, flagOf, memoryBytesOf, laidOut, reportOf};
+ghost use Rattle.stored.specs.Bytes.{Sized, isChip, isState, stateOf, memoryIn, cardIn, flagOf, memoryBytesOf, laid, laidOut, reportOf};
 
 // Whether the bytes behind the stack stand for a chip's: both flags 0 or 1, busy clear.
 fn is_chip(state: &[u8]) -> bool
@@ -74,14 +75,15 @@ pub fn memory_in(state: &[u8]) -> Memory
     }
 }
 
-// What stands beside the stack in a state's bytes.
-pub fn rest(state: &[u8]) -> Rest
+// What stands beside the stack in a state's bytes, and the mode.
+pub fn rest(mode: Mode, state: &[u8]) -> Rest
     requires { ⌜ Sized (now state) ⌝ }
-    ensures { λ r. ⌜ cardAt (take stackBytes (now (state .entry))) r ≡ cardIn (now (state .entry)) ⌝ }
+    ensures { λ r. ⌜ cardAt (take stackBytes (now (state .entry))) r ≡ cardIn (under mode) (now (state .entry)) ⌝ }
 {
     let m = memory_in(state);
     let f = flags(state);
     Rest {
+        mode,
         pending: f.pending,
         status: f.status,
         service: f.service,
@@ -100,7 +102,7 @@ fn flag(set: bool) -> u8
 // The chip's three bytes behind the stack; all others stay.
 pub fn put_flags(state: &mut [u8], pending: bool, status: u8, service: bool)
     requires { ⌜ Sized (now state) ⌝ }
-    ensures { λ _. ⌜ now (state .exit) ≡ laidOut (length (now (state .entry))) (cardWith (held (take stackBytes (now (state .entry))) pending status service) (memoryIn (now (state .entry)))) ⌝ }
+    ensures { λ _. ⌜ now (state .exit) ≡ laid (length (now (state .entry))) (held (take stackBytes (now (state .entry))) pending status service) (memoryIn (now (state .entry))) ⌝ }
 {
     state[16] = flag(pending);
     state[17] = status;

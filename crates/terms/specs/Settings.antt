@@ -1,7 +1,18 @@
 -- What is given with a call beside the state: whose reset, and the rule of a float result. Definitions only. Assumes nothing.
+use Prim.Native.Nat.{ℕ}
+use mathlib.Core.Bool.{Bool, cond}
+use lib.Dec.{eqb, leb}
 use Rattle.terms.specs.declared.Mode.{Mode}
+use Rattle.terms.specs.declared.Mode.the-variants.{Am9511A, Am9511}
 use Rattle.terms.specs.declared.Rule.{Rule}
 
 pub record Settings : Type 0 where
   pub mode : Mode
   pub rule : Rule
+
+-- 02, ask 6: "The mode is a number .. 0 for the Am9511A and 1 for the older part"; any other is no mode
+abbrev pub isMode : ℕ → Bool
+isMode n = leb n 1
+
+abbrev pub modeOf : ℕ → Mode
+modeOf n = cond (eqb n 0) Am9511A Am9511

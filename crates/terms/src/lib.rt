@@ -4,6 +4,7 @@ ghost use mathlib.Core.Path.{_≡_};
 ghost use Prim.Native.Nat.{_≤_};
 ghost use Rattle.terms.specs.Refusal.{numberOf};
 ghost use Rattle.terms.specs.Width.{sizeOf};
+ghost use Rattle.terms.specs.Settings.{isMode, modeOf};
 
 // The bytes of the stack.
 pub const STACK_BYTES: usize = 16;
@@ -52,6 +53,7 @@ pub enum Refusal {
     BadState,
     BadReport,
     MinusZero,
+    BadMode,
 }
 
 // A stack word has 16 bits or 32.
@@ -75,7 +77,7 @@ pub enum Mode {
 
 // The number that 01 or 02 gives a refusal.
 pub fn number(refusal: Refusal) -> u8
-    ensures { λ r. ⌜ (r ≡ numberOf refusal) × (r ≤ 15) ⌝ }
+    ensures { λ r. ⌜ (r ≡ numberOf refusal) × (r ≤ 16) ⌝ }
 {
     match refusal {
         Refusal::Done => 0,
@@ -94,7 +96,25 @@ pub fn number(refusal: Refusal) -> u8
         Refusal::BadState => 13,
         Refusal::BadReport => 14,
         Refusal::MinusZero => 15,
+        Refusal::BadMode => 16,
     }
+}
+
+// Whether a number is that of a mode.
+pub fn is_mode(number: u32) -> bool
+    ensures { λ r. ⌜ r ≡ isMode number ⌝ }
+{
+    number <= 1
+}
+
+// The mode of its number, 0 or 1.
+pub fn mode_of(number: u32) -> Mode
+    ensures { λ r. ⌜ r ≡ modeOf number ⌝ }
+{
+    if number == 0 {
+        return Mode::Am9511A;
+    }
+    Mode::Am9511
 }
 
 // The bytes of a word.

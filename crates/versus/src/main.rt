@@ -32,8 +32,8 @@ fn commanded(t: Tally, op: u32, p: Pair, i: u32) -> Tally {
     };
     let mut x = bytes::state(top, p.b, 0, 0, i);
     let mut y = x;
-    let told = pundaliket::pundaliket_event(&mut x, 3, code);
-    let second = second::calls::event(&mut y, 3, code);
+    let told = pundaliket::pundaliket_event(0, &mut x, 3, code);
+    let second = second::calls::event(0, &mut y, 3, code);
     tally::seen(t, i, told, second, &x, &y)
 }
 

@@ -6,7 +6,6 @@ use cases::tally::Tally;
 use cases::words;
 use chip::Answer;
 use chip::State;
-use terms::Mode;
 
 // The words of the grid: fixed point edges, float edges and improper words.
 pub const GRID: u32 = 24;
@@ -101,28 +100,29 @@ fn bytes_of(s: State) -> [u8; 19] {
     all
 }
 
-fn answer(s: State, kind: u32, byte: u8) -> Answer {
+fn answer(s: State, mode: u32, kind: u32, byte: u8) -> Answer {
     match kind {
         1 => s.push(byte),
         2 => s.pop(),
         3 => s.command(byte),
         4 => s.status(),
-        5 => s.reset(Mode::Am9511A),
+        5 => s.reset(terms::mode_of(mode)),
         _ => s.acknowledge(),
     }
 }
 
-// One event more: a command with every code in turn, and in the last part every event with a drawn byte.
+// One event more: a command with every code in turn, and in the last part every event with a drawn byte; both modes in turn.
 pub fn seen(t: Tally, part: u32, i: u32) -> Tally {
     let any = part == 11;
     let kind = if any { 1 + i % 6 } else { 3 };
     let code = if any { words::drawn(i) } else { i };
     let byte = (code % 256) as u8;
     let mut y = state_at(part, i);
-    let x = answer(state_of(y), kind, byte);
+    let mode = i / 6 % 2;
+    let x = answer(state_of(y), mode, kind, byte);
     let refusal = x.refusal;
     let after = x.state;
     let told = terms::number(refusal) as u32 * 256 + x.byte as u32;
-    let second = second::calls::event(&mut y, kind, byte);
+    let second = second::calls::event(mode, &mut y, kind, byte);
     tally::seen(t, i, told, second, &bytes_of(after), &y)
 }

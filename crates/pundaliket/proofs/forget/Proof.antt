@@ -10,7 +10,7 @@ put-memory-requires : tie.Need-put-memory-requires
 put-memory-requires c κs = state-sized (now (c .before .before .before .args .state)) (c .before .before .before .pre)
 
 returns : tie.Need-returns
-returns c = a-forget (now (c .before .before .before .before .before .before .before .args .state)) (c .before .before .before .before .before .before .before .pre) (c .before .before .before .before .empty .result) (c .before .before .before .before .empty .ensures) (c .joined .ensures) (c .before .before .before .put-memory .ensures)
+returns c = λ on. a-forget on (now (c .before .before .before .before .before .before .before .args .state)) (c .before .before .before .before .before .before .before .pre) (c .before .before .before .before .empty .result) (c .before .before .before .before .empty .ensures) (c .joined .ensures) (c .before .before .before .put-memory .ensures)
 
 pub forget-spec : {M : Type 1} → statement M
 forget-spec =

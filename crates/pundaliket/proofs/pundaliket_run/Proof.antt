@@ -1,8 +1,9 @@
 -- `pundaliket::pundaliket_run` meets its contract: at each return the tests that led there say which case of `callOf` holds. Assumes nothing.
 use denote.Ref.{now}
-use Rattle.terms.specs.declared.Refusal.the-variants.{BadState, InputTooLong}
+use borrow.Author.Tests.{leb-true, leb-false}
+use Rattle.terms.specs.declared.Refusal.the-variants.{BadState, InputTooLong, BadMode}
 use Rattle.stored.proofs.States.{state-sized}
-use Rattle.pundaliket.proofs.Calling.{failed, passed, turned-away, bad-report, bad-state, too-long, good}
+use Rattle.pundaliket.proofs.Calling.{failed, passed, turned-away, bad-report, bad-mode, bad-state, too-long, good}
 use borrow.Author.Needs.{needs}
 use Rattle.pundaliket.proofs.pundaliket_run.Statement.{statement}
 use Rattle.pundaliket.proofs.pundaliket_run.Tie as tie
@@ -10,41 +11,59 @@ use Rattle.pundaliket.proofs.pundaliket_run.Tie as tie
 returns : tie.Need-returns
 returns c =
     let a = c .before .before .before .before .before .before .args in
-    bad-report (now (a .state)) (now (a .input)) (now (a .replies)) (now (a .report)) (c .before .if1 .taken) (c .number .result) (c .number .ensures .0)
+    bad-report (a .mode) (now (a .state)) (now (a .input)) (now (a .replies)) (now (a .report)) (c .before .if1 .taken) (c .number .result) (c .number .ensures .0)
 
 returns-2 : tie.Need-returns-2
 returns-2 c =
-    let a = c .before .before .before .before .before .before .before .before .before .before .before .before .args in
+    let a = c .before .before .before .before .before .before .before .before .before .before .before .args in
     let t = c .before .before .turn-away in
-    let h = failed (c .before .before .before .before .before .is-state .result) _ (c .before .before .before .before .before .is-state .ensures) (c .before .before .before .before .if2 .taken) in
-    rw (bad-state (now (a .state)) (now (a .input)) (now (a .replies)) (now (a .report)) (c .before .before .before .before .before .before .before .if1 .left) h)
-    (turned-away BadState (t .result) (now (a .state)) (now (a .replies)) (t .last .0) (t .ensures .0) (t .ensures .1))
+    let m = c .before .before .before .before .before .is-mode in
+    rw (bad-mode (a .mode) (now (a .state)) (now (a .input)) (now (a .replies)) (now (a .report)) (c .before .before .before .before .before .before .if1 .left) (leb-false (a .mode) 1 (failed (m .result) _ (m .ensures) (c .before .before .before .before .if2 .taken))))
+    (turned-away BadMode (t .result) (now (a .state)) (now (a .replies)) (t .last .0) (t .ensures .0) (t .ensures .1))
 
 returns-3 : tie.Need-returns-3
 returns-3 c =
-    let a = c .before .before .before .before .before .before .before .before .before .before .before .before .before .args in
+    let a = c .before .before .before .before .before .before .before .before .before .before .before .before .before .before .args in
     let t = c .before .before .turn-away2 in
-    let h = passed (c .before .before .before .before .before .before .is-state .result) _ (c .before .before .before .before .before .before .is-state .ensures) (c .before .before .before .before .before .if2 .left) in
-    rw (too-long (now (a .state)) (now (a .input)) (now (a .replies)) (now (a .report)) (c .before .before .before .before .before .before .before .before .if1 .left) h (c .before .before .before .before .if3 .taken))
-    (turned-away InputTooLong (t .result) (now (a .state)) (now (a .replies)) (t .last .0) (t .ensures .0) (t .ensures .1))
-
-run-good-requires : tie.Need-run-good-requires
-run-good-requires c κs = (state-sized (now (c .before .before .before .before .before .before .before .before .before .before .before .before .before .args .state)) (passed (c .before .before .before .before .before .before .is-state .result) _ (c .before .before .before .before .before .before .is-state .ensures) (c .before .before .before .before .before .if2 .left)), c .before .before .before .before .before .before .before .before .if1 .left)
+    let s = c .before .before .before .before .before .is-state in
+    let m = c .before .before .before .before .before .before .before .before .is-mode in
+    rw (bad-state (a .mode) (now (a .state)) (now (a .input)) (now (a .replies)) (now (a .report)) (c .before .before .before .before .before .before .before .before .before .if1 .left) (leb-true (a .mode) 1 (passed (m .result) _ (m .ensures) (c .before .before .before .before .before .before .before .if2 .left))) (failed (s .result) _ (s .ensures) (c .before .before .before .before .if3 .taken)))
+    (turned-away BadState (t .result) (now (a .state)) (now (a .replies)) (t .last .0) (t .ensures .0) (t .ensures .1))
 
 returns-4 : tie.Need-returns-4
 returns-4 c =
-    let a = c .before .before .before .before .before .before .before .before .before .before .before .before .before .before .before .before .before .before .before .before .args in
-    let h = passed (c .before .before .before .before .before .before .before .before .before .before .before .before .before .is-state .result) _ (c .before .before .before .before .before .before .before .before .before .before .before .before .before .is-state .ensures) (c .before .before .before .before .before .before .before .before .before .before .before .before .if2 .left) in
-    rw (good (now (a .state)) (now (a .input)) (now (a .replies)) (now (a .report)) (c .before .before .before .before .before .before .before .before .before .before .before .before .before .before .before .if1 .left) h (c .before .before .before .before .before .before .before .before .before .before .before .if3 .left)) (c .before .before .before .before .before .before .run-good .ensures)
+    let a = c .before .before .before .before .before .before .before .before .before .before .before .before .before .before .before .args in
+    let t = c .before .before .turn-away3 in
+    let s = c .before .before .before .before .before .before .is-state in
+    let m = c .before .before .before .before .before .before .before .before .before .is-mode in
+    rw (too-long (a .mode) (now (a .state)) (now (a .input)) (now (a .replies)) (now (a .report)) (c .before .before .before .before .before .before .before .before .before .before .if1 .left) (leb-true (a .mode) 1 (passed (m .result) _ (m .ensures) (c .before .before .before .before .before .before .before .before .if2 .left))) (passed (s .result) _ (s .ensures) (c .before .before .before .before .before .if3 .left)) (c .before .before .before .before .if4 .taken))
+    (turned-away InputTooLong (t .result) (now (a .state)) (now (a .replies)) (t .last .0) (t .ensures .0) (t .ensures .1))
 
-run-good-requires-2 : tie.Need-run-good-requires-2
-run-good-requires-2 c κs = (state-sized (now (c .before .before .before .before .before .before .before .before .before .before .before .before .before .args .state)) (passed (c .before .before .before .before .before .before .is-state .result) _ (c .before .before .before .before .before .before .is-state .ensures) (c .before .before .before .before .before .if2 .left)), c .before .before .before .before .before .before .before .before .if1 .left)
+run-good-requires : tie.Need-run-good-requires
+run-good-requires c κs =
+    let s = c .before .before .before .before .before .before .before .is-state in
+    (state-sized (now (c .before .before .before .before .before .before .before .before .before .before .before .before .before .before .before .before .args .state)) (passed (s .result) _ (s .ensures) (c .before .before .before .before .before .before .if3 .left)), c .before .before .before .before .before .before .before .before .before .before .before .if1 .left)
 
 returns-5 : tie.Need-returns-5
 returns-5 c =
-    let a = c .before .before .before .before .before .before .before .before .before .before .before .before .before .before .before .before .before .before .before .before .args in
-    let h = passed (c .before .before .before .before .before .before .before .before .before .before .before .before .before .is-state .result) _ (c .before .before .before .before .before .before .before .before .before .before .before .before .before .is-state .ensures) (c .before .before .before .before .before .before .before .before .before .before .before .before .if2 .left) in
-    rw (good (now (a .state)) (now (a .input)) (now (a .replies)) (now (a .report)) (c .before .before .before .before .before .before .before .before .before .before .before .before .before .before .before .if1 .left) h (c .before .before .before .before .before .before .before .before .before .before .before .if3 .left)) (c .before .before .before .before .before .before .run-good2 .ensures)
+    let a = c .before .before .before .before .before .before .before .before .before .before .before .before .before .before .before .before .before .before .before .before .before .before .before .args in
+    let s = c .before .before .before .before .before .before .before .before .before .before .before .before .before .before .is-state in
+    let m = c .before .before .before .before .before .before .before .before .before .before .before .before .before .before .before .before .before .is-mode in
+    rw (good (a .mode) (now (a .state)) (now (a .input)) (now (a .replies)) (now (a .report)) (c .before .before .before .before .before .before .before .before .before .before .before .before .before .before .before .before .before .before .if1 .left) (leb-true (a .mode) 1 (passed (m .result) _ (m .ensures) (c .before .before .before .before .before .before .before .before .before .before .before .before .before .before .before .before .if2 .left))) (passed (s .result) _ (s .ensures) (c .before .before .before .before .before .before .before .before .before .before .before .before .before .if3 .left)) (c .before .before .before .before .before .before .before .before .before .before .before .before .if4 .left), ← c .before .before .before .before .before .before .before .before .before .before .before .mode-of .ensures)
+    (c .before .before .before .before .before .before .run-good .ensures)
+
+run-good-requires-2 : tie.Need-run-good-requires-2
+run-good-requires-2 c κs =
+    let s = c .before .before .before .before .before .before .before .is-state in
+    (state-sized (now (c .before .before .before .before .before .before .before .before .before .before .before .before .before .before .before .before .args .state)) (passed (s .result) _ (s .ensures) (c .before .before .before .before .before .before .if3 .left)), c .before .before .before .before .before .before .before .before .before .before .before .if1 .left)
+
+returns-6 : tie.Need-returns-6
+returns-6 c =
+    let a = c .before .before .before .before .before .before .before .before .before .before .before .before .before .before .before .before .before .before .before .before .before .before .before .args in
+    let s = c .before .before .before .before .before .before .before .before .before .before .before .before .before .before .is-state in
+    let m = c .before .before .before .before .before .before .before .before .before .before .before .before .before .before .before .before .before .is-mode in
+    rw (good (a .mode) (now (a .state)) (now (a .input)) (now (a .replies)) (now (a .report)) (c .before .before .before .before .before .before .before .before .before .before .before .before .before .before .before .before .before .before .if1 .left) (leb-true (a .mode) 1 (passed (m .result) _ (m .ensures) (c .before .before .before .before .before .before .before .before .before .before .before .before .before .before .before .before .if2 .left))) (passed (s .result) _ (s .ensures) (c .before .before .before .before .before .before .before .before .before .before .before .before .before .if3 .left)) (c .before .before .before .before .before .before .before .before .before .before .before .before .if4 .left), ← c .before .before .before .before .before .before .before .before .before .before .before .mode-of .ensures)
+    (c .before .before .before .before .before .before .run-good2 .ensures)
 
 pub pundaliket-run-spec : {M : Type 1} → statement M
 pundaliket-run-spec =
@@ -56,19 +75,24 @@ pundaliket-run-spec =
     (λ c κs. search needs)
     (λ c κs. search needs)
     (λ c. search needs)
-    (λ c. search needs)
     returns-2
+    (λ c κs. search needs)
     (λ c κs. search needs)
     (λ c. search needs)
     (λ c. search needs)
     returns-3
+    (λ c κs. search needs)
+    (λ c. search needs)
+    (λ c. search needs)
+    returns-4
+    (λ c κs. search needs)
     run-good-requires
     (λ c. search needs)
     (λ c. search needs)
     (λ c. search needs)
-    returns-4
+    returns-5
     run-good-requires-2
     (λ c. search needs)
     (λ c. search needs)
     (λ c. search needs)
-    returns-5)
+    returns-6)

@@ -10,7 +10,7 @@ memory-in-requires : tie.Need-memory-in-requires
 memory-in-requires c κs = state-sized (now (c .before .args .state)) (c .before .pre)
 
 returns : tie.Need-returns
-returns c = a-recall (now (c .before .before .before .args .state)) (c .before .before .before .pre) (c .before .memory-in .result) (c .before .memory-in .ensures) (c .joined .ensures)
+returns c = λ on. a-recall on (now (c .before .before .before .args .state)) (c .before .before .before .pre) (c .before .memory-in .result) (c .before .memory-in .ensures) (c .joined .ensures)
 
 pub recall-spec : {M : Type 1} → statement M
 recall-spec =

@@ -4,7 +4,6 @@ use lib.ListN.{length, take}
 use lib.Seq.{length-take-le}
 use denote.Ref.{now}
 use Rattle.chip.specs.Place.{held}
-use Rattle.memory.specs.Memory.{cardWith}
 use Rattle.stored.specs.Bytes.{memoryIn}
 use Rattle.stored.proofs.Laid.{other-memory}
 use Rattle.stored.proofs.States.{least, sized-as}
@@ -23,7 +22,7 @@ returns c =
     let l = now (s .args .state) in
     let f = s .args .f in
     let p = c .before .before .before .before .before .before .put-flags in
-    other-memory (length l) (cardWith (held (take 16 l) (f .pending) (f .status) (f .service)) (memoryIn l)) (record { bits = f .bits; code = f .code })
+    other-memory (length l) (held (take 16 l) (f .pending) (f .status) (f .service)) (memoryIn l) (record { bits = f .bits; code = f .code })
     (length-take-le 16 l (omega (arith, least l (s .pre)))) (p .ensures) (c .before .before .before .before .before .state .given) (c .before .before .put-memory .ensures)
 
 pub put-rest-spec : {M : Type 1} → statement M

@@ -4,8 +4,9 @@ use Prim.Native.Nat.{_-_}
 use native.Mathlib.Omega.{arith}
 use lib.ListN.{length, drop, length-drop}
 use denote.Ref.{now}
+use Rattle.chip.specs.Step.{under}
 use Rattle.memory.specs.Memory.{Card}
-use Rattle.memory.specs.Held.{cardOf, cardAt}
+use Rattle.memory.specs.Held.{cardOf, settingsAt, cardAt}
 use Rattle.files.proofs.Running.{Going, starts, goes-on, stops, ends, all-length}
 use Rattle.records.specs.Record.{turnOf}
 use Rattle.records.specs.Pass.{Passed}
@@ -16,22 +17,22 @@ use Rattle.records.proofs.run.run_all.Statement.{statement}
 use Rattle.records.proofs.run.run_all.Tie as tie
 
 abbrev Inv-loop : tie.InvT-loop
-Inv-loop stack₀ input replies₀ pending₀ status₀ service₀ bits₀ code₀ at₀ w₀ stack replies pending status service bits code at w =
-    (length stack ≡ 16) × Going turnOf (cardOf stack₀ pending₀ status₀ service₀ bits₀ code₀) input replies₀ (cardOf stack pending status service bits code) at w replies
+Inv-loop stack₀ input replies₀ mode pending₀ status₀ service₀ bits₀ code₀ at₀ w₀ stack replies pending status service bits code at w =
+    (length stack ≡ 16) × Going turnOf (cardOf (under mode) stack₀ pending₀ status₀ service₀ bits₀ code₀) input replies₀ (cardOf (under mode) stack pending status service bits code) at w replies
 
 abbrev μ-loop : tie.MeasureT-loop
-μ-loop stack₀ input replies₀ pending₀ status₀ service₀ bits₀ code₀ at₀ w₀ stack replies pending status service bits code at w = length input - at
+μ-loop stack₀ input replies₀ mode pending₀ status₀ service₀ bits₀ code₀ at₀ w₀ stack replies pending status service bits code at w = length input - at
 
 abbrev Turn : Type 0
 Turn = tie.After-pass-record Inv-loop μ-loop
 
 -- the state that the loop stands at
 abbrev now-at : Turn → Card
-now-at c = let l = c .before .before .before .before .before .loop in cardOf (l .stack) (l .pending) (l .status) (l .service) (l .bits) (l .code)
+now-at c = let l = c .before .before .before .before .before .loop in cardOf (settingsAt (c .before .before .before .before .before .before .before .before .before .args .f)) (l .stack) (l .pending) (l .status) (l .service) (l .bits) (l .code)
 
 -- the turn of the code, of what is left of the file and of the room
 turn : (c : Turn) → let l = c .before .before .before .before .before in let input = now (l .before .before .before .before .args .input) in
-    Passed (turnOf (now-at c) (drop (l .loop .at) input) (length (drop (l .loop .w) (l .loop .replies))))
+    Passed (l .before .before .before .before .args .f) (turnOf (now-at c) (drop (l .loop .at) input) (length (drop (l .loop .w) (l .loop .replies))))
     (c .pass-record .result) (c .pass-record .last .0)
     (drop (l .loop .at) input) (drop (l .loop .w) (l .loop .replies)) (c .pass-record .last .1 .1 .1 .0)
 turn c =
@@ -49,7 +50,7 @@ same-length-2 c =
     let r = k .pass-record .result in
     let left = k .pass-record .last .1 .1 .1 .0 in
     ap length (back (l .replies) (l .w) left)
-    ∙ all-length lawful (cardAt (now (a .stack)) (a .f)) (now (a .input)) (now (a .replies)) (now-at k) (l .at) (l .w) (l .replies) (l .inv .1) (c .before .before .before .before .before .before .before .before .before .loop-test .taken) (r .refusal) (cardOf (k .pass-record .last .0) (r .pending) (r .status) (r .service) (r .bits) (r .code)) (r .size) (r .reply) left (turn k) ∙ l .inv .1 .same
+    ∙ all-length lawful (cardAt (now (a .stack)) (a .f)) (now (a .input)) (now (a .replies)) (now-at k) (l .at) (l .w) (l .replies) (l .inv .1) (c .before .before .before .before .before .before .before .before .before .loop-test .taken) (r .refusal) (cardOf (settingsAt (a .f)) (k .pass-record .last .0) (r .pending) (r .status) (r .service) (r .bits) (r .code)) (r .size) (r .reply) left (turn k) ∙ l .inv .1 .same
 
 returns : tie.Need-returns Inv-loop μ-loop
 returns c =
@@ -59,7 +60,7 @@ returns c =
     let r = k .pass-record .result in
     let left = k .pass-record .last .1 .1 .1 .0 in
     rw (back (l .replies) (l .w) left)
-    (stops lawful (cardAt (now (a .stack)) (a .f)) (now (a .input)) (now (a .replies)) (now-at k) (l .at) (l .w) (l .replies) (l .inv .1) (c .before .before .before .before .before .before .before .before .before .loop-test .taken) (r .refusal) (cardOf (k .pass-record .last .0) (r .pending) (r .status) (r .service) (r .bits) (r .code)) (r .size) (r .reply) left (turn k) (c .if1 .taken))
+    (stops lawful (cardAt (now (a .stack)) (a .f)) (now (a .input)) (now (a .replies)) (now-at k) (l .at) (l .w) (l .replies) (l .inv .1) (c .before .before .before .before .before .before .before .before .before .loop-test .taken) (r .refusal) (cardOf (settingsAt (a .f)) (k .pass-record .last .0) (r .pending) (r .status) (r .service) (r .bits) (r .code)) (r .size) (r .reply) left (turn k) (c .if1 .taken))
 
 add-at : tie.Need-add-at Inv-loop μ-loop
 add-at c = let t = turn (c .before .before .before .before .before .before) in let g = c .before .before .before .before .before .before .before .before .before .before .before .loop .inv .1 in omega (arith, t .within, length-drop (c .before .before .before .before .before .before .before .before .before .before .before .loop .at) (now (c .before .before .before .before .before .before .before .before .before .before .before .before .before .before .before .args .input)), g .at-most)
@@ -79,7 +80,7 @@ loop-again c =
     let left = k .pass-record .last .1 .1 .1 .0 in (
       search needs,
       rw (back (l .replies) (l .w) left)
-          (goes-on lawful (cardAt (now (a .stack)) (a .f)) (now (a .input)) (now (a .replies)) (now-at k) (l .at) (l .w) (l .replies) (l .inv .1) (c .before .before .before .before .before .before .before .before .before .before .before .loop-test .taken) (r .refusal) (cardOf (k .pass-record .last .0) (r .pending) (r .status) (r .service) (r .bits) (r .code)) (r .size) (r .reply) left (turn k) (c .before .before .if1 .left)),
+          (goes-on lawful (cardAt (now (a .stack)) (a .f)) (now (a .input)) (now (a .replies)) (now-at k) (l .at) (l .w) (l .replies) (l .inv .1) (c .before .before .before .before .before .before .before .before .before .before .before .loop-test .taken) (r .refusal) (cardOf (settingsAt (a .f)) (k .pass-record .last .0) (r .pending) (r .status) (r .service) (r .bits) (r .code)) (r .size) (r .reply) left (turn k) (c .before .before .if1 .left)),
     )
 
 same-length-4 : tie.Need-same-length-4 Inv-loop μ-loop
@@ -89,7 +90,7 @@ returns-2 : tie.Need-returns-2 Inv-loop μ-loop
 returns-2 c =
     let l = c .before .loop in
     let a = c .before .before .before .before .before .args in
-    ends lawful (cardAt (now (a .stack)) (a .f)) (now (a .input)) (now (a .replies)) (cardOf (l .stack) (l .pending) (l .status) (l .service) (l .bits) (l .code)) (l .at) (l .w) (l .replies) (l .inv .1) (c .loop-test .left)
+    ends lawful (cardAt (now (a .stack)) (a .f)) (now (a .input)) (now (a .replies)) (cardOf (settingsAt (a .f)) (l .stack) (l .pending) (l .status) (l .service) (l .bits) (l .code)) (l .at) (l .w) (l .replies) (l .inv .1) (c .loop-test .left)
 
 pub run-all-spec : {M : Type 1} → statement M
 run-all-spec =

@@ -7,7 +7,7 @@ use Rattle.chip.specs.Step.{done}
 use Rattle.chip.specs.Place.{held}
 use Rattle.chip.proofs.InPlace.{acknowledged-one}
 use Rattle.memory.specs.Memory.{answerWith}
-use Rattle.memory.specs.Held.{cardAt}
+use Rattle.memory.specs.Held.{settingsAt, cardAt}
 use Rattle.records.specs.declared.head.Event.the-variants.{Acknowledge}
 use Rattle.records.proofs.Turning.{memoryAt, no-room, away, took}
 use borrow.Author.Needs.{needs}
@@ -23,8 +23,8 @@ returns-2 c = λ stack file there. away stack (c .before .before .before .before
 returns-3 : tie.Need-returns-3
 returns-3 c =
     let f = c .before .before .before .before .before .before .before .before .args .f in
-    λ stack file there. took (cardAt stack f) Acknowledge (answerWith (memoryAt f) AcknowledgeEvent (done 0 (held stack (f .pending) (f .status) false))) file (now (c .before .before .before .before .before .before .before .before .args .room))
-    (ap (answerWith (memoryAt f) AcknowledgeEvent) (acknowledged-one stack (f .pending) (f .status) (f .service) (c .before .before .before .before .if2 .left)))
+    λ stack file there. took (cardAt stack f) Acknowledge (answerWith (settingsAt f) (memoryAt f) AcknowledgeEvent (done 0 (held stack (f .pending) (f .status) false))) file (now (c .before .before .before .before .before .before .before .before .args .room))
+    (ap (answerWith (settingsAt f) (memoryAt f) AcknowledgeEvent) (acknowledged-one stack (f .pending) (f .status) (f .service) (c .before .before .before .before .if2 .left)))
     refl refl refl (c .before .before .open-reply .ensures) there (c .before .before .before .before .before .before .if1 .left)
 
 pub pass-acknowledge-spec : {M : Type 1} → statement M

@@ -8,7 +8,7 @@ use Rattle.chip.specs.Step.{done, refused}
 use Rattle.chip.specs.Place.{held, refusalOf, obeyedAs}
 use Rattle.chip.proofs.InPlace.{as-done, as-refused, number-of, done-as, refused-as}
 use Rattle.memory.specs.Memory.{cardWith, answerWith}
-use Rattle.memory.specs.Held.{cardAt}
+use Rattle.memory.specs.Held.{settingsAt, cardAt}
 use Rattle.records.specs.declared.head.Event.the-variants.{Command}
 use Rattle.records.proofs.Turning.{memoryAt, no-room, away, took, refused-stays, none-left}
 use borrow.Author.Needs.{needs}
@@ -34,9 +34,9 @@ returns-3 c =
     let r = refusalOf (n / 256) in
     let after = held (k .last .0) (a .f .pending) (a .f .status) (a .f .service) in
     let e = number-of (n / 256) (omega (arith, h)) (omega (arith, k .ensures .1)) in
-    λ file there. took (cardAt (now (a .stack)) (a .f)) (Command (a .code)) (answerWith (memoryAt (a .f)) (CommandEvent (a .code)) (refused r after)) file (now (a .room))
-    (ap (answerWith (memoryAt (a .f)) (CommandEvent (a .code))) (refused-as (now (a .stack)) (k .last .0) (a .f .pending) (a .f .status) (a .f .service) (a .code) (obeyedAs n) (c .before .before .before .before .before .before .before .before .before .if2 .left) (k .ensures .0) r (as-refused n h)))
-    (refused-stays (memoryAt (a .f)) (a .code) r after (omega (arith, e, h)))
+    λ file there. took (cardAt (now (a .stack)) (a .f)) (Command (a .code)) (answerWith (settingsAt (a .f)) (memoryAt (a .f)) (CommandEvent (a .code)) (refused r after)) file (now (a .room))
+    (ap (answerWith (settingsAt (a .f)) (memoryAt (a .f)) (CommandEvent (a .code))) (refused-as (now (a .stack)) (k .last .0) (a .f .pending) (a .f .status) (a .f .service) (a .code) (obeyedAs n) (c .before .before .before .before .before .before .before .before .before .if2 .left) (k .ensures .0) r (as-refused n h)))
+    (refused-stays (settingsAt (a .f)) (memoryAt (a .f)) (a .code) r after (omega (arith, e, h)))
     e refl (c .before .before .open-reply .ensures) there (c .before .before .before .before .before .before .before .before .before .before .before .if1 .left)
 
 returns-4 : tie.Need-returns-4
@@ -45,9 +45,9 @@ returns-4 c =
     let k = c .before .before .before .before .before .before .before .before .before .command in
     let n = k .result in
     let after = held (k .last .0) (a .f .pending) n (c .service .result) in
-    λ file there. took (cardAt (now (a .stack)) (a .f)) (Command (a .code)) (answerWith (memoryAt (a .f)) (CommandEvent (a .code)) (done 0 after)) file (now (a .room))
-    (ap (answerWith (memoryAt (a .f)) (CommandEvent (a .code))) (done-as (now (a .stack)) (k .last .0) (a .f .pending) (a .f .status) (a .f .service) (a .code) (obeyedAs n) (c .before .before .before .before .before .before .before .before .before .before .before .if2 .left) (k .ensures .0) n (as-done n (omega (arith, c .before .before .before .before .before .before .if3 .left))) (c .service .ensures)))
-    (ap (cardWith after) (none-left (memoryAt (a .f)) (a .code) n (c .before .if4 .taken)))
+    λ file there. took (cardAt (now (a .stack)) (a .f)) (Command (a .code)) (answerWith (settingsAt (a .f)) (memoryAt (a .f)) (CommandEvent (a .code)) (done 0 after)) file (now (a .room))
+    (ap (answerWith (settingsAt (a .f)) (memoryAt (a .f)) (CommandEvent (a .code))) (done-as (now (a .stack)) (k .last .0) (a .f .pending) (a .f .status) (a .f .service) (a .code) (obeyedAs n) (c .before .before .before .before .before .before .before .before .before .before .before .if2 .left) (k .ensures .0) n (as-done n (omega (arith, c .before .before .before .before .before .before .if3 .left))) (c .service .ensures)))
+    (ap (cardWith (settingsAt (a .f)) after) (none-left (memoryAt (a .f)) (a .code) n (c .before .if4 .taken)))
     refl refl (c .before .before .before .before .open-reply2 .ensures) there (c .before .before .before .before .before .before .before .before .before .before .before .before .before .if1 .left)
 
 returns-5 : tie.Need-returns-5
@@ -56,9 +56,9 @@ returns-5 c =
     let k = c .before .before .before .before .before .before .before .before .before .before .command in
     let n = k .result in
     let after = held (k .last .0) (a .f .pending) n (c .service2 .result) in
-    λ file there. took (cardAt (now (a .stack)) (a .f)) (Command (a .code)) (answerWith (memoryAt (a .f)) (CommandEvent (a .code)) (done 0 after)) file (now (a .room))
-    (ap (answerWith (memoryAt (a .f)) (CommandEvent (a .code))) (done-as (now (a .stack)) (k .last .0) (a .f .pending) (a .f .status) (a .f .service) (a .code) (obeyedAs n) (c .before .before .before .before .before .before .before .before .before .before .before .before .if2 .left) (k .ensures .0) n (as-done n (omega (arith, c .before .before .before .before .before .before .before .if3 .left))) (c .service2 .ensures)))
-    (ap (cardWith after) (c .before .remember .ensures))
+    λ file there. took (cardAt (now (a .stack)) (a .f)) (Command (a .code)) (answerWith (settingsAt (a .f)) (memoryAt (a .f)) (CommandEvent (a .code)) (done 0 after)) file (now (a .room))
+    (ap (answerWith (settingsAt (a .f)) (memoryAt (a .f)) (CommandEvent (a .code))) (done-as (now (a .stack)) (k .last .0) (a .f .pending) (a .f .status) (a .f .service) (a .code) (obeyedAs n) (c .before .before .before .before .before .before .before .before .before .before .before .before .if2 .left) (k .ensures .0) n (as-done n (omega (arith, c .before .before .before .before .before .before .before .if3 .left))) (c .service2 .ensures)))
+    (ap (cardWith (settingsAt (a .f)) after) (c .before .remember .ensures))
     refl refl (c .before .before .before .before .before .open-reply2 .ensures) there (c .before .before .before .before .before .before .before .before .before .before .before .before .before .before .if1 .left)
 
 pub pass-command-spec : {M : Type 1} → statement M

@@ -9,7 +9,7 @@ use Rattle.stack.specs.Stack.{handedOut}
 use Rattle.chip.specs.Step.{done}
 use Rattle.chip.specs.Place.{held}
 use Rattle.memory.specs.Memory.{around}
-use Rattle.memory.specs.Held.{cardAt}
+use Rattle.memory.specs.Held.{settingsAt, cardAt}
 use Rattle.records.specs.declared.head.Event.the-variants.{Pop}
 use Rattle.records.specs.Record.{le2}
 use Rattle.records.proofs.Blocks.{popped-block}
@@ -37,7 +37,7 @@ returns-3 c =
     let p = c .before .before .before .before .before .before .before .before .pop in
     let left = p .last .1 .1 .1 .0 in
     let b = popped-block (k .chip) (c .before .before .before .before .before .before .before .before .before .before .before .if2 .left) (a .n) (p .last .0) (drop 5 room) left (p .result) (c .before .before .before .before .before .before .before .before .before .before .before .before .before .before .before .before .pre .1) (p .ensures .0) (p .ensures .1) (p .ensures .2 ∙ ap (λ (l : List ℕ). handedOut (a .n) (now (a .stack)) ++ drop (a .n) l) (all-rest room 5)) in
-    λ file there. took k (Pop (a .n)) (around (memoryAt (a .f)) (done (getD left (a .n - 1) 0) (held (p .last .0) (p .result) (a .f .status) (a .f .service)))) file room (ap (around (memoryAt (a .f))) (b .0)) refl refl (b .1)
+    λ file there. took k (Pop (a .n)) (around (settingsAt (a .f)) (memoryAt (a .f)) (done (getD left (a .n - 1) 0) (held (p .last .0) (p .result) (a .f .status) (a .f .service)))) file room (ap (around (settingsAt (a .f)) (memoryAt (a .f))) (b .0)) refl refl (b .1)
     (c .before .before .open-reply .ensures ∙ ap (λ (l : List ℕ). le2 (3 + a .n) ++ (le2 130 ++ (0 ∷ l))) (ap (drop 5) (back room 5 left) ∙ behind room left (omega (arith, c .before .before .before .before .before .before .before .before .before .before .before .before .before .if1 .left))))
     there (c .before .before .before .before .before .before .before .before .before .before .before .before .before .if1 .left)
 

@@ -9,7 +9,7 @@ use Rattle.stack.specs.Stack.{pushedAll}
 use Rattle.chip.specs.Step.{done}
 use Rattle.chip.specs.Place.{held, flipped}
 use Rattle.memory.specs.Memory.{around}
-use Rattle.memory.specs.Held.{cardAt}
+use Rattle.memory.specs.Held.{settingsAt, cardAt}
 use Rattle.records.specs.declared.head.Event.the-variants.{Push}
 use Rattle.records.proofs.Blocks.{pushed-block}
 use Rattle.records.proofs.Turning.{memoryAt, no-room, away, took}
@@ -34,8 +34,8 @@ returns-3 c =
     let p = c .before .before .before .before .before .before .push in
     let payload = take (a .n) (drop 4 (now (a .rest))) in
     let t : take (4 + a .n - 4) (drop 4 (now (a .rest))) ≡ payload = ap (λ (m : ℕ). take m (drop 4 (now (a .rest)))) (add-sub-cancel-left 4 (a .n)) in
-    took k (Push (a .n)) (around (memoryAt (a .f)) (done 0 (held (p .last .0) (p .result) (a .f .status) (a .f .service)))) (now (a .rest)) (now (a .room))
-    (ap (around (memoryAt (a .f))) (pushed-block (k .chip) (c .before .before .before .before .before .before .before .before .before .if2 .left) payload (p .last .0) (p .result) (p .ensures .0 ∙ ap (λ (l : List ℕ). flipped (length l) (a .f .pending)) t) (p .ensures .1 ∙ ap (pushedAll (now (a .stack))) t)))
+    took k (Push (a .n)) (around (settingsAt (a .f)) (memoryAt (a .f)) (done 0 (held (p .last .0) (p .result) (a .f .status) (a .f .service)))) (now (a .rest)) (now (a .room))
+    (ap (around (settingsAt (a .f)) (memoryAt (a .f))) (pushed-block (k .chip) (c .before .before .before .before .before .before .before .before .before .if2 .left) payload (p .last .0) (p .result) (p .ensures .0 ∙ ap (λ (l : List ℕ). flipped (length l) (a .f .pending)) t) (p .ensures .1 ∙ ap (pushedAll (now (a .stack))) t)))
     refl refl refl (c .before .before .open-reply .ensures) (c .before .before .before .before .before .before .before .before .before .before .before .before .before .before .before .pre .3) (c .before .before .before .before .before .before .before .before .before .before .before .if1 .left)
 
 pub pass-push-spec : {M : Type 1} → statement M

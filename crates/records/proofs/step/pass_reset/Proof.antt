@@ -1,13 +1,12 @@
 -- `records::step::pass_reset` meets its contract: no room, a busy state, or the state of a reset. Assumes nothing.
 use mathlib.Core.Path.{refl, ap}
 use denote.Ref.{now}
-use Rattle.terms.specs.declared.Mode.the-variants.{Am9511A}
 use Rattle.chip.specs.declared.Event.the-variants.{Reset as ResetEvent}
 use Rattle.chip.specs.Step.{done}
 use Rattle.chip.specs.Place.{held}
 use Rattle.chip.proofs.InPlace.{reset-one}
 use Rattle.memory.specs.Memory.{cardWith, answerWith}
-use Rattle.memory.specs.Held.{cardAt}
+use Rattle.memory.specs.Held.{settingsAt, cardAt}
 use Rattle.records.specs.declared.head.Event.the-variants.{Reset}
 use Rattle.records.proofs.Turning.{memoryAt, no-room, away, took}
 use borrow.Author.Needs.{needs}
@@ -25,9 +24,9 @@ returns-3 c =
     let a = c .before .before .before .before .before .before .before .before .before .before .before .before .before .before .args in
     let k = c .before .before .before .before .before .before .before .reset in
     let after = held (k .last .0) (k .result .pending) (k .result .status) (k .result .service) in
-    λ file there. took (cardAt (now (a .stack)) (a .f)) Reset (answerWith (memoryAt (a .f)) ResetEvent (done 0 after)) file (now (a .room))
-    (ap (answerWith (memoryAt (a .f)) ResetEvent) (reset-one (now (a .stack)) (a .f .pending) (a .f .status) (a .f .service) (c .before .before .before .before .before .before .before .before .before .if2 .left) Am9511A (k .ensures)))
-    (ap (cardWith after) (c .before .before .before .before .empty .ensures)) refl refl (c .before .before .open-reply .ensures) there (c .before .before .before .before .before .before .before .before .before .before .before .if1 .left)
+    λ file there. took (cardAt (now (a .stack)) (a .f)) Reset (answerWith (settingsAt (a .f)) (memoryAt (a .f)) ResetEvent (done 0 after)) file (now (a .room))
+    (ap (answerWith (settingsAt (a .f)) (memoryAt (a .f)) ResetEvent) (reset-one (now (a .stack)) (a .f .pending) (a .f .status) (a .f .service) (c .before .before .before .before .before .before .before .before .before .if2 .left) (a .f .mode) (k .ensures)))
+    (ap (cardWith (settingsAt (a .f)) after) (c .before .before .before .before .empty .ensures)) refl refl (c .before .before .open-reply .ensures) there (c .before .before .before .before .before .before .before .before .before .before .before .if1 .left)
 
 pub pass-reset-spec : {M : Type 1} → statement M
 pass-reset-spec =

@@ -8,7 +8,7 @@ use Rattle.chip.specs.declared.Event.the-variants.{Status as StatusEvent}
 use Rattle.chip.specs.Step.{done}
 use Rattle.chip.proofs.InPlace.{read-one}
 use Rattle.memory.specs.Memory.{answerWith}
-use Rattle.memory.specs.Held.{cardAt}
+use Rattle.memory.specs.Held.{settingsAt, cardAt}
 use Rattle.records.specs.declared.head.Event.the-variants.{Status}
 use Rattle.records.proofs.Turning.{memoryAt, no-room, away, took, status-data}
 use borrow.Author.Needs.{needs}
@@ -37,7 +37,7 @@ returns-3 c =
     λ stack file there.
     let k = cardAt stack f in
     let e = read-one stack (f .pending) (f .status) (f .service) (c .before .before .before .before .if2 .left) in
-    took k Status (answerWith (memoryAt f) StatusEvent (done (f .status) (k .chip))) file room (ap (answerWith (memoryAt f) StatusEvent) e) refl refl (status-data k room (f .status) e (c .before .before .before .before .before .before .if1 .left)) (c .before .before .open-reply .ensures) there (c .before .before .before .before .before .before .if1 .left)
+    took k Status (answerWith (settingsAt f) (memoryAt f) StatusEvent (done (f .status) (k .chip))) file room (ap (answerWith (settingsAt f) (memoryAt f) StatusEvent) e) refl refl (status-data k room (f .status) e (c .before .before .before .before .before .before .if1 .left)) (c .before .before .open-reply .ensures) there (c .before .before .before .before .before .before .if1 .left)
 
 pub pass-status-spec : {M : Type 1} → statement M
 pass-status-spec =

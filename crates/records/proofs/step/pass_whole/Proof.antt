@@ -30,14 +30,14 @@ returns : tie.Need-returns
 returns c =
     let a = c .before .before .before .before .before .before .before .before .before .before .before .before .before .args in
     let k = c .before .before .before .before .pass-push in
-    as-event (cardAt (now (a .stack)) (a .f)) (k .result) (k .last .0) (now (a .rest)) (now (a .room)) (k .last .1 .1 .1 .1 .0) (c .before .before .before .before .before .before .before .before .event .given .1) (k .ensures)
+    as-event (a .f) (cardAt (now (a .stack)) (a .f)) (k .result) (k .last .0) (now (a .rest)) (now (a .room)) (k .last .1 .1 .1 .1 .0) (c .before .before .before .before .before .before .before .before .event .given .1) (k .ensures)
 
 returns-2 : tie.Need-returns-2
 returns-2 c =
     let a = c .before .before .before .before .before .before .before .before .before .before .before .before .before .args in
     let k = c .before .before .before .before .pass-pop in
     let g = c .before .before .before .before .before .before .before .before .event2 .given .1 in
-    as-event (cardAt (now (a .stack)) (a .f)) (k .result) (k .last .0) (now (a .rest)) (now (a .room)) (k .last .1 .1 .1 .0) g
+    as-event (a .f) (cardAt (now (a .stack)) (a .f)) (k .result) (k .last .0) (now (a .rest)) (now (a .room)) (k .last .1 .1 .1 .0) g
     (k .ensures (now (a .rest)) (subst (λ (e : Event). 4 + payloadOf e ≤ length (now (a .rest))) g (c .before .before .before .before .before .before .before .before .before .before .before .before .before .pre .1)))
 
 returns-3 : tie.Need-returns-3
@@ -45,7 +45,7 @@ returns-3 c =
     let a = c .before .before .before .before .before .before .before .before .before .before .before .before .before .args in
     let k = c .before .before .before .before .pass-command in
     let g = c .before .before .before .before .before .before .before .before .event3 .given .1 in
-    as-event (cardAt (now (a .stack)) (a .f)) (k .result) (k .last .0) (now (a .rest)) (now (a .room)) (k .last .1 .1 .1 .0) g
+    as-event (a .f) (cardAt (now (a .stack)) (a .f)) (k .result) (k .last .0) (now (a .rest)) (now (a .room)) (k .last .1 .1 .1 .0) g
     (k .ensures (now (a .rest)) (subst (λ (e : Event). 4 + payloadOf e ≤ length (now (a .rest))) g (c .before .before .before .before .before .before .before .before .before .before .before .before .before .pre .1)))
 
 returns-4 : tie.Need-returns-4
@@ -53,7 +53,7 @@ returns-4 c =
     let a = c .before .before .before .before .before .before .before .before .before .args in
     let k = c .before .before .pass-status in
     let g = c .before .before .before .before .enum-told .given .1 in
-    as-event (cardAt (now (a .stack)) (a .f)) (k .result) (now (a .stack)) (now (a .rest)) (now (a .room)) (k .last .1 .0) g
+    as-event (a .f) (cardAt (now (a .stack)) (a .f)) (k .result) (now (a .stack)) (now (a .rest)) (now (a .room)) (k .last .1 .0) g
     (k .ensures (now (a .stack)) (now (a .rest)) (subst (λ (e : Event). 4 + payloadOf e ≤ length (now (a .rest))) g (c .before .before .before .before .before .before .before .before .before .pre .1)))
 
 returns-5 : tie.Need-returns-5
@@ -61,7 +61,7 @@ returns-5 c =
     let a = c .before .before .before .before .before .before .before .before .before .before .before .before .args in
     let k = c .before .before .before .before .pass-reset in
     let g = c .before .before .before .before .before .before .before .enum-told2 .given .1 in
-    as-event (cardAt (now (a .stack)) (a .f)) (k .result) (k .last .0) (now (a .rest)) (now (a .room)) (k .last .1 .1 .0) g
+    as-event (a .f) (cardAt (now (a .stack)) (a .f)) (k .result) (k .last .0) (now (a .rest)) (now (a .room)) (k .last .1 .1 .0) g
     (k .ensures (now (a .rest)) (subst (λ (e : Event). 4 + payloadOf e ≤ length (now (a .rest))) g (c .before .before .before .before .before .before .before .before .before .before .before .before .pre .1)))
 
 returns-6 : tie.Need-returns-6
@@ -69,7 +69,7 @@ returns-6 c =
     let a = c .before .before .before .before .before .before .before .before .before .args in
     let k = c .before .before .pass-acknowledge in
     let g = c .before .before .before .before .enum-told3 .given .1 in
-    as-event (cardAt (now (a .stack)) (a .f)) (k .result) (now (a .stack)) (now (a .rest)) (now (a .room)) (k .last .1 .0) g
+    as-event (a .f) (cardAt (now (a .stack)) (a .f)) (k .result) (now (a .stack)) (now (a .rest)) (now (a .room)) (k .last .1 .0) g
     (k .ensures (now (a .stack)) (now (a .rest)) (subst (λ (e : Event). 4 + payloadOf e ≤ length (now (a .rest))) g (c .before .before .before .before .before .before .before .before .before .pre .1)))
 
 returns-7 : tie.Need-returns-7
@@ -77,7 +77,7 @@ returns-7 c =
     let a = c .before .before .before .before .before .before .before .before .before .args in
     let k = c .before .before .pass-recall in
     let g = c .before .before .before .before .enum-told4 .given .1 in
-    as-event (cardAt (now (a .stack)) (a .f)) (k .result) (now (a .stack)) (now (a .rest)) (now (a .room)) (k .last .1 .0) g
+    as-event (a .f) (cardAt (now (a .stack)) (a .f)) (k .result) (now (a .stack)) (now (a .rest)) (now (a .room)) (k .last .1 .0) g
     (k .ensures (now (a .stack)) (now (a .rest)) (subst (λ (e : Event). 4 + payloadOf e ≤ length (now (a .rest))) g (c .before .before .before .before .before .before .before .before .before .pre .1)))
 
 returns-8 : tie.Need-returns-8
@@ -85,7 +85,7 @@ returns-8 c =
     let a = c .before .before .before .before .before .before .before .before .before .args in
     let k = c .before .before .pass-forget in
     let g = c .before .before .before .before .enum-told5 .given .1 in
-    as-event (cardAt (now (a .stack)) (a .f)) (k .result) (now (a .stack)) (now (a .rest)) (now (a .room)) (k .last .1 .0) g
+    as-event (a .f) (cardAt (now (a .stack)) (a .f)) (k .result) (now (a .stack)) (now (a .rest)) (now (a .room)) (k .last .1 .0) g
     (k .ensures (now (a .stack)) (now (a .rest)) (subst (λ (e : Event). 4 + payloadOf e ≤ length (now (a .rest))) g (c .before .before .before .before .before .before .before .before .before .pre .1)))
 
 pub pass-whole-spec : {M : Type 1} → statement M

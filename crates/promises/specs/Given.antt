@@ -1,0 +1,24 @@
+-- The numbers that are given with a run and with an event beside their slices, and the two calls under them. Definitions only. Assumes nothing.
+use Prim.Native.Nat.{ℕ, _≤_}
+use mathlib.Core.List.{List}
+use Rattle.terms.specs.Settings.{Settings}
+use Rattle.pundaliket.specs.Calls.{Called, Signal, settingsOf, callOf, signalOf}
+
+-- 02, ask 6: "The mode is a number given with every run and every single event, 0 for the Am9511A and 1 for the older part"
+pub record Given : Type 0 where
+  pub mode : ℕ
+
+-- numbers that are not turned away
+pub record Chosen (g : Given) : Type 0 where
+  pub mode : g .mode ≤ 1
+
+-- what they set
+abbrev pub settingsIn : Given → Settings
+settingsIn g = settingsOf (g .mode)
+
+-- the run and the event, by what they are lent
+abbrev pub runCall : Given → List ℕ → List ℕ → List ℕ → List ℕ → Called
+runCall g = callOf (g .mode)
+
+abbrev pub eventCall : Given → List ℕ → ℕ → ℕ → Signal
+eventCall g = signalOf (g .mode)

@@ -1,0 +1,2 @@
+-- The laws of the terms.
+pub mod Numbers
