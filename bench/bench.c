@@ -47,16 +47,16 @@ int main(int count, char **words)
             for (size_t i = 0; i < sizeof state; i++)
                 state[i] = 0;
             result = library
-                ? pundaliket_run(0, state, sizeof state, input, length, replies, ROOM, report, sizeof report)
-                : plain_run(0, state, sizeof state, input, length, replies, ROOM, report, sizeof report);
+                ? pundaliket_run(0, 0, state, sizeof state, input, length, replies, ROOM, report, sizeof report)
+                : plain_run(0, 0, state, sizeof state, input, length, replies, ROOM, report, sizeof report);
         }
     } else {
         uint32_t kind = number(words[4]);
         uint8_t byte = count > 5 ? (uint8_t)number(words[5]) : 0;
         for (; turns > 0; turns--) {
             memcpy(state, filled, sizeof state);
-            result = library ? pundaliket_event(0, state, sizeof state, kind, byte)
-                             : plain_event(0, state, sizeof state, kind, byte);
+            result = library ? pundaliket_event(0, 0, state, sizeof state, kind, byte)
+                             : plain_event(0, 0, state, sizeof state, kind, byte);
         }
     }
     printf("%u\n", result);

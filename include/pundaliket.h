@@ -39,7 +39,17 @@ enum {
                                       4 to 1, its code without bits or bits without a code; only a report is written */
     PUNDALIKET_BAD_REPORT = 14,    /* report not 9 bytes; nothing is written at all */
     PUNDALIKET_MINUS_ZERO = 15,    /* the f32 is minus zero */
-    PUNDALIKET_BAD_MODE = 16       /* mode neither 0 nor 1; only a report is written */
+    PUNDALIKET_BAD_MODE = 16,      /* mode neither 0 nor 1; only a report is written */
+    PUNDALIKET_BAD_RULE = 17       /* rule neither 0 nor 1; only a report is written */
+};
+
+/*
+ * The rules: how the exact result of FADD, FSUB, FMUL, FDIV, FLTD and SQRT is brought to 24 bits. PUPI pushes pi by the same
+ * rule; FIXS and FIXD cut under either. The rule is not among the state's bytes.
+ */
+enum {
+    PUNDALIKET_CUT = 0,    /* the bits behind the mantissa are cut off */
+    PUNDALIKET_NEAREST = 1 /* the nearest word, of two the one with the even mantissa; over- and underflow are judged after it */
 };
 
 /* The modes: which part's reset. Nothing else differs, and the mode is not among the state's bytes. */
@@ -115,7 +125,7 @@ enum {
     PUNDALIKET_CODE_PTOF = 0x17, /* A copied on top */
     PUNDALIKET_CODE_POPF = 0x18, /* A to the bottom */
     PUNDALIKET_CODE_XCHF = 0x19, /* A and B change places */
-    PUNDALIKET_CODE_PUPI = 0x1A, /* pi pushed */
+    PUNDALIKET_CODE_PUPI = 0x1A, /* pi pushed: 02C90FDA, to the nearest 02C90FDB */
     PUNDALIKET_CODE_FLTD = 0x1C, /* 32-bit A to float */
     PUNDALIKET_CODE_FLTS = 0x1D, /* 16-bit A to float */
     PUNDALIKET_CODE_FIXD = 0x1E, /* float A to 32 bits */
@@ -153,6 +163,7 @@ enum {
  * Runs a file of bus records. Returns the refusal that ended the run, 0 at the file's end.
  *
  * mode     PUNDALIKET_AM9511A or PUNDALIKET_AM9511, for every reset in the file.
+ * rule     PUNDALIKET_CUT or PUNDALIKET_NEAREST, for every float result in the file.
  * state    19 or 21 bytes, read and written: the chip before the run and after the last record done. Of 19 the error
  *          memory is empty at the start, and what the run remembers goes when it ends.
  * input    the records: length (2 bytes, little-endian, counts what follows), kind (2 bytes,
@@ -160,13 +171,13 @@ enum {
  * replies  written from the front, one reply for each record done: length, kind + 128, laid out as
  *          in a record, one refusal byte, data. Bytes past the written ones stay as they were.
  * report   9 bytes, written: the refusal, bytes of whole records taken, bytes of replies written,
- *          each count four bytes little-endian. For 16, 13 and 9 both counts are 0.
+ *          each count four bytes little-endian. For 16, 17, 13 and 9 both counts are 0.
  *
- * Order: 14, 16, 13, 9. Then per record: fewer than two bytes left (6), length range (7), bytes
+ * Order: 14, 16, 17, 13, 9. Then per record: fewer than two bytes left (6), length range (7), bytes
  * missing (6), kind (5), payload (7), room (8), and in its reply 1, 2, 3, 4. A record that stops
  * the run has no reply, is not counted, and leaves the state as the records before it did.
  */
-uint32_t pundaliket_run(uint32_t mode, uint8_t *state, size_t state_length,
+uint32_t pundaliket_run(uint32_t mode, uint32_t rule, uint8_t *state, size_t state_length,
                         const uint8_t *input, size_t input_length,
                         uint8_t *replies, size_t replies_length,
                         uint8_t *report, size_t report_length);
@@ -176,13 +187,14 @@ uint32_t pundaliket_run(uint32_t mode, uint8_t *state, size_t state_length,
  * there is none and in every refusal.
  *
  * mode     PUNDALIKET_AM9511A or PUNDALIKET_AM9511, the whole number.
+ * rule     PUNDALIKET_CUT or PUNDALIKET_NEAREST, the whole number.
  * state    19 or 21 bytes, read and written. A refused event writes nothing. Of 19 the error memory reads 0.
  * kind     1 to 8 as above, the whole number (257 is no kind).
  * byte     the byte pushed or the command code, else ignored.
  *
- * Order: 16, 13, 5, then 1, 2, 3, 4.
+ * Order: 16, 17, 13, 5, then 1, 2, 3, 4.
  */
-uint32_t pundaliket_event(uint32_t mode, uint8_t *state, size_t state_length, uint32_t kind, uint8_t byte);
+uint32_t pundaliket_event(uint32_t mode, uint32_t rule, uint8_t *state, size_t state_length, uint32_t kind, uint8_t byte);
 
 /*
  * The f32 of a chip word's value, always exact. Returns the refusal: 8, then 4.

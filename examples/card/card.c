@@ -36,7 +36,7 @@ static struct card_answer done(volatile struct card_memory *memory, uint32_t kin
     if (memory->counts > 1)
         return start_anew(memory);
     take(memory, state);
-    said = pundaliket_event(PUNDALIKET_AM9511A, state, sizeof state, kind, byte);
+    said = pundaliket_event(PUNDALIKET_AM9511A, PUNDALIKET_CUT, state, sizeof state, kind, byte);
     answer.refusal = (uint8_t)(said >> 8);
     if (answer.refusal == PUNDALIKET_BAD_STATE)
         return start_anew(memory);

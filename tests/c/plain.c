@@ -1,4 +1,4 @@
-/* Document 01 in plain C, with requests 1 to 6 of 02. The state is worked on where it lies, as 19 bytes and two of error memory;
+/* Document 01 in plain C, with requests 1 to 6 and 9 of 02. The state is worked on where it lies, as 19 bytes and two of error memory;
  * fixed-point results are formed in 64-bit integers, float results in 64 bits with what falls off kept as one low bit. */
 #include "plain.h"
 
@@ -121,14 +121,22 @@ static int is_proper(uint32_t w) { return w == 0 || (w & 0x800000) != 0; }
 
 static int exponent(uint32_t w) { return (int)(w >> 24 & 0x7F) - (int)(w >> 23 & 0x80); }
 
-/* plus or minus magnitude times 2^e, cut to a word */
-static uint32_t cut(int minus, uint64_t magnitude, int e, uint32_t *error)
+/* plus or minus magnitude times 2^e, cut to a word, or by rule 1 to the nearest, of two the even one */
+static uint32_t cut(uint32_t rule, int minus, uint64_t magnitude, int e, uint32_t *error)
 {
     if (magnitude == 0)
         return 0;
     int top = 63 - __builtin_clzll(magnitude);
     uint32_t m = (uint32_t)(top > 23 ? magnitude >> (top - 23) : magnitude << (23 - top));
     e += top + 1;
+    if (rule && top > 23) {
+        uint64_t lost = magnitude << (87 - top), half = (uint64_t)1 << 63;
+        m += lost > half || (lost == half && m % 2 == 1);
+        if (m == 0x1000000) {
+            m = 0x800000;
+            e++;
+        }
+    }
     if (e > 63) {
         *error = OVERFLOW_ERROR;
         e -= 128;
@@ -139,7 +147,7 @@ static uint32_t cut(int minus, uint64_t magnitude, int e, uint32_t *error)
     return (minus ? 0x80000000u : 0) | ((uint32_t)e & 0x7F) << 24 | m;
 }
 
-static uint32_t sum(uint32_t b, uint32_t a, uint32_t *error)
+static uint32_t sum(uint32_t rule, uint32_t b, uint32_t a, uint32_t *error)
 {
     if (a == 0 || b == 0)
         return a | b;
@@ -155,36 +163,37 @@ static uint32_t sum(uint32_t b, uint32_t a, uint32_t *error)
     else if (apart > 0)
         small = small >> apart | ((small << (64 - apart)) != 0);
     if ((a ^ b) >> 31 == 0)
-        return cut(b >> 31 != 0, big + small, e, error);
+        return cut(rule, b >> 31 != 0, big + small, e, error);
     if (big >= small)
-        return cut(b >> 31 != 0, big - small, e, error);
-    return cut(a >> 31 != 0, small - big, e, error);
+        return cut(rule, b >> 31 != 0, big - small, e, error);
+    return cut(rule, a >> 31 != 0, small - big, e, error);
 }
 
-static uint32_t product(uint32_t b, uint32_t a, uint32_t *error)
+static uint32_t product(uint32_t rule, uint32_t b, uint32_t a, uint32_t *error)
 {
-    return cut((a ^ b) >> 31 != 0, (uint64_t)(a & 0xFFFFFF) * (b & 0xFFFFFF), exponent(a) + exponent(b) - 48, error);
+    return cut(rule, (a ^ b) >> 31 != 0, (uint64_t)(a & 0xFFFFFF) * (b & 0xFFFFFF), exponent(a) + exponent(b) - 48, error);
 }
 
-static uint32_t quotient(uint32_t b, uint32_t a, uint32_t *error)
+static uint32_t quotient(uint32_t rule, uint32_t b, uint32_t a, uint32_t *error)
 {
     if (a == 0) {
         *error = DIVIDE_ERROR;
         return b;
     }
-    return cut((a ^ b) >> 31 != 0, ((uint64_t)(b & 0xFFFFFF) << 26) / (a & 0xFFFFFF), exponent(b) - exponent(a) - 26, error);
+    uint64_t x = (uint64_t)(b & 0xFFFFFF) << 26, d = a & 0xFFFFFF;
+    return cut(rule, (a ^ b) >> 31 != 0, x / d | (x % d != 0), exponent(b) - exponent(a) - 26, error);
 }
 
-static uint32_t floating(uint8_t *s, uint32_t code, uint32_t sr)
+static uint32_t floating(uint8_t *s, uint32_t rule, uint32_t code, uint32_t sr)
 {
     uint32_t a = get(s, 4), b = get(s + 4, 4), r, error = 0;
     if (!is_proper(a) || !is_proper(b))
         return 4;
     switch (code) {
-    case 0x10: r = sum(b, a, &error); break;
-    case 0x11: r = sum(b, a ? a ^ 0x80000000u : 0, &error); break;
-    case 0x12: r = product(b, a, &error); break;
-    default: r = quotient(b, a, &error); break;
+    case 0x10: r = sum(rule, b, a, &error); break;
+    case 0x11: r = sum(rule, b, a ? a ^ 0x80000000u : 0, &error); break;
+    case 0x12: r = product(rule, b, a, &error); break;
+    default: r = quotient(rule, b, a, &error); break;
     }
     put(s, 4, r);
     MOVE(s + 4, s + 8, 8);
@@ -207,8 +216,15 @@ static uint32_t whole_root(uint64_t x)
     return (uint32_t)low;
 }
 
+/* the root by a rule: x is never half way, since (m + 1/2)^2 is no whole number */
+static uint32_t root_by(uint32_t rule, uint64_t x)
+{
+    uint32_t m = whole_root(x);
+    return m + (rule && x - (uint64_t)m * m > m);
+}
+
 /* SQRT: the value is a whole number of 47 or 48 bits times an even power of two, so the root is one of 24 */
-static uint32_t root(uint8_t *s, uint32_t sr)
+static uint32_t root(uint8_t *s, uint32_t rule, uint32_t sr)
 {
     uint32_t a = get(s, 4), error = 0;
     if (!is_proper(a))
@@ -219,7 +235,7 @@ static uint32_t root(uint8_t *s, uint32_t sr)
     }
     int e = exponent(a), shift = e % 2 ? 23 : 24;
     if (a)
-        put(s, 4, cut(0, whole_root((uint64_t)(a & 0xFFFFFF) << shift), (e - 24 - shift) / 2, &error));
+        put(s, 4, cut(rule, 0, root_by(rule, (uint64_t)(a & 0xFFFFFF) << shift), (e - 24 - shift) / 2, &error));
     CLEAR(s + 12, 4);
     settle(s, 4, error, 0, sr);
     return 0;
@@ -248,10 +264,10 @@ static uint32_t fix(uint8_t *s, int n, uint32_t sr)
 }
 
 /* FLTS (n = 2) and FLTD (n = 4) */
-static void flt(uint8_t *s, int n, uint32_t sr)
+static void flt(uint8_t *s, uint32_t rule, int n, uint32_t sr)
 {
     int64_t x = extend(get(s, n), n);
-    uint32_t error = 0, r = cut(x < 0, (uint64_t)(x < 0 ? -x : x), 0, &error);
+    uint32_t error = 0, r = cut(rule, x < 0, (uint64_t)(x < 0 ? -x : x), 0, &error);
     if (n == 2)
         MOVE(s + 4, s + 2, 8);
     put(s, 4, r);
@@ -301,10 +317,10 @@ static void exchange(uint8_t *s, int n, uint32_t sr)
     settle(s, n, 0, 0, sr);
 }
 
-static void push_pi(uint8_t *s, uint32_t sr)
+static void push_pi(uint8_t *s, uint32_t rule, uint32_t sr)
 {
     MOVE(s + 4, s, 12);
-    put(s, 4, 0x02C90FDA);
+    put(s, 4, rule ? 0x02C90FDB : 0x02C90FDA);
     settle(s, 4, 0, 0, sr);
 }
 
@@ -323,7 +339,7 @@ static uint32_t known(uint32_t code)
     }
 }
 
-static uint32_t obey(uint8_t *s, uint8_t byte)
+static uint32_t obey(uint8_t *s, uint32_t rule, uint8_t byte)
 {
     uint32_t code = byte & 0x7F, sr = byte >> 7, refusal = known(code);
     int n = code & 0x40 ? 2 : 4;
@@ -333,15 +349,15 @@ static uint32_t obey(uint8_t *s, uint8_t byte)
         return 3;
     switch (code) {
     case 0x00: s[STATUS] = 0; s[SERVICE] = (uint8_t)sr; return 0;
-    case 0x01: return root(s, sr);
-    case 0x10: case 0x11: case 0x12: case 0x13: return floating(s, code, sr);
+    case 0x01: return root(s, rule, sr);
+    case 0x10: case 0x11: case 0x12: case 0x13: return floating(s, rule, code, sr);
     case 0x15: change_float_sign(s, sr); return 0;
     case 0x17: case 0x37: case 0x77: copy_top(s, n, sr); return 0;
     case 0x18: case 0x38: case 0x78: roll(s, n, sr); return 0;
     case 0x19: case 0x39: case 0x79: exchange(s, n, sr); return 0;
-    case 0x1A: push_pi(s, sr); return 0;
-    case 0x1C: flt(s, 4, sr); return 0;
-    case 0x1D: flt(s, 2, sr); return 0;
+    case 0x1A: push_pi(s, rule, sr); return 0;
+    case 0x1C: flt(s, rule, 4, sr); return 0;
+    case 0x1D: flt(s, rule, 2, sr); return 0;
     case 0x1E: return fix(s, 4, sr);
     case 0x1F: return fix(s, 2, sr);
     case 0x34: case 0x74: change_sign(s, n, sr); return 0;
@@ -350,9 +366,9 @@ static uint32_t obey(uint8_t *s, uint8_t byte)
 }
 
 /* a command, and what the error memory keeps of it: the bits of each status, the code of the first that has any */
-static uint32_t command(uint8_t *s, uint8_t *memory, uint8_t byte)
+static uint32_t command(uint8_t *s, uint8_t *memory, uint32_t rule, uint8_t byte)
 {
-    uint32_t refusal = obey(s, byte);
+    uint32_t refusal = obey(s, rule, byte);
     uint8_t bits = s[STATUS] & ERROR_BITS;
     if (refusal == 0 && bits) {
         if (memory[BITS] == 0)
@@ -388,16 +404,18 @@ static void reset(uint32_t mode, uint8_t *s)
     CLEAR(s + PENDING, 3);
 }
 
-uint32_t plain_event(uint32_t mode, uint8_t *state, size_t state_length, uint32_t kind, uint8_t byte)
+uint32_t plain_event(uint32_t mode, uint32_t rule, uint8_t *state, size_t state_length, uint32_t kind, uint8_t byte)
 {
     if (mode > 1)
         return 16 * 256;
+    if (rule > 1)
+        return 17 * 256;
     if (bad_state(state, state_length))
         return 13 * 256;
     switch (kind) {
     case 1: push(state, &byte, 1); return 0;
     case 2: pop(state, &byte, 1); return byte;
-    case 3: return 256 * (state_length == STATE ? obey(state, byte) : command(state, state + STATE, byte));
+    case 3: return 256 * (state_length == STATE ? obey(state, rule, byte) : command(state, state + STATE, rule, byte));
     case 4: return state[STATUS];
     case 5: reset(mode, state); CLEAR(state + STATE, state_length - STATE); return 0;
     case 6: state[SERVICE] = 0; return 0;
@@ -442,13 +460,15 @@ static uint32_t away(uint8_t *report, uint32_t refusal)
     return refusal;
 }
 
-uint32_t plain_run(uint32_t mode, uint8_t *state, size_t state_length, const uint8_t *input, size_t input_length,
+uint32_t plain_run(uint32_t mode, uint32_t rule, uint8_t *state, size_t state_length, const uint8_t *input, size_t input_length,
                    uint8_t *replies, size_t replies_length, uint8_t *report, size_t report_length)
 {
     if (report_length != REPORT)
         return 14;
     if (mode > 1)
         return away(report, 16);
+    if (rule > 1)
+        return away(report, 17);
     if (bad_state(state, state_length))
         return away(report, 13);
     if (input_length > MOST_INPUT)
@@ -471,7 +491,7 @@ uint32_t plain_run(uint32_t mode, uint8_t *state, size_t state_length, const uin
         } else if (kind == 2) {
             pop(state, out + 5, data);
         } else if (kind == 3) {
-            answer = command(state, memory, in[4]);
+            answer = command(state, memory, rule, in[4]);
         } else if (kind == 4) {
             out[5] = state[STATUS];
         } else if (kind == 5) {

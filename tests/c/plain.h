@@ -6,9 +6,9 @@
 #include <stddef.h>
 #include <stdint.h>
 
-uint32_t plain_run(uint32_t mode, uint8_t *state, size_t state_length, const uint8_t *input, size_t input_length,
+uint32_t plain_run(uint32_t mode, uint32_t rule, uint8_t *state, size_t state_length, const uint8_t *input, size_t input_length,
                    uint8_t *replies, size_t replies_length, uint8_t *report, size_t report_length);
-uint32_t plain_event(uint32_t mode, uint8_t *state, size_t state_length, uint32_t kind, uint8_t byte);
+uint32_t plain_event(uint32_t mode, uint32_t rule, uint8_t *state, size_t state_length, uint32_t kind, uint8_t byte);
 uint32_t plain_word_to_f32(uint32_t word, uint8_t *out, size_t out_length);
 uint32_t plain_f32_to_word(uint32_t bits, uint8_t *out, size_t out_length);
 

@@ -127,8 +127,8 @@ static void draw_state(uint8_t *s)
 /* the length of a state, in one of ten cases any */
 static size_t drawn_length(void) { return below(10) ? (below(2) ? 19 : 21) : below(24); }
 
-/* the mode of a call that is compared: 0 or 1, in one of ten cases any number */
-static uint32_t drawn_mode(void) { return below(10) ? below(2) : drawn(); }
+/* the mode or the rule of a call that is compared: 0 or 1, in one of ten cases any number */
+static uint32_t drawn_choice(void) { return below(10) ? below(2) : drawn(); }
 
 /* ---- one call of each, compared */
 
@@ -136,8 +136,8 @@ static int event_agrees(unsigned alignment, const uint8_t *s, size_t n, uint32_t
 {
     lend(&state, alignment, n, s);
     lend(&plain_state, 0, n, s);
-    uint32_t m = drawn_mode();
-    uint32_t a = pundaliket_event(m, state.at, n, kind, byte), b = plain_event(m, plain_state.at, n, kind, byte);
+    uint32_t m = drawn_choice(), q = drawn_choice();
+    uint32_t a = pundaliket_event(m, q, state.at, n, kind, byte), b = plain_event(m, q, plain_state.at, n, kind, byte);
     return a == b && same(&state, &plain_state) && guarded(&state);
 }
 
@@ -150,9 +150,9 @@ static int run_agrees(unsigned alignment, const uint8_t *s, size_t sn, const uin
     lend(&plain_replies, 0, room, NULL);
     lend(&report, (alignment * 7 + 2) & 7, rn, NULL);
     lend(&plain_report, 0, rn, NULL);
-    uint32_t m = drawn_mode();
-    uint32_t a = pundaliket_run(m, state.at, sn, input.at, n, replies.at, room, report.at, rn);
-    uint32_t b = plain_run(m, plain_state.at, sn, input.at, n, plain_replies.at, room, plain_report.at, rn);
+    uint32_t m = drawn_choice(), q = drawn_choice();
+    uint32_t a = pundaliket_run(m, q, state.at, sn, input.at, n, replies.at, room, report.at, rn);
+    uint32_t b = plain_run(m, q, plain_state.at, sn, input.at, n, plain_replies.at, room, plain_report.at, rn);
     return a == b && same(&state, &plain_state) && same(&replies, &plain_replies) && same(&report, &plain_report)
         && guarded(&state) && guarded(&input) && holds(&input, file) && guarded(&replies) && guarded(&report);
 }
@@ -187,8 +187,8 @@ static int comes_back(uint32_t x)
 
 static const uint8_t zeros[PUNDALIKET_LONG_STATE_BYTES];
 
-/* the mode of what is expected */
-static uint32_t mode = PUNDALIKET_AM9511A;
+/* the mode and the rule of what is expected */
+static uint32_t mode = PUNDALIKET_AM9511A, rule = PUNDALIKET_CUT;
 
 /* runs a file from a state of sn bytes in some room: the refusal, the counts, and the guards */
 static void expect_run_on(const char *what, const uint8_t *s, size_t sn, const uint8_t *file, size_t n, size_t room, uint32_t refusal,
@@ -199,7 +199,7 @@ static void expect_run_on(const char *what, const uint8_t *s, size_t sn, const u
         lend(&input, 7 - alignment, n, file);
         lend(&replies, alignment, room, NULL);
         lend(&report, 7 - alignment, PUNDALIKET_REPORT_BYTES, NULL);
-        uint32_t r = pundaliket_run(mode, state.at, state.length, input.at, n, replies.at, room, report.at, report.length);
+        uint32_t r = pundaliket_run(mode, rule, state.at, state.length, input.at, n, replies.at, room, report.at, report.length);
         const uint8_t numbers[PUNDALIKET_REPORT_BYTES] = {
             (uint8_t)refusal, (uint8_t)taken, (uint8_t)(taken >> 8), 0, 0, (uint8_t)count, (uint8_t)(count >> 8), 0, 0,
         };
@@ -301,13 +301,13 @@ static void refusals_of_the_call(void)
         bad[flag] = flag == 17 ? 0x80 : 2;
         expect_run("refusal 13", bad, long_file, sizeof long_file, 64, 13, 0, zeros, 0, bad);
         lend(&state, 1, sizeof bad, bad);
-        check(pundaliket_event(mode, state.at, sizeof bad, 99, 0) == 13 * 256 && holds(&state, bad) && guarded(&state), "event 13", (unsigned)flag);
+        check(pundaliket_event(mode, rule, state.at, sizeof bad, 99, 0) == 13 * 256 && holds(&state, bad) && guarded(&state), "event 13", (unsigned)flag);
     }
     for (size_t n = 0; n < 24; n++) {
         lend(&state, 3, n, NULL);
         lend(&replies, 2, 64, NULL);
         lend(&report, 1, n, NULL);
-        uint32_t r = pundaliket_run(mode, state.at, 0, long_file, sizeof long_file, replies.at, 64, report.at, n);
+        uint32_t r = pundaliket_run(mode, rule, state.at, 0, long_file, sizeof long_file, replies.at, 64, report.at, n);
         int kept = 1;
         for (size_t i = 0; i < n; i++)
             kept = kept && report.at[i] == UNTOUCHED;
@@ -355,7 +355,7 @@ static void expect_event_on(const char *what, const uint8_t *s, size_t sn, uint3
 {
     for (unsigned alignment = 0; alignment < 8; alignment++) {
         lend(&state, alignment, sn, s);
-        uint32_t r = pundaliket_event(mode, state.at, sn, kind, byte);
+        uint32_t r = pundaliket_event(mode, rule, state.at, sn, kind, byte);
         check(r == answer && holds(&state, left) && guarded(&state), what, alignment);
     }
 }
@@ -394,7 +394,7 @@ static void older_reset(void)
         expect_run_on("refusal 16 of a run", s, 21, file, sizeof file, 64, 16, 0, zeros, 0, s);
         expect_run("refusal 16 of a run, before 13", bad, file, sizeof file, 64, 16, 0, zeros, 0, bad);
         lend(&report, 1, 8, NULL);
-        check(pundaliket_run(mode, state.at, 0, file, sizeof file, replies.at, 64, report.at, 8) == 14 && report.at[0] == UNTOUCHED && guarded(&report), "refusal 14 before 16", none[k]);
+        check(pundaliket_run(mode, rule, state.at, 0, file, sizeof file, replies.at, 64, report.at, 8) == 14 && report.at[0] == UNTOUCHED && guarded(&report), "refusal 14 before 16", none[k]);
     }
     mode = PUNDALIKET_AM9511A;
 }
@@ -449,6 +449,70 @@ static void expect_root(const char *what, uint32_t a, int pending, uint8_t code,
         left[18] = code >= 0x80;
     }
     expect_event(what, before, PUNDALIKET_COMMAND, code, answer, left);
+}
+
+/* ---- to the nearest, request 9 of 02: what must come is written out here, worked by hand from the words */
+
+/* a command on B and A under a rule: the word on top and the status */
+static void expect_rule(const char *what, uint32_t number, uint8_t code, uint32_t b, uint32_t a, uint32_t r, uint8_t status)
+{
+    uint8_t s[PUNDALIKET_STATE_BYTES] = { 0 };
+    for (int i = 0; i < 4; i++) {
+        s[i] = (uint8_t)(a >> (24 - 8 * i));
+        s[4 + i] = (uint8_t)(b >> (24 - 8 * i));
+    }
+    lend(&state, code & 7, sizeof s, s);
+    uint32_t answer = pundaliket_event(mode, number, state.at, sizeof s, PUNDALIKET_COMMAND, code);
+    uint32_t top = (uint32_t)state.at[0] << 24 | (uint32_t)state.at[1] << 16 | (uint32_t)state.at[2] << 8 | state.at[3];
+    check(answer == 0 && top == r && state.at[PUNDALIKET_AT_STATUS] == status && guarded(&state), what, number);
+}
+
+static void nearest(void)
+{
+    static const struct {
+        uint8_t code;
+        uint32_t b, a, cut;
+        uint8_t status;
+        uint32_t near;
+        uint8_t near_status;
+    } rows[] = {
+        { 0x13, 0x01800000, 0x02C00000, 0x7FAAAAAA, 0x00, 0x7FAAAAAB, 0x00 }, /* 1 / 3 */
+        { 0x10, 0x01800000, 0x69800000, 0x01800000, 0x00, 0x01800000, 0x00 }, /* 1 + 2^-24: half way, the even one below */
+        { 0x10, 0x01800001, 0x69800000, 0x01800001, 0x00, 0x01800002, 0x00 }, /* half way, the even one above */
+        { 0x10, 0x01800000, 0x69800001, 0x01800000, 0x00, 0x01800001, 0x00 }, /* a little over half */
+        { 0x10, 0x01FFFFFF, 0x69800000, 0x01FFFFFF, 0x00, 0x02800000, 0x00 }, /* half way, carried into the next exponent */
+        { 0x10, 0x3FFFFFFF, 0x27800000, 0x3FFFFFFF, 0x00, 0x40800000, 0x02 }, /* overflow by rounding alone */
+        { 0x12, 0x40FFFFFE, 0x00800001, 0x3FFFFFFF, 0x04, 0x40800000, 0x00 }, /* underflow without rounding alone */
+        { 0x11, 0x01800000, 0x69800000, 0x00FFFFFF, 0x00, 0x00FFFFFF, 0x00 }, /* 1 - 2^-24: exact */
+        { 0x1C, 0, 0x7FFFFFFF, 0x1FFFFFFF, 0x00, 0x20800000, 0x00 },          /* FLTD of 2^31 - 1 */
+        { 0x1C, 0, 0x80000001, 0x9FFFFFFF, 0x40, 0xA0800000, 0x40 },
+        { 0x1C, 0, 0x01000001, 0x19800000, 0x00, 0x19800000, 0x00 },          /* 2^24 + 1: half way */
+        { 0x1C, 0, 0x01000003, 0x19800001, 0x00, 0x19800002, 0x00 },
+        { 0x1A, 0, 0, 0x02C90FDA, 0x00, 0x02C90FDB, 0x00 },                   /* PUPI */
+        { 0x01, 0, 0x02C00000, 0x01DDB3D7, 0x00, 0x01DDB3D7, 0x00 },          /* the root of 3, 1.73205080.. */
+        { 0x01, 0, 0x3FFFFFFF, 0x20B504F2, 0x00, 0x20B504F3, 0x00 },
+        { 0x1E, 0, 0x02FFFFFF, 0x00000003, 0x00, 0x00000003, 0x00 },          /* FIXD cuts under either */
+    };
+    for (unsigned k = 0; k < sizeof rows / sizeof rows[0]; k++) {
+        expect_rule("cut, row", PUNDALIKET_CUT, rows[k].code, rows[k].b, rows[k].a, rows[k].cut, rows[k].status);
+        expect_rule("nearest, row", PUNDALIKET_NEAREST, rows[k].code, rows[k].b, rows[k].a, rows[k].near, rows[k].near_status);
+    }
+    static const uint8_t file[] = { 2, 0, 4, 0 };
+    static const uint32_t none[] = { 2, 256, 257, 0x80000001, 0xFFFFFFFF };
+    uint8_t bad[PUNDALIKET_STATE_BYTES] = { 0 };
+    bad[PUNDALIKET_AT_PENDING] = 2;
+    for (unsigned k = 0; k < sizeof none / sizeof none[0]; k++) {
+        rule = none[k];
+        expect_event("refusal 17", zeros, PUNDALIKET_STATUS, 0, 17 * 256, zeros);
+        expect_event("refusal 17 before 13", bad, 99, 0, 17 * 256, bad);
+        expect_run("refusal 17 of a run", zeros, file, sizeof file, 64, 17, 0, zeros, 0, zeros);
+        expect_run("refusal 17 of a run, before 13", bad, file, sizeof file, 64, 17, 0, zeros, 0, bad);
+        mode = 2;
+        expect_event("refusal 16 before 17", zeros, PUNDALIKET_STATUS, 0, 16 * 256, zeros);
+        expect_run("refusal 16 of a run, before 17", zeros, file, sizeof file, 64, 16, 0, zeros, 0, zeros);
+        mode = PUNDALIKET_AM9511A;
+    }
+    rule = PUNDALIKET_CUT;
 }
 
 static void roots(void)
@@ -554,7 +618,7 @@ static void errors_remembered(void)
         /* the others leave the memory, whatever they do to the 19 bytes before it */
         for (unsigned k = 0; k < sizeof kinds / sizeof kinds[0]; k++) {
             lend(&state, k, 21, s);
-            check(pundaliket_event(mode, state.at, 21, kinds[k], 0xEE) < 256 && state.at[19] == 0x12 && state.at[20] == 0x6F, "memory kept by kind", kinds[k]);
+            check(pundaliket_event(mode, rule, state.at, 21, kinds[k], 0xEE) < 256 && state.at[19] == 0x12 && state.at[20] == 0x6F, "memory kept by kind", kinds[k]);
             check(guarded(&state), "memory kept, guards", kinds[k]);
         }
     }
@@ -638,11 +702,11 @@ static void refusals_of_a_memory(void)
             s[19] = (uint8_t)bits;
             s[20] = (uint8_t)code;
             lend(&state, code & 7, 21, s);
-            uint32_t r = pundaliket_event(mode, state.at, 21, PUNDALIKET_RECALL, 0);
+            uint32_t r = pundaliket_event(mode, rule, state.at, 21, PUNDALIKET_RECALL, 0);
             check(r == (good ? bits : 13 * 256) && holds(&state, s) && guarded(&state), "memory of an event", bits << 8 | code);
             lend(&replies, bits & 7, 6, NULL);
             lend(&report, 0, 9, NULL);
-            r = pundaliket_run(mode, state.at, 21, reads, sizeof reads, replies.at, 6, report.at, 9);
+            r = pundaliket_run(mode, rule, state.at, 21, reads, sizeof reads, replies.at, 6, report.at, 9);
             check(r == (good ? 0 : 13) && holds(&state, s) && guarded(&state) && report.at[0] == r && (replies.at[0] == UNTOUCHED) == !good,
                   "memory of a run", bits << 8 | code);
         }
@@ -785,8 +849,8 @@ static void room_for_replies(void)
         lend(&state, 0, PUNDALIKET_STATE_BYTES, zeros);
         lend(&report, 0, PUNDALIKET_REPORT_BYTES, NULL);
         lend(&replies, 0, most[n], NULL);
-        check(pundaliket_run(mode, state.at, state.length, file, whole, replies.at, most[n], report.at, report.length) == 0, "room enough", (unsigned)n);
-        check(pundaliket_run(mode, state.at, state.length, file, whole, replies.at, most[n] - 1, report.at, report.length) == 8, "room short by a byte", (unsigned)n);
+        check(pundaliket_run(mode, rule, state.at, state.length, file, whole, replies.at, most[n], report.at, report.length) == 0, "room enough", (unsigned)n);
+        check(pundaliket_run(mode, rule, state.at, state.length, file, whole, replies.at, most[n] - 1, report.at, report.length) == 8, "room short by a byte", (unsigned)n);
     }
 }
 
@@ -799,7 +863,7 @@ static uint8_t painted[STACK] __attribute__((aligned(64)));
 static size_t deepest;
 
 /* what the next call is lent */
-static uint32_t lent_mode;
+static uint32_t lent_mode, lent_rule;
 static uint8_t lent_state[PUNDALIKET_LONG_STATE_BYTES], lent_file[2304], lent_replies[65536], lent_report[PUNDALIKET_REPORT_BYTES], lent_out[4];
 static size_t lent_length, lent_size;
 static uint32_t lent_number;
@@ -807,9 +871,9 @@ static uint8_t lent_byte;
 
 static void call_run(void)
 {
-    pundaliket_run(lent_mode, lent_state, lent_size, lent_file, lent_length, lent_replies, sizeof lent_replies, lent_report, sizeof lent_report);
+    pundaliket_run(lent_mode, lent_rule, lent_state, lent_size, lent_file, lent_length, lent_replies, sizeof lent_replies, lent_report, sizeof lent_report);
 }
-static void call_event(void) { pundaliket_event(lent_mode, lent_state, lent_size, lent_number, lent_byte); }
+static void call_event(void) { pundaliket_event(lent_mode, lent_rule, lent_state, lent_size, lent_number, lent_byte); }
 static void call_word_to_f32(void) { pundaliket_word_to_f32(lent_number, lent_out, sizeof lent_out); }
 static void call_f32_to_word(void) { pundaliket_f32_to_word(lent_number, lent_out, sizeof lent_out); }
 
@@ -834,6 +898,7 @@ static void stack_of_a_call(void)
         draw_state(lent_state);
         lent_size = i / 256 % 2 ? 19 : 21;
         lent_mode = i / 512 % 2;
+        lent_rule = i / 1024 % 2;
         lent_number = i % 16 ? 3 : i / 16 % 10;
         lent_byte = (uint8_t)i;
         on_painted_stack(call_event);
@@ -842,6 +907,7 @@ static void stack_of_a_call(void)
         draw_state(lent_state);
         lent_size = i % 2 ? 19 : 21;
         lent_mode = i / 2 % 2;
+        lent_rule = i / 4 % 2;
         for (lent_length = 0; lent_length < 2000;)
             lent_length += draw_record(lent_file + lent_length);
         on_painted_stack(call_run);
@@ -862,6 +928,7 @@ int main(void)
     refusals_of_conversions();
     events_of_each_kind();
     older_reset();
+    nearest();
     roots();
     errors_remembered();
     memory_in_a_file();

@@ -9,9 +9,11 @@ use borrow.Author.Tests.{lt-leb, le-leb, lt-ltb, le-ltb}
 use Rattle.terms.specs.declared.Mode.{Mode}
 use Rattle.terms.specs.Settings.{Settings}
 use Rattle.terms.specs.declared.Mode.the-variants.{Am9511A, Am9511}
+use Rattle.terms.specs.declared.Rule.{Rule}
 use Rattle.terms.specs.declared.Refusal.{Refusal}
 use Rattle.terms.specs.declared.Refusal.the-variants.{Improper, BadState}
 use Rattle.terms.specs.Refusal.{numberOf}
+use Rattle.terms.specs.Settings.{Settings}
 use Rattle.stack.specs.Stack.{topByte, pushed, popped}
 use Rattle.codes.specs.declared.Command.{Command}
 use Rattle.codes.specs.declared.Kind.{Kind}
@@ -23,8 +25,8 @@ use Rattle.chip.specs.declared.Event.the-variants.{Push, Pop, Command as
 use Rattle.chip.specs.declared.commands.Obeyed.{Obeyed}
 use Rattle.chip.specs.declared.commands.Obeyed.the-variants.{Done, Refused}
 use Rattle.chip.specs.State.{afterReset}
-use Rattle.chip.specs.Commands.{baseRule, outcomeOf, properOperands}
-use Rattle.chip.specs.Step.{done, refused, pushOf, popOf, resetOf, acknowledgeOf, readOf, commandUnder, commandOf, answerTo}
+use Rattle.chip.specs.Commands.{outcomeOf, properOperands}
+use Rattle.chip.specs.Step.{done, refused, pushOf, popOf, resetOf, acknowledgeOf, readOf, commandUnder, answerTo}
 use Rattle.chip.specs.Place.{held, flipped, Obeys, refusalOf, obeyedAs, Keeps, Commanded, answerObeyed}
 use Rattle.chip.proofs.Answers.{carried-improper, carried-done, command-by}
 use Rattle.chip.proofs.InTurn.{turned, push-done, pop-done}
@@ -82,16 +84,16 @@ busy-event on s Acknowledge h = rw (le-leb 128 (s .status) h)
 
 -- ---- a code
 -- a known command with nothing pending is answered as its row says
-pub obeyed : (pending : Bool) (code : ℕ) (before after : List ℕ) (k : Kind) (command : Command) (o : Obeyed)
-    → k ≡ decoded (code % 128) → k ≡ Known command → pending ≡ false → Obeys command before after o → Commanded pending code before after o
-obeyed pending code before after k command (Done status) ek el ep w = record {
-  answer-is = λ (s : State) es eq h. command-by baseRule s code h ek el
-      (carried-done baseRule s (sr code) command (eq ∙ ep) (ap (properOperands command) es ∙ w .0) (w .1 ∙ ap (outcomeOf baseRule command) (sym es)) refl);
+pub obeyed : (rule : Rule) (pending : Bool) (code : ℕ) (before after : List ℕ) (k : Kind) (command : Command) (o : Obeyed)
+    → k ≡ decoded (code % 128) → k ≡ Known command → pending ≡ false → Obeys rule command before after o → Commanded rule pending code before after o
+obeyed rule pending code before after k command (Done status) ek el ep w = record {
+  answer-is = λ (s : State) es eq h. command-by rule s code h ek el
+      (carried-done rule s (sr code) command (eq ∙ ep) (ap (properOperands command) es ∙ w .0) (w .1 ∙ ap (outcomeOf rule command) (sym es)) refl);
   keeps = tt;
 }
-obeyed pending code before after k command (Refused refusal) ek el ep w = record {
-  answer-is = λ (s : State) es eq h. command-by baseRule s code h ek el
-      (carried-improper baseRule s (sr code) command (eq ∙ ep) (ap (properOperands command) es ∙ w .0) (ap (λ r. refused r s) (w .1)));
+obeyed rule pending code before after k command (Refused refusal) ek el ep w = record {
+  answer-is = λ (s : State) es eq h. command-by rule s code h ek el
+      (carried-improper rule s (sr code) command (eq ∙ ep) (ap (properOperands command) es ∙ w .0) (ap (λ r. refused r s) (w .1)));
   keeps = w .2;
 }
 
@@ -102,22 +104,22 @@ as-done n h = rw (lt-ltb n 256 h)
 pub as-refused : (n : ℕ) → 256 ≤ n → obeyedAs n ≡ Refused (refusalOf (n / 256))
 as-refused n h = rw (le-ltb n 256 h)
 
-module _ (command : Command) (before after : List ℕ) {o : Obeyed} (w : Obeys command before after o) where
-  pub done-number : (status : ℕ) {n : ℕ} → o ≡ Done status → n ≡ status → n < 256 → Obeys command before after (obeyedAs n) × (n < 1280)
-  done-number status {n} e f h = (subst (Obeys command before after) (e ∙ ap Done (sym f) ∙ sym (as-done n h)) w, omega arith)
+module _ (rule : Rule) (command : Command) (before after : List ℕ) {o : Obeyed} (w : Obeys rule command before after o) where
+  pub done-number : (status : ℕ) {n : ℕ} → o ≡ Done status → n ≡ status → n < 256 → Obeys rule command before after (obeyedAs n) × (n < 1280)
+  done-number status {n} e f h = (subst (Obeys rule command before after) (e ∙ ap Done (sym f) ∙ sym (as-done n h)) w, omega arith)
 
-  pub refused-number : (r : Refusal) {n : ℕ} → o ≡ Refused r → n ≡ numberOf r * 256 → Obeys command before after (obeyedAs n) × (n < 1280)
+  pub refused-number : (r : Refusal) {n : ℕ} → o ≡ Refused r → n ≡ numberOf r * 256 → Obeys rule command before after (obeyedAs n) × (n < 1280)
   refused-number r {n} e f =
-      let i : r ≡ Improper = subst (Obeys command before after) e w .1 in
+      let i : r ≡ Improper = subst (Obeys rule command before after) e w .1 in
       let m : n ≡ 1024 = f ∙ ap (λ (x : Refusal). numberOf x * 256) i in
-      (subst (Obeys command before after) (e ∙ ap Refused i ∙ ap obeyedAs (sym m)) w, omega arith)
+      (subst (Obeys rule command before after) (e ∙ ap Refused i ∙ ap obeyedAs (sym m)) w, omega arith)
 
 -- a code that no row answers
-pub turned-down : (pending : Bool) (code : ℕ) (before : List ℕ) (r : Refusal) {n : ℕ} → n ≡ numberOf r * 256 → numberOf r ≤ 4 → obeyedAs (numberOf r * 256) ≡ Refused r
-    → ((s : State) → s .stack ≡ before → s .pending ≡ pending → s .status < 128 → refused r s ≡ commandOf s code)
-    → Commanded pending code before before (obeyedAs n) × (n < 1280)
-turned-down pending code before r e h g f =
-    (subst (Commanded pending code before before) (sym (ap obeyedAs e ∙ g)) (record { answer-is = f; keeps = refl }), omega arith)
+pub turned-down : (rule : Rule) (pending : Bool) (code : ℕ) (before : List ℕ) (r : Refusal) {n : ℕ} → n ≡ numberOf r * 256 → numberOf r ≤ 4 → obeyedAs (numberOf r * 256) ≡ Refused r
+    → ((s : State) → s .stack ≡ before → s .pending ≡ pending → s .status < 128 → refused r s ≡ commandUnder rule s code)
+    → Commanded rule pending code before before (obeyedAs n) × (n < 1280)
+turned-down rule pending code before r e h g f =
+    (subst (Commanded rule pending code before before) (sym (ap obeyedAs e ∙ g)) (record { answer-is = f; keeps = refl }), omega arith)
 
 -- the number of a refusal
 pub number-of : (n : ℕ) → 1 ≤ n → n ≤ 4 → n ≡ numberOf (refusalOf n)
@@ -128,14 +130,14 @@ number-of (suc (suc (suc zero))) h k = refl
 number-of (suc (suc (suc (suc zero)))) h k = refl
 number-of (suc (suc (suc (suc (suc n))))) h k = let y : ⊥ = omega arith in absurd y
 
-module _ (stack after : List ℕ) (p : Bool) (t : ℕ) (v : Bool) (code : ℕ) (o : Obeyed) (h : t < 128) (w : Commanded p code stack after o) where
-  pub done-as : (status : ℕ) {x : Bool} → o ≡ Done status → x ≡ sr code → done 0 (held after p status x) ≡ commandOf (held stack p t v) code
+module _ (rule : Rule) (stack after : List ℕ) (p : Bool) (t : ℕ) (v : Bool) (code : ℕ) (o : Obeyed) (h : t < 128) (w : Commanded rule p code stack after o) where
+  pub done-as : (status : ℕ) {x : Bool} → o ≡ Done status → x ≡ sr code → done 0 (held after p status x) ≡ commandUnder rule (held stack p t v) code
   done-as status e f =
       ap (λ (y : Bool). done 0 (held after p status y)) f
       ∙ ap (answerObeyed (held stack p t v) code after) (sym e)
       ∙ w .answer-is (held stack p t v) refl refl h
 
-  pub refused-as : (r : Refusal) → o ≡ Refused r → refused r (held after p t v) ≡ commandOf (held stack p t v) code
+  pub refused-as : (r : Refusal) → o ≡ Refused r → refused r (held after p t v) ≡ commandUnder rule (held stack p t v) code
   refused-as r e =
       ap (λ (l : List ℕ). refused r (held l p t v)) (subst (Keeps stack after) e (w .keeps))
       ∙ ap (answerObeyed (held stack p t v) code after) (sym e)

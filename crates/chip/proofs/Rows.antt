@@ -9,6 +9,7 @@ use Rattle.terms.specs.declared.Width.{Width}
 use Rattle.terms.specs.declared.Width.the-variants.{Single, Double}
 use Rattle.terms.specs.Width.{sizeOf}
 use Rattle.fixed.specs.declared.Fixed.{Fixed}
+use Rattle.terms.specs.declared.Rule.{Rule}
 use Rattle.float.specs.declared.Flagged.{Flagged}
 use Rattle.float.specs.Word.{proper}
 use Rattle.float.specs.Convert.{flts, fltd, fixs, fixd, chsf}
@@ -16,11 +17,11 @@ use Rattle.float.specs.Root.{sqrt}
 use Rattle.stack.specs.Stack.{tos, overA, overZero, replaced, converted, widened, narrowed}
 use Rattle.codes.specs.declared.FloatOp.{FloatOp}
 use Rattle.codes.specs.declared.Command.{Command}
-use Rattle.codes.specs.declared.Command.the-variants.{Fix, Chsf, Flt, Sqrt}
+use Rattle.codes.specs.declared.Command.the-variants.{Flt, Sqrt}
 use Rattle.chip.specs.State.{CommandOutcome, left}
 use Rattle.chip.specs.declared.commands.Obeyed.{Obeyed}
 use Rattle.chip.specs.Status.{sign, statusOf}
-use Rattle.chip.specs.Commands.{baseRule, wordA, wordB, halfOf, ends, moves, keepsA, losesA, changesA, floats, converts, widens, narrows, roots, floatOf, outcomeOf}
+use Rattle.chip.specs.Commands.{wordA, wordB, halfOf, ends, moves, keepsA, losesA, changesA, floats, converts, widens, narrows, roots, floatOf, outcomeOf}
 use Rattle.chip.specs.Place.{Obeys}
 use Rattle.chip.proofs.Errors.{float-result}
 
@@ -51,9 +52,9 @@ of-words row f s ev eb ea er eo = rw (ev, eo, er, eb, ea)
 pub of-word : (row : Width → List ℕ → Fixed → CommandOutcome) (f : ℕ → ℕ → Fixed) (s : List ℕ) {v w : Width} {a : ℕ} {r : Fixed} {o : CommandOutcome} → v ≡ w → a ≡ wordA w s → r ≡ f (halfOf w) a → o ≡ row w s r → o ≡ row v s (f (halfOf v) (wordA v s))
 of-word row f s ev ea er eo = rw (ev, eo, er, ea)
 
-pub float-row : (op : FloatOp) (s : List ℕ) {t : List ℕ} {b a : ℕ} {r : Flagged} {x : ℕ} → b ≡ wordB Double s → a ≡ wordA Double s → r ≡ floatOf baseRule op b a → t ≡ overZero 4 s (r .word) → x ≡ statusOf Double t (r .error) false → left t x ≡ floats s (floatOf baseRule op (wordB Double s) (wordA Double s))
+pub float-row : (rule : Rule) (op : FloatOp) (s : List ℕ) {t : List ℕ} {b a : ℕ} {r : Flagged} {x : ℕ} → b ≡ wordB Double s → a ≡ wordA Double s → r ≡ floatOf rule op b a → t ≡ overZero 4 s (r .word) → x ≡ statusOf Double t (r .error) false → left t x ≡ floats s (floatOf rule op (wordB Double s) (wordA Double s))
 unfolding floats
-float-row op s eb ea er et ex = rw (ex, et, er, eb, ea)
+float-row rule op s eb ea er et ex = rw (ex, et, er, eb, ea)
 
 -- a row of two shapes, by whether there is an error
 without-error : (x y : CommandOutcome) (e : ℕ) → e ≡ 0 → x ≡ cond (eqb e 0) x y
@@ -63,41 +64,41 @@ with-error : (x y : CommandOutcome) (e : ℕ) → (e ≡ 0 → ⊥) → y ≡ co
 with-error x y e nz = rw (ne-eqb e 0 nz)
 
 module _ (s : List ℕ) {t : List ℕ} {a x : ℕ} {r : Flagged} where
-  pub fltd-row : a ≡ wordA Double s → r ≡ fltd baseRule a → t ≡ converted s (r .word) → x ≡ statusOf Double t (r .error) false → left t x ≡ outcomeOf baseRule (Flt Double) s
+  pub fltd-row : (rule : Rule) → a ≡ wordA Double s → r ≡ fltd rule a → t ≡ converted s (r .word) → x ≡ statusOf Double t (r .error) false → left t x ≡ outcomeOf rule (Flt Double) s
   unfolding converts
-  fltd-row ea er et ex = rw (ex, et, er, ea)
+  fltd-row rule ea er et ex = rw (ex, et, er, ea)
 
-  pub flts-row : a ≡ wordA Single s → r ≡ flts baseRule a → t ≡ widened s (r .word) → x ≡ statusOf Double t (r .error) false → left t x ≡ outcomeOf baseRule (Flt Single) s
+  pub flts-row : a ≡ wordA Single s → r ≡ flts a → t ≡ widened s (r .word) → x ≡ statusOf Double t (r .error) false → left t x ≡ widens s (flts (wordA Single s))
   unfolding widens
   flts-row ea er et ex = rw (ex, et, er, ea)
 
-  pub fixd-row : a ≡ wordA Double s → r ≡ fixd a → t ≡ converted s (r .word) → x ≡ statusOf Double t (r .error) false → left t x ≡ outcomeOf baseRule (Fix Double) s
+  pub fixd-row : a ≡ wordA Double s → r ≡ fixd a → t ≡ converted s (r .word) → x ≡ statusOf Double t (r .error) false → left t x ≡ converts s (fixd (wordA Double s))
   unfolding converts
   fixd-row ea er et ex = rw (ex, et, er, ea)
 
-  pub fixs-row : a ≡ wordA Double s → r ≡ fixs a → r .error ≡ 0 → t ≡ narrowed s (r .word) → x ≡ statusOf Single t 0 false → left t x ≡ outcomeOf baseRule (Fix Single) s
+  pub fixs-row : a ≡ wordA Double s → r ≡ fixs a → r .error ≡ 0 → t ≡ narrowed s (r .word) → x ≡ statusOf Single t 0 false → left t x ≡ narrows s (fixs (wordA Double s))
   unfolding narrows
   fixs-row ea er z et ex =
       ap (left t) ex ∙ ap (λ (l : List ℕ). ends Single l 0 false) et
       ∙ without-error _ _ (r .error) z ∙ ap (narrows s) (er ∙ ap fixs ea)
 
-  pub over-row : a ≡ wordA Double s → r ≡ fixs a → (r .error ≡ 0 → ⊥) → t ≡ converted s (r .word) → x ≡ statusOf Double t (r .error) false → left t x ≡ outcomeOf baseRule (Fix Single) s
+  pub over-row : a ≡ wordA Double s → r ≡ fixs a → (r .error ≡ 0 → ⊥) → t ≡ converted s (r .word) → x ≡ statusOf Double t (r .error) false → left t x ≡ narrows s (fixs (wordA Double s))
   unfolding narrows
   over-row ea er nz et ex =
       ap (left t) ex ∙ ap (λ (l : List ℕ). ends Double l (r .error) false) et
       ∙ with-error _ _ (r .error) nz ∙ ap (narrows s) (er ∙ ap fixs ea)
 
-  pub root-row : a ≡ wordA Double s → r ≡ sqrt baseRule a → r .error ≡ 0 → t ≡ converted s (r .word) → x ≡ statusOf Double t 0 false → left t x ≡ outcomeOf baseRule Sqrt s
+  pub root-row : (rule : Rule) → a ≡ wordA Double s → r ≡ sqrt rule a → r .error ≡ 0 → t ≡ converted s (r .word) → x ≡ statusOf Double t 0 false → left t x ≡ outcomeOf rule Sqrt s
   unfolding roots
-  root-row ea er z et ex =
+  root-row rule ea er z et ex =
       ap (left t) ex ∙ ap (λ (l : List ℕ). ends Double l 0 false) et
-      ∙ without-error _ _ (r .error) z ∙ ap (roots s) (er ∙ ap (sqrt baseRule) ea)
+      ∙ without-error _ _ (r .error) z ∙ ap (roots s) (er ∙ ap (sqrt rule) ea)
 
-pub no-root-row : (s : List ℕ) {a x : ℕ} {r : Flagged} → a ≡ wordA Double s → r ≡ sqrt baseRule a → (r .error ≡ 0 → ⊥) → x ≡ statusOf Double s (r .error) false → left s x ≡ outcomeOf baseRule Sqrt s
+pub no-root-row : (rule : Rule) (s : List ℕ) {a x : ℕ} {r : Flagged} → a ≡ wordA Double s → r ≡ sqrt rule a → (r .error ≡ 0 → ⊥) → x ≡ statusOf Double s (r .error) false → left s x ≡ outcomeOf rule Sqrt s
 unfolding roots
-no-root-row s {r = r} ea er nz ex = ap (left s) ex ∙ with-error _ _ (r .error) nz ∙ ap (roots s) (er ∙ ap (sqrt baseRule) ea)
+no-root-row rule s {r = r} ea er nz ex = ap (left s) ex ∙ with-error _ _ (r .error) nz ∙ ap (roots s) (er ∙ ap (sqrt rule) ea)
 
-pub chsf-row : (s : List ℕ) {t : List ℕ} {a x y : ℕ} → a ≡ wordA Double s → y ≡ chsf a → t ≡ replaced 4 s y → x ≡ statusOf Double t 0 false → left t x ≡ outcomeOf baseRule Chsf s
+pub chsf-row : (s : List ℕ) {t : List ℕ} {a x y : ℕ} → a ≡ wordA Double s → y ≡ chsf a → t ≡ replaced 4 s y → x ≡ statusOf Double t 0 false → left t x ≡ moves Double (replaced 4 s (chsf (wordA Double s)))
 chsf-row s ea ey et ex = rw (ex, et, ey, ea)
 
 -- words moved, copied or pushed
@@ -123,11 +124,11 @@ pub both : (p q : Bool) → p ≡ true → q ≡ true → (p && q) ≡ true
 both p q e f = rw (e, f)
 
 -- a row holds of the command that was found to be its own
-pub obeys-as : {k l : Command} (before after : List ℕ) (o : Obeyed) → k ≡ l → Obeys l before after o → Obeys k before after o
-obeys-as before after o e = subst (λ (x : Command). Obeys x before after o) (sym e)
+pub obeys-as : (rule : Rule) {k l : Command} (before after : List ℕ) (o : Obeyed) → k ≡ l → Obeys rule l before after o → Obeys rule k before after o
+obeys-as rule before after o e = subst (λ (x : Command). Obeys rule x before after o) (sym e)
 
 -- an operation that was found to be its own, on B and A
-pub float-of : (b a : ℕ) {op of : FloatOp} {r : Flagged} → b < 4294967296 → proper b ≡ true → op ≡ of → r ≡ floatOf baseRule of b a → (r ≡ floatOf baseRule op b a) × (r .error < 16)
-float-of b a {op} l p e f =
-    let g = f ∙ sym (ap (λ (x : FloatOp). floatOf baseRule x b a) e) in
-    (g, subst (λ (x : Flagged). x .error < 16) (sym g) (float-result baseRule op b a (record { fits = l; is-proper = p }) .small))
+pub float-of : (rule : Rule) (b a : ℕ) {op of : FloatOp} {r : Flagged} → b < 4294967296 → proper b ≡ true → op ≡ of → r ≡ floatOf rule of b a → (r ≡ floatOf rule op b a) × (r .error < 16)
+float-of rule b a {op} l p e f =
+    let g = f ∙ sym (ap (λ (x : FloatOp). floatOf rule x b a) e) in
+    (g, subst (λ (x : Flagged). x .error < 16) (sym g) (float-result rule op b a (record { fits = l; is-proper = p }) .small))

@@ -74,9 +74,13 @@ answerTo on s Status = readOf s
 answerTo on s Reset = resetOf (on .mode) s
 answerTo on s Acknowledge = acknowledgeOf s
 
+-- a mode and a rule
+abbrev pub given : Mode → Rule → Settings
+given mode rule = record { mode = mode; rule = rule }
+
 -- a mode, and the one rule of the base
 abbrev pub under : Mode → Settings
-under mode = record { mode = mode; rule = baseRule }
+under mode = given mode baseRule
 
 abbrev pub eventOf : Mode → State → Event → Answer
 eventOf mode s e = answerTo (under mode) s e

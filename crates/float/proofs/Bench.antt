@@ -25,7 +25,7 @@ results =
     ∷ mul Cut 0 0x81800000
     ∷ div Cut 0 0x81800000
     ∷ div Cut 0 0
-    ∷ flts Cut 0x8000
+    ∷ flts 0x8000
     ∷ fltd Cut 0x80000000
     ∷ fixs 0x0fffff00
     ∷ fixd 0x00800000

@@ -6,7 +6,7 @@ use mathlib.Core.Bool.{Bool, true, false, not}
 use Prim.Native.Nat.{ℕ, suc, _+_, _-_, _*_, _/_, _%_, _^_, _≤_, _<_, compare, Ordering, Ordering·lt, Ordering·eq, Ordering·gt}
 use native.Mathlib.Nat.{le-refl, le-trans, le-of-eq, lt-of-lt-of-le, lt-of-not-le, not-le-of-lt, mul-comm, mul-assoc, mul-one, one-mul, mul-pos, mul-le-mul-left, mul-le-mul-right, mul-lt-mul-of-pos-right, le-of-mul-le-mul-right, lt-of-mul-lt-mul-right, div-eq-of-lt-le, div-add-mod', mod-lt, add-zero, eq-zero-or-pos, zero-mul}
 use native.Mathlib.Omega.{arith}
-use lib.Dec.{T, isLe, isEq, ltb, leb→le, nleb→lt, eqb→eq, ltb→lt, nltb→le, lit<}
+use lib.Dec.{T, isLe, isEq, eqb, eqb-refl, ltb, leb→le, nleb→lt, eqb→eq, ltb→lt, nltb→le, lit<}
 use borrow.Author.Tests.{lt-ltb}
 use lib.Pow.{pow-add, pow-pos, pow-mono}
 use lib.Ieee.{nearest, size}
@@ -42,6 +42,14 @@ compare-gt a b h = go (compare a b) (leb→le a b)
     go Ordering·lt e = let x : a ≤ b = e tt in absurd (omega arith)
     go Ordering·eq e = let x : a ≤ b = e tt in absurd (omega arith)
     go Ordering·gt e = refl
+
+pub compare-eq : (a b : ℕ) → a ≡ b → compare a b ≡ Ordering·eq
+compare-eq a b h = go (compare a b) (subst (λ (x : ℕ). T (eqb a x)) h (eqb-refl a))
+  where
+    go : (o : Ordering) → T (isEq o) → o ≡ Ordering·eq
+    go Ordering·lt t = absurd t
+    go Ordering·eq t = refl
+    go Ordering·gt t = absurd t
 
 -- ---- t odd, p = 4 * h: n / (u * p) and t / p become the same whole number under either rule
 even-whole : (t q h r : ℕ) → q * (4 * h) + r ≡ t → t % 2 ≡ 1 → r < 4 * h → (1 ≤ r) × (r + 1 ≤ 4 * h) × ((r + 1 ≤ 2 * h) ⊎ (2 * h + 1 ≤ r))

@@ -2,6 +2,7 @@
 pub mod Powers
 pub mod Pair
 pub mod Jams
+pub mod NearWhole
 pub mod Signs
 pub mod Proper
 pub mod SumStands
@@ -13,6 +14,9 @@ pub mod Order
 pub mod Results
 pub mod SignChange
 pub mod OnePair
+pub mod Nearest
+pub mod RulePair
+pub mod NoNearer
 pub mod Steps
 pub mod Kept
 pub mod Conversions
@@ -20,5 +24,7 @@ pub mod Moved
 pub mod WholeRoot
 pub mod Means
 pub mod RootCut
+pub mod NearRoot
 pub mod RootExact
 pub mod Bench
+pub mod NearBench

@@ -9,9 +9,10 @@ use lib.IntN.{ℤ, pos, negℤ, subℕ, _+ℤ_, _-ℤ_}
 use lib.Signed.{_≤ℤ_}
 use lib.Ieee.{up, down}
 use Rattle.whole.proofs.Differences.{either, above, beneath, parts, le-differences, less-difference}
+use Rattle.terms.specs.declared.Rule.{Rule}
 use Rattle.float.specs.declared.Flagged.{Flagged}
 use Rattle.float.specs.Word.{biased, exponent, mantissa, size88}
-use Rattle.float.specs.Exact.{Steps, Cuts, IsSize}
+use Rattle.float.specs.Exact.{Steps, CutsBy, IsSize}
 use Rattle.float.proofs.OnePair.{scale}
 
 -- the magnitude of every word is m * 2 ^ (e - 24)
@@ -69,7 +70,7 @@ module _ (e : ℤ) (r : Flagged) (s : Steps e r) where
       go (inr (inr w)) = (w, s .under w .1)
 
 -- ---- the value of a cut
-module _ {z : ℤ} {d : ℕ} {lo hi : ℤ} {r : Flagged} (c : Cuts z d lo hi r) where
+module _ {rule : Rule} {z : ℤ} {d : ℕ} {lo hi : ℤ} {r : Flagged} (c : CutsBy rule z d lo hi r) where
   sized : (e : ℤ) → exponent (r .word) ≡ e → IsSize (size88 (r .word)) (c .m) e
   sized e h = subst₂ (λ (m : ℕ) (x : ℤ). IsSize (size88 (r .word)) m x) (c .digits) h (word-size (r .word))
 

@@ -31,16 +31,16 @@ scale k J = ⊎-elim small large (either k J)
         count : k - J + J ≡ k
         count = omega arith
 
-down-pos : (x : ℤ) → 0 < down x
+pub down-pos : (x : ℤ) → 0 < down x
 down-pos (pos k) = omega arith
 down-pos (negsuc k) = pow-pos (suc k)
 
 -- ---- products at the fraction and at the scale
 module _ (c n k J : ℕ) (x : ℤ) (X : x ≡ subℕ k J) where
-  scaled : c * up x * 2 ^ J ≡ c * 2 ^ k * down x
+  pub scaled : c * up x * 2 ^ J ≡ c * 2 ^ k * down x
   scaled = mul-assoc c (up x) (2 ^ J) ∙ ap (λ (y : ℕ). c * y) (ap (λ (z : ℤ). up z * 2 ^ J) X ∙ scale k J ∙ ap (λ (z : ℤ). 2 ^ k * down z) (sym X)) ∙ sym (mul-assoc c (2 ^ k) (down x))
 
-  other : n * down x * 2 ^ J ≡ n * 2 ^ J * down x
+  pub other : n * down x * 2 ^ J ≡ n * 2 ^ J * down x
   other = mul-right-comm n (down x) (2 ^ J)
 
   pub to-le : c * up x ≤ n * down x → c * 2 ^ k ≤ n * 2 ^ J

@@ -12,6 +12,7 @@ use lib.Pow.{pow-pos, pow-mono}
 use Rattle.float.specs.declared.Flagged.{Flagged}
 use Rattle.float.specs.Word.{biased, mantissa, size88, FloatWord}
 use Rattle.terms.specs.declared.Rule.{Rule}
+use Rattle.terms.specs.declared.Rule.the-variants.{Cut}
 use Rattle.float.specs.Cut.{lost, kept, whole, mantissaOf, digitsOf, packed, stored, zeroWord, below0, cutSize, cut}
 use Rattle.float.specs.Float.{exactSum, exactDifference, exactProduct, dividend, divisor, add, sub, mul, div, Result}
 use Rattle.float.specs.Convert.{integer, fltd, flts}
@@ -103,6 +104,6 @@ pub fltd-result : (r : Rule) (a : ℕ) → Result (fltd r a)
 unfolding fltd
 fltd-result r a = exact-result r (integer (2 ^ 31) a) 1 (le-refl 1) (lit≤ {m = 8388608 * 1} {n = 2 ^ 200} tt)
 
-pub flts-result : (r : Rule) (a : ℕ) → Result (flts r a)
+pub flts-result : (a : ℕ) → Result (flts a)
 unfolding flts
-flts-result r a = exact-result r (integer (2 ^ 15) a) 1 (le-refl 1) (lit≤ {m = 8388608 * 1} {n = 2 ^ 200} tt)
+flts-result a = exact-result Cut (integer (2 ^ 15) a) 1 (le-refl 1) (lit≤ {m = 8388608 * 1} {n = 2 ^ 200} tt)

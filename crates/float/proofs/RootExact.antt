@@ -1,10 +1,11 @@
--- SQRT gives the one pair of the root and no error, keeps the order of words not below zero, and is exact where the root is a word. Assumes nothing.
+-- SQRT gives the one pair of the root and no error, under either rule, keeps the order of words not below zero, and is exact where the root is a word. Assumes nothing.
 use mathlib.Core.Path.{_≡_, refl, sym, ap, ap₂, _∙_, subst, subst₂}
 use mathlib.Core.Logic.{_⊎_, inl, inr}
 use mathlib.Core.Bool.{Bool, true, false}
-use Prim.Native.Nat.{ℕ, _+_, _*_, _^_, _≤_, _<_}
+use Prim.Native.Nat.{ℕ, _+_, _-_, _*_, _^_, _≤_, _<_}
 use native.Mathlib.Nat.{le-refl, le-trans, le-of-eq, lt-of-lt-of-le, lt-of-le-of-lt, eq-zero-or-pos, mul-assoc, mul-comm, mul-one, mul-mul-mul-comm, mul-le-mul, mul-le-mul-left, mul-le-mul-right, mul-lt-mul-of-pos-right, le-of-mul-le-mul-right, lt-of-mul-lt-mul-right}
 use native.Mathlib.Omega.{arith}
+use borrow.Author.Tests.{lt-ltb}
 use lib.Dec.{lit<, lit≤}
 use lib.IntN.{ℤ, pos, subℕ, _+ℤ_, _-ℤ_, _*ℤ_, -ℤ-+ℤ-cancel}
 use lib.Signed.{_≤ℤ_}
@@ -15,20 +16,22 @@ use Rattle.whole.proofs.Differences.{sum-differences, same, above, beneath, par
 use Rattle.float.specs.declared.Flagged.{Flagged}
 use Rattle.float.specs.Word.{negative, size88, value, proper, FloatWord}
 use Rattle.terms.specs.declared.Rule.{Rule}
-use Rattle.terms.specs.declared.Rule.the-variants.{Cut}
-use Rattle.float.specs.Cut.{lost, kept, digitsOf, stored, cutSize}
+use Rattle.terms.specs.declared.Rule.the-variants.{Cut, Nearest}
+use Rattle.float.specs.Cut.{lost, kept, mantissaOf, digitsOf, stored, cutSize}
+use Rattle.float.specs.Nearest.{Marks}
 use Rattle.float.specs.Float.{Result}
 use Rattle.float.specs.Order.{Le}
-use Rattle.float.specs.Root.{wholeRoot, rootHalves, radicand, sqrt, squareExponent, RootPair, RootCuts, ExactlyRoot}
+use Rattle.float.specs.Root.{wholeRoot, rootHalves, radicand, sqrt, squareExponent, RootPair, SquareMarks, RootBy, RootCutsBy, ExactlyRootBy}
 use Rattle.float.proofs.Powers.{parted}
 use Rattle.float.proofs.Signs.{signed-le, le-signed, cut-scaled}
-use Rattle.float.proofs.Pair.{PairAt, cuts-only, cuts-one, cut-of, grid-mono}
+use Rattle.float.proofs.Pair.{PairAt, kept-le, cuts-only, cuts-one, grid-mono}
 use Rattle.float.proofs.Jams.{stands-cut}
 use Rattle.float.proofs.OnePair.{to-le, from-le, to-lt, from-lt}
-use Rattle.float.proofs.Values.{packed-mantissa, packed-sign, error-in, cut-stored, cut-value}
-use Rattle.float.proofs.Steps.{steps, lost-least, lost-most, size-lt, size-ge}
-use Rattle.float.proofs.Results.{zero-result, cut-result}
-use Rattle.float.proofs.Conversions.{digits-near}
+use Rattle.float.proofs.Values.{packed-mantissa, packed-sign, digits-near, cut-stored, cut-value}
+use Rattle.float.proofs.Steps.{steps, lost-least, place-most, size-lt, size-ge}
+use Rattle.float.proofs.Results.{zero-result, cut-result, kept-big, mantissa-big}
+use Rattle.float.proofs.Nearest.{near-one}
+use Rattle.float.proofs.NearRoot.{squares-of, near-at, one-near-root}
 use Rattle.float.proofs.Kept.{own-value}
 use Rattle.float.proofs.WholeRoot.{is-root, root-ge, root-lt, halves-square, halves-near, halves-mono}
 use Rattle.float.proofs.RootCut.{root-negative, root-cut, root-none}
@@ -119,14 +122,15 @@ root-low a h =
     let c = halves-near N .0 in
     le-trans (le-of-eq (mul-comm (2 ^ 167) 2)) (le-trans (mul-le-mul-left 2 s) c)
 
-root-high : (a : ℕ) → rootHalves (radicand a) < 2 ^ (24 + 208) * 2
-root-high a =
+root-most : (a : ℕ) → rootHalves (radicand a) ≤ 16777215 * 2 ^ 208 * 2
+root-most a =
     let N = radicand a in
-    let s : wholeRoot N < 2 ^ 232 = root-lt N (wholeRoot N) (2 ^ 232) (is-root N) (lt-of-lt-of-le (mul-lt-mul-of-pos-right (size-lt a) (pow-pos 312)) (lit≤ {m = 2 ^ 151 * 2 ^ 312} {n = 2 ^ 232 * 2 ^ 232} tt)) in
+    let s : wholeRoot N < 16777215 * 2 ^ 208 =
+    root-lt N (wholeRoot N) (16777215 * 2 ^ 208) (is-root N) (lt-of-lt-of-le (mul-lt-mul-of-pos-right (size-lt a) (pow-pos 312)) (lit≤ {m = 2 ^ 151 * 2 ^ 312} {n = 16777215 * 2 ^ 208 * (16777215 * 2 ^ 208)} tt)) in
     let c = halves-near N .1 in
-    under (wholeRoot N) (rootHalves N) (2 ^ 232) s c
+    under (wholeRoot N) (rootHalves N) (16777215 * 2 ^ 208) s c
   where
-    under : (s h p : ℕ) → s < p → h ≤ 2 * s + 1 → h < p * 2
+    under : (s h p : ℕ) → s < p → h ≤ 2 * s + 1 → h ≤ p * 2
     under s h p x y = omega arith
 
 halves-pair : (N m k : ℕ) → PairAt (rootHalves N) 2 m k → PairAt (wholeRoot N) 1 m k
@@ -137,55 +141,79 @@ halves-pair N m k p =
     let hi = halves-near N .1 in
     (p .0, p .1, omega arith, omega arith)
 
--- ---- SQRT under the base's rule: the one pair, no error, e from -32 to 32
-root-is : (a : ℕ) → negative a ≡ false → 2 ^ 23 ≤ size88 a → RootCuts (size88 a) (sqrt Cut a)
-root-is a s h =
+-- ---- SQRT under either rule: the one pair, no error, e from -32 to 32
+root-pair : (r : Rule) (a : ℕ) → 8388608 * 2 ≤ rootHalves (radicand a) → 2 ≤ digitsOf (kept r (rootHalves (radicand a)) 2) (lost (rootHalves (radicand a)) 2)
+    → RootBy r (size88 a) (mantissaOf (kept r (rootHalves (radicand a)) 2)) (subℕ (digitsOf (kept r (rootHalves (radicand a)) 2) (lost (rootHalves (radicand a)) 2)) 176)
+root-pair Cut a big two =
     let n = rootHalves (radicand a) in
+    let c = cuts-one n 2 (lit< tt) big in
     let m = kept Cut n 2 in
     let k = lost n 2 in
-    let lo = lost-least n 2 144 (lit< tt) (root-low a h) in
-    let hi = lost-most n 2 208 (lit< tt) (root-high a) in
-    let big : 8388608 * 2 ≤ n = le-trans (lit≤ {m = 8388608 * 2} {n = 2 ^ (23 + 144) * 2} tt) (root-low a h) in
-    let c = cuts-one n 2 (lit< tt) big in
-    let e : sqrt Cut a ≡ stored false m k = root-cut Cut a s ∙ cut-of Cut false n 2 m k (lt-of-lt-of-le (lit< {m = 0} {n = 8388608 * 2} tt) big) (c .1) (refl, refl) in
-    let w = steps false m k (c .1) (lt-of-le-of-lt hi (lit< tt)) .within (le-differences 112 176 k 176 (omega arith)) (le-differences k 176 239 176 (omega arith)) in
-    subst (λ (r : Flagged). RootCuts (size88 a) r) (sym e)
+    let t = lt-ltb m 16777216 (c .1) in
+    let M : mantissaOf m ≡ m = rw t refl in
+    let K : digitsOf m k ≡ k = rw t refl in
+    subst₂ (λ (x y : ℕ). RootPair (size88 a) x (subℕ y 176)) (sym M) (sym K)
+    (at-exponent (size88 a) m k 156 (subℕ k 176) (less-difference k 176 24) (c .0) (c .1) (pair-whole (size88 a) 156 m k (halves-pair (radicand a) m k c)))
+root-pair Nearest a big two =
+    let n = rootHalves (radicand a) in
+    let w = near-one n 2 (lit< tt) big in
+    let m = mantissaOf (kept Nearest n 2) in
+    let k = digitsOf (kept Nearest n 2) (lost n 2) in
+    let e : k ≡ k - 2 + 2 = omega arith in
+    record {
+      low = w .low;
+      high = w .high;
+      marks =
+          near-at (size88 a) m k 156 (subℕ k 176) (less-difference k 176 24)
+          (subst (λ (x : ℕ). SquareMarks (radicand a) (2 ^ x * 2 ^ x) m) (sym e) (squares-of (radicand a) m (k - 2) (subst (λ (x : ℕ). Marks n (2 * 2 ^ x) m) e (w .marks))));
+    }
+
+root-is : (r : Rule) (a : ℕ) → negative a ≡ false → 2 ^ 23 ≤ size88 a → RootCutsBy r (size88 a) (sqrt r a)
+root-is r a s h =
+    let n = rootHalves (radicand a) in
+    let q = kept r n 2 in
+    let m = mantissaOf q in
+    let k = digitsOf q (lost n 2) in
+    let low = root-low a h in
+    let lo : 144 ≤ k = le-trans (lost-least n 2 144 (lit< tt) low) (digits-near q (lost n 2) .0) in
+    let big : 8388608 * 2 ≤ n = le-trans (lit≤ {m = 8388608 * 2} {n = 2 ^ (23 + 144) * 2} tt) low in
+    let hi : k ≤ 208 = place-most r n 2 208 (lit< tt) big (root-most a) in
+    let M = mantissa-big q (kept-big r n 2 (lit< tt) big) (kept-le r n 2) .1 in
+    let e : sqrt r a ≡ stored false m k = root-cut r a s ∙ cut-stored r false n 2 (lt-of-lt-of-le (lit< {m = 0} {n = 8388608 * 2} tt) big) in
+    let w = steps false m k M (lt-of-le-of-lt hi (lit< tt)) .within (le-differences 112 176 k 176 (omega arith)) (le-differences k 176 239 176 (omega arith)) in
+    subst (λ (x : Flagged). RootCutsBy r (size88 a) x) (sym e)
     (record {
       m = m;
       e = subℕ k 176;
-      pair = at-exponent (size88 a) m k 156 (subℕ k 176) (less-difference k 176 24) (c .0) (c .1) (pair-whole (size88 a) 156 m k (halves-pair (radicand a) m k c));
-      sign = packed-sign false m k (c .1);
-      digits = packed-mantissa false m k (c .1);
+      pair = root-pair r a big (le-trans (lit≤ {m = 2} {n = 144} tt) lo);
+      sign = packed-sign false m k M;
+      digits = packed-mantissa false m k M;
       place = w .1;
       none = w .0;
       at-least = le-differences 144 176 k 176 (omega arith);
       at-most = le-differences k 176 208 176 (omega arith);
     })
 
-pub root-exactly : (a : ℕ) → proper a ≡ true → ExactlyRoot a (sqrt Cut a)
-root-exactly a p = go (negative a) refl (eq-zero-or-pos (size88 a))
+pub root-exactly : (r : Rule) (a : ℕ) → proper a ≡ true → ExactlyRootBy r a (sqrt r a)
+root-exactly r a p = go (negative a) refl (eq-zero-or-pos (size88 a))
   where
-    go : (s : Bool) → negative a ≡ s → (size88 a ≡ 0) ⊎ (0 < size88 a) → ExactlyRoot a (sqrt Cut a)
-    go true s z = inr (inl (s, sym (root-negative Cut a s)))
-    go false s (inl z) = inl (z, root-none Cut a s z)
-    go false s (inr l) = inr (inr (s, root-is a s (size-ge a p l)))
+    go : (s : Bool) → negative a ≡ s → (size88 a ≡ 0) ⊎ (0 < size88 a) → ExactlyRootBy r a (sqrt r a)
+    go true s z = inr (inl (s, sym (root-negative r a s)))
+    go false s (inl z) = inl (z, root-none r a s z)
+    go false s (inr l) = inr (inr (s, root-is r a s (size-ge a p l)))
 
--- ---- under either rule there is neither overflow nor underflow
+-- at most one pair, under either rule
+pub one-root-by : (r : Rule) (n m m' : ℕ) (e e' : ℤ) → RootBy r n m e → RootBy r n m' e' → (m ≡ m') × (e ≡ e')
+one-root-by Cut n m m' e e' p p' = one-root n m m' e e' p p'
+one-root-by Nearest n m m' e e' p p' = one-near-root n m m' e e' p p'
+
+-- so there is neither overflow nor underflow
 pub root-no-error : (r : Rule) (a : ℕ) → proper a ≡ true → negative a ≡ false → (sqrt r a) .error ≡ 0
 root-no-error r a p s = go (eq-zero-or-pos (size88 a))
   where
     go : (size88 a ≡ 0) ⊎ (0 < size88 a) → (sqrt r a) .error ≡ 0
     go (inl z) = ap (λ (x : Flagged). x .error) (root-none r a s z)
-    go (inr l) =
-        let n = rootHalves (radicand a) in
-        let b = root-low a (size-ge a p l) in
-        let lo = lost-least n 2 144 (lit< tt) b in
-        let hi = lost-most n 2 208 (lit< tt) (root-high a) in
-        let k = digits-near (kept r n 2) (lost n 2) in
-        let k0 = k .0 in
-        let k1 = k .1 in
-        ap (λ (x : Flagged). x .error) (root-cut r a s ∙ cut-stored r false n 2 (lt-of-lt-of-le (lit< {m = 0} {n = 2 ^ (23 + 144) * 2} tt) b))
-        ∙ error-in (digitsOf (kept r n 2) (lost n 2)) (omega arith) (omega arith)
+    go (inr l) = root-is r a s (size-ge a p l) .none
 
 pub root-result : (r : Rule) (a : ℕ) → FloatWord a → Result (sqrt r a)
 root-result r a A = go (negative a) refl (eq-zero-or-pos (size88 a))

@@ -1,9 +1,9 @@
 -- The fields and the error of a cut word, and its magnitude in fine units where no error is set. Assumes nothing.
-use mathlib.Core.Path.{_≡_, refl, sym, ap, ap₂, _∙_}
+use mathlib.Core.Path.{_≡_, refl, sym, ap, ap₂, _∙_, subst}
 use mathlib.Core.Logic.{_⊎_, inl, inr}
 use mathlib.Core.Bool.{Bool, true, false, cond}
 use Prim.Native.Nat.{ℕ, _+_, _-_, _*_, _%_, _^_, _≤_, _<_}
-use native.Mathlib.Nat.{le-refl, eq-zero-or-pos, zero-mul, mul-pos, zero-div}
+use native.Mathlib.Nat.{le-refl, eq-zero-or-pos, pos-of-ne-zero, zero-mul, mul-pos, zero-div, mod-eq-of-lt}
 use native.Mathlib.Omega.{arith}
 use borrow.Author.Tests.{lt-ltb, le-ltb, le-leb, lt-leb, ltb-true, ltb-false, leb-false}
 use lib.Dec.{ltb, leb}
@@ -15,7 +15,7 @@ use Rattle.terms.specs.declared.Rule.{Rule}
 use Rattle.terms.specs.declared.Rule.the-variants.{Cut, Nearest}
 use Rattle.float.specs.Cut.{whole, lost, kept, mantissaOf, digitsOf, packed, errorAt, stored, cutSize}
 use Rattle.float.proofs.Powers.{parted}
-use Rattle.float.proofs.Pair.{whole-same, kept-le, cut-zero}
+use Rattle.float.proofs.Pair.{whole-same, kept-le, normed, cut-zero}
 
 -- ---- the fields of a packed word
 pub packed-mantissa : (s : Bool) (m k : ℕ) → m < 16777216 → mantissa (packed s m k) ≡ m
@@ -60,6 +60,14 @@ pub error-in : (k : ℕ) → 112 ≤ k → k < 240 → errorAt k ≡ 0
 unfolding errorAt
 error-in k a b = rw (lt-leb 240 k b, le-ltb k 112 a)
 
+pub error-over : (k : ℕ) → 240 ≤ k → errorAt k ≡ 1
+unfolding errorAt
+error-over k h = rw (le-leb 240 k h)
+
+pub error-under : (k : ℕ) → k < 112 → errorAt k ≡ 2
+unfolding errorAt
+error-under k h = rw (lt-leb 240 k (omega arith), lt-ltb k 112 h)
+
 pub error-lt : (k : ℕ) → errorAt k < 16
 unfolding errorAt
 error-lt k = go (leb 240 k) (ltb k 112)
@@ -84,6 +92,19 @@ settled q k h = go (ltb q 16777216) (ltb-true q 16777216) (ltb-false q 16777216)
         let p : 2 ^ (k + 1) ≡ 2 ^ k * 2 = pow-add 2 k 1 in
         (ap (λ (x : ℕ). 8388608 * x) p ∙ sym (ap (λ (x : ℕ). x * 2 ^ k) e ∙ double (2 ^ k)), omega arith)
 
+pub digits-near : (q k : ℕ) → (k ≤ digitsOf q k) × (digitsOf q k ≤ k + 1)
+digits-near q k = go (ltb q 16777216)
+  where
+    go : (b : Bool) → (k ≤ cond b k (k + 1)) × (cond b k (k + 1) ≤ k + 1)
+    go true = (omega arith, omega arith)
+    go false = (omega arith, omega arith)
+
+pub settled-same : (s : Bool) (q k : ℕ) → q < 16777216 → stored s (mantissaOf q) (digitsOf q k) ≡ stored s q k
+settled-same s q k h = rw (lt-ltb q 16777216 h)
+
+pub settled-up : (s : Bool) (q k : ℕ) → 16777216 ≤ q → stored s (mantissaOf q) (digitsOf q k) ≡ stored s 8388608 (k + 1)
+settled-up s q k h = rw (le-ltb q 16777216 h)
+
 -- the cut's value in fine units, under either rule
 abbrev pub grid : Rule → ℕ → ℕ → ℕ
 grid r n d = kept r n d * 2 ^ lost n d
@@ -91,6 +112,22 @@ grid r n d = kept r n d * 2 ^ lost n d
 pub cut-stored : (r : Rule) (s : Bool) (n d : ℕ) → 0 < n → cutSize r s n d ≡ stored s (mantissaOf (kept r n d)) (digitsOf (kept r n d) (lost n d))
 unfolding cutSize
 cut-stored r s n d N = rw (lt-ltb 0 n N)
+
+-- what a program that brings the top bit to bit 63 by a shift s makes of mag * 2 ^ x: q of the 24 bits that are left, and k = x + 40 - s
+module _ (r : Rule) (mag x s : ℕ) (place : 24 ≤ x) (few : s < 64) (lo : 2 ^ 63 ≤ mag * 2 ^ s) (hi : mag * 2 ^ s < 2 ^ 64) where
+  top : (kept r (mag * 2 ^ x) 1 ≡ whole r (mag * 2 ^ s) (2 ^ 40)) × (lost (mag * 2 ^ x) 1 ≡ x + 40 - s)
+  top = normed r mag x s (x + 40 - s) (omega arith) lo hi
+
+  top-is : whole r (mag * 2 ^ s % 2 ^ 64) (2 ^ 40) ≡ kept r (mag * 2 ^ x) 1
+  top-is = ap (λ (y : ℕ). whole r y (2 ^ 40)) (mod-eq-of-lt hi) ∙ sym (top .0)
+
+  pub top-le : (q : ℕ) → q ≡ whole r (mag * 2 ^ s % 2 ^ 64) (2 ^ 40) → q ≤ 16777216
+  top-le q e = subst (λ (y : ℕ). y ≤ 16777216) (sym (e ∙ top-is)) (kept-le r (mag * 2 ^ x) 1)
+
+  pub top-cut : (neg : Bool) (q : ℕ) → (mag ≡ 0 → ⊥) → q ≡ whole r (mag * 2 ^ s % 2 ^ 64) (2 ^ 40) → stored neg (mantissaOf q) (digitsOf q (x + 40 - s)) ≡ cutSize r neg (mag * 2 ^ x) 1
+  top-cut neg q nz e =
+      ap₂ (λ (y k : ℕ). stored neg (mantissaOf y) (digitsOf y k)) (e ∙ top-is) (sym (top .1))
+      ∙ sym (cut-stored r neg (mag * 2 ^ x) 1 (mul-pos (pos-of-ne-zero nz) (pow-pos x)))
 
 whole-zero : (r : Rule) (d : ℕ) → 0 < d → whole r 0 d ≡ 0
 whole-zero Cut d D = zero-div d

@@ -8,21 +8,22 @@ use Rattle.terms.specs.Errors.{overflow}
 use Rattle.float.specs.declared.Flagged.{Flagged}
 use Rattle.float.specs.Word.{negative, mantissa, size88}
 use Rattle.terms.specs.declared.Rule.{Rule}
+use Rattle.terms.specs.declared.Rule.the-variants.{Cut}
 use Rattle.float.specs.Cut.{cut}
 
 -- the value of a number of two's complement of which half = 2 ^ (n - 1) is the least
 abbrev pub integer : ℕ → ℕ → ℤ
 integer half a = cond (leb half a) (withSign true (2 * half - a)) (withSign false a)
 
--- FLTD: A's value, cut to 24 bits
+-- FLTD: A's value, cut to 24 bits under a rule
 unfoldable pub fltd : Rule → ℕ → Flagged
 unfolding cut
 fltd r a = cut r (integer (2 ^ 31) a) 1
 
--- FLTS: A's value, of 16 bits
-unfoldable pub flts : Rule → ℕ → Flagged
+-- FLTS: A's value, of 16 bits, which no rule changes
+unfoldable pub flts : ℕ → Flagged
 unfolding cut
-flts r a = cut r (integer (2 ^ 15) a) 1
+flts a = cut Cut (integer (2 ^ 15) a) 1
 
 -- the whole part of the magnitude of a word
 unfoldable pub wholePart : ℕ → ℕ

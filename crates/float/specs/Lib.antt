@@ -1,6 +1,7 @@
--- Float words: what a word says, the cut, the four operations, the conversions, the root.
+-- Float words: what a word says, the cut under either rule, the four operations, the conversions, the root.
 pub mod Word
 pub mod Cut
+pub mod Nearest
 pub mod Float
 pub mod Convert
 pub mod Root

@@ -4,9 +4,9 @@ use super::cut::cut_word;
 use super::word::biased_of;
 use super::word::is_negative;
 use super::word::mantissa_of;
+use terms::Rule;
 ghost use mathlib.Core.Path.{_≡_};
 ghost use Prim.Native.Nat.{_≤_, _<_};
-ghost use Rattle.terms.specs.declared.Rule.the-variants.{Cut};
 ghost use Rattle.float.specs.Convert.{fltd, flts, wholePart, fix, fixd, fixs, chsf};
 
 // A whole number's unit is so many places above the fine unit.
@@ -17,23 +17,23 @@ const WHOLE: u32 = 88;
 const BELOW_ONE: u32 = 64;
 
 // FLTD: a number of 32 bits in two's complement, cut to a word.
-pub fn fltd(a: u32) -> Flagged
-    ensures { λ r. ⌜ r ≡ fltd Cut a ⌝ }
+pub fn fltd(rule: Rule, a: u32) -> Flagged
+    ensures { λ r. ⌜ r ≡ fltd rule a ⌝ }
 {
     if 0x8000_0000 <= a {
-        return cut_word(true, 0x1_0000_0000 - (a as u64), WHOLE_UNIT);
+        return cut_word(rule, true, 0x1_0000_0000 - (a as u64), WHOLE_UNIT);
     }
-    cut_word(false, a as u64, WHOLE_UNIT)
+    cut_word(rule, false, a as u64, WHOLE_UNIT)
 }
 
 // FLTS: a number of 16 bits in two's complement, as a word.
 pub fn flts(a: u16) -> Flagged
-    ensures { λ r. ⌜ r ≡ flts Cut a ⌝ }
+    ensures { λ r. ⌜ r ≡ flts a ⌝ }
 {
     if 0x8000 <= a {
-        return cut_word(true, 0x1_0000 - (a as u64), WHOLE_UNIT);
+        return cut_word(Rule::Cut, true, 0x1_0000 - (a as u64), WHOLE_UNIT);
     }
-    cut_word(false, a as u64, WHOLE_UNIT)
+    cut_word(Rule::Cut, false, a as u64, WHOLE_UNIT)
 }
 
 // The whole part of the magnitude of a word.

@@ -1,11 +1,12 @@
 // The one cut, where every operation ends: a magnitude in fine units of 2^-200 becomes a word and an error.
 // A word's magnitude is m * 2^(e + 176) fine units, so k, the digits that a mantissa of 24 loses, is e + 176.
 use super::Flagged;
+use terms::Rule;
 ghost use mathlib.Core.Path.{_≡_};
 ghost use mathlib.Core.Bool.{cond};
 ghost use Prim.Native.Nat.{_*_, _^_, _≤_, _<_};
-ghost use Rattle.terms.specs.declared.Rule.the-variants.{Cut};
-ghost use Rattle.float.specs.Cut.{packed, errorAt, cutSize};
+ghost use lib.Ieee.Nearest.{closest};
+ghost use Rattle.float.specs.Cut.{packed, errorAt, mantissaOf, digitsOf, stored, cutSize};
 ghost use Rattle.float.specs.Jam.{Jammed};
 
 // Where e is 64 and where it is -64, as k: the first that overflows, and the last that does not underflow.
@@ -14,6 +15,10 @@ const OVER: u32 = 240;
 const LEAST: u32 = 112;
 // The bits that a number of 64 bits, its top bit set, has below a mantissa of 24.
 const BELOW: u32 = 40;
+// 2^40, a unit of the mantissa there, and half of it.
+const STEP: u64 = 0x100_0000_0000;
+
+const HALF: u64 = 0x80_0000_0000;
 
 // The shift that brings the top bit of a magnitude to bit 63.
 fn norm_shift(v: u64) -> u32
@@ -51,21 +56,54 @@ fn pack(neg: bool, m: u32, k: u32) -> u32
     sign_bit(neg) + (k + 80) % 128 * 0x100_0000 + m
 }
 
-// The word and the error of the magnitude mag * 2^x fine units. A caller whose magnitude has more
-// digits hands over its leading ones, at least 26, the last made odd where any was lost.
-pub fn cut_word(neg: bool, mag: u64, x: u32) -> Flagged
+// The word and the error of a sign, a mantissa and the exponent k - 176.
+fn store(neg: bool, m: u32, k: u32) -> Flagged
+    requires { ⌜ (m < 16777216) × (k ≤ 4096) ⌝ }
+    ensures { λ r. ⌜ r ≡ stored neg m k ⌝ }
+{
+    Flagged {
+        word: pack(neg, m, k),
+        error: error_at(k),
+    }
+}
+
+// The same of 24 digits q, which may have been rounded up to 2^24: then the exponent is one more.
+fn settle(neg: bool, q: u64, k: u32) -> Flagged
+    requires { ⌜ (q ≤ 16777216) × (k ≤ 4000) ⌝ }
+    ensures { λ r. ⌜ r ≡ stored neg (mantissaOf q) (digitsOf q k) ⌝ }
+{
+    if q < 0x100_0000 {
+        return store(neg, q as u32, k);
+    }
+    store(neg, 0x80_0000, k + 1)
+}
+
+// The nearest whole number to v / 2^40, of two the even one.
+fn nearest(v: u64) -> u64
+    ensures { λ r. ⌜ r ≡ closest v (2 ^ 40) ⌝ }
+{
+    let q = v >> BELOW;
+    if HALF < v % STEP + q % 2 {
+        return q + 1;
+    }
+    q
+}
+
+// The word and the error of the magnitude mag * 2^x fine units, under a rule. A caller whose
+// magnitude has more digits hands over its leading ones, at least 26, the last made odd where any was lost.
+pub fn cut_word(rule: Rule, neg: bool, mag: u64, x: u32) -> Flagged
     requires { ⌜ (24 ≤ x) × (x ≤ 1000) ⌝ }
-    ensures { λ r. ⌜ r ≡ cutSize Cut neg (mag * 2 ^ x) 1 ⌝ }
+    ensures { λ r. ⌜ r ≡ cutSize rule neg (mag * 2 ^ x) 1 ⌝ }
 {
     if mag == 0 {
         return Flagged { word: 0, error: 0 };
     }
     let s = norm_shift(mag);
-    let m = ((mag << s) >> BELOW) as u32;
+    let v = mag << s;
     let k = x + BELOW - s;
-    Flagged {
-        word: pack(neg, m, k),
-        error: error_at(k),
+    match rule {
+        Rule::Cut => store(neg, (v >> BELOW) as u32, k),
+        Rule::Nearest => settle(neg, nearest(v), k),
     }
 }
 

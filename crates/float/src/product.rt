@@ -7,9 +7,9 @@ use super::word::biased_of;
 use super::word::is_negative;
 use super::word::mantissa_of;
 use super::word::unlike_signs;
+use terms::Rule;
 ghost use mathlib.Core.Path.{_≡_};
 ghost use mathlib.Core.Bool.{true};
-ghost use Rattle.terms.specs.declared.Rule.the-variants.{Cut};
 ghost use Rattle.float.specs.Word.{proper};
 ghost use Rattle.float.specs.Float.{mul, div};
 
@@ -21,19 +21,19 @@ const RAISED: u64 = 0x100_0000_0000;
 const QUOTIENT_UNIT: u32 = 160;
 
 // FMUL: B x A.
-pub fn fmul(b: u32, a: u32) -> Flagged
-    ensures { λ r. ⌜ r ≡ mul Cut b a ⌝ }
+pub fn fmul(rule: Rule, b: u32, a: u32) -> Flagged
+    ensures { λ r. ⌜ r ≡ mul rule b a ⌝ }
 {
     let neg = unlike_signs(is_negative(b), is_negative(a));
     let p = mantissa_of(b) * mantissa_of(a);
     let x = biased_of(b) + biased_of(a) + PRODUCT_UNIT;
-    cut_word(neg, p, x)
+    cut_word(rule, neg, p, x)
 }
 
 // FDIV of proper words: B / A, or B and divide by zero.
-pub fn fdiv(b: u32, a: u32) -> Flagged
+pub fn fdiv(rule: Rule, b: u32, a: u32) -> Flagged
     requires { ⌜ (proper b ≡ true) × (proper a ≡ true) ⌝ }
-    ensures { λ r. ⌜ r ≡ div Cut b a ⌝ }
+    ensures { λ r. ⌜ r ≡ div rule b a ⌝ }
 {
     let ma = mantissa_of(a);
     if ma == 0 {
@@ -46,5 +46,5 @@ pub fn fdiv(b: u32, a: u32) -> Flagged
     let t = jam(v / ma, v % ma);
     let x = biased_of(b) + QUOTIENT_UNIT - biased_of(a);
     let neg = unlike_signs(is_negative(b), is_negative(a));
-    cut_word(neg, t, x)
+    cut_word(rule, neg, t, x)
 }

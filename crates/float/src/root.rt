@@ -5,10 +5,10 @@ use super::cut::cut_word;
 use super::word::biased_of;
 use super::word::is_negative;
 use super::word::mantissa_of;
+use terms::Rule;
 ghost use mathlib.Core.Path.{_≡_};
 ghost use mathlib.Core.Bool.{true};
 ghost use Prim.Native.Nat.{_+_, _*_, _^_, _≤_, _<_};
-ghost use Rattle.terms.specs.declared.Rule.the-variants.{Cut};
 ghost use Rattle.float.specs.Word.{proper};
 ghost use Rattle.float.specs.Root.{sqrt};
 ghost use Rattle.float.specs.Traced.{Beyond, Traced};
@@ -59,9 +59,9 @@ fn traced(s: u64, v: u64) -> u64
 }
 
 // SQRT of a proper word: its root, or a negative word as it is and the error of a negative root.
-pub fn sqrt(a: u32) -> Flagged
+pub fn sqrt(rule: Rule, a: u32) -> Flagged
     requires { ⌜ proper a ≡ true ⌝ }
-    ensures { λ r. ⌜ r ≡ sqrt Cut a ⌝ }
+    ensures { λ r. ⌜ r ≡ sqrt rule a ⌝ }
 {
     if is_negative(a) {
         return Flagged {
@@ -77,5 +77,5 @@ pub fn sqrt(a: u32) -> Flagged
     let odd = e % 2;
     let v = m << (RAISED - odd);
     let t = traced(whole_root(v), v);
-    cut_word(false, t, (e + UNITS + odd) / 2)
+    cut_word(rule, false, t, (e + UNITS + odd) / 2)
 }

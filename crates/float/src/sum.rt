@@ -6,12 +6,12 @@ use super::cut::jam;
 use super::word::is_negative;
 use super::word::mantissa_of;
 use super::word::unlike_signs;
+use terms::Rule;
 ghost use mathlib.Core.Path.{_≡_};
 ghost use mathlib.Core.Bool.{true};
 ghost use Prim.Native.Nat.{_/_, _%_, _^_, _≤_, _<_};
 ghost use lib.IntN.{_+ℤ_};
 ghost use Rattle.whole.specs.Signed.{withSign};
-ghost use Rattle.terms.specs.declared.Rule.the-variants.{Cut};
 ghost use Rattle.float.specs.Word.{proper};
 ghost use Rattle.float.specs.Cut.{cut};
 ghost use Rattle.float.specs.Float.{add, sub};
@@ -47,42 +47,54 @@ fn addend_of(w: u32) -> u32
 }
 
 // The sum of two addends with their signs, the first of which is not the smaller.
-fn add_lower(neg: bool, hi: u32, other: bool, lo: u32) -> Flagged
+fn add_lower(rule: Rule, neg: bool, hi: u32, other: bool, lo: u32) -> Flagged
     requires { ⌜ Addend hi × Addend lo × (lo ≤ hi) ⌝ }
-    ensures { λ r. ⌜ r ≡ cut Cut (withSign neg (addendSize hi) +ℤ withSign other (addendSize lo)) (2 ^ 88) ⌝ }
+    ensures { λ r. ⌜ r ≡ cut rule (withSign neg (addendSize hi) +ℤ withSign other (addendSize lo)) (2 ^ 88) ⌝ }
 {
     let e = hi / 0x100_0000;
     let big = mantissa_of(hi) * SPARE;
     let small = shifted(mantissa_of(lo) * SPARE, e - lo / 0x100_0000);
     if unlike_signs(neg, other) {
-        return cut_word(neg, big - small, e + UNIT);
+        return cut_word(rule, neg, big - small, e + UNIT);
     }
-    cut_word(neg, big + small, e + UNIT)
+    cut_word(rule, neg, big + small, e + UNIT)
 }
 
 // The sum of two addends with their signs.
-fn add_signed(nb: bool, b: u32, na: bool, a: u32) -> Flagged
+fn add_signed(rule: Rule, nb: bool, b: u32, na: bool, a: u32) -> Flagged
     requires { ⌜ Addend b × Addend a ⌝ }
-    ensures { λ r. ⌜ r ≡ cut Cut (withSign nb (addendSize b) +ℤ withSign na (addendSize a)) (2 ^ 88) ⌝ }
+    ensures { λ r. ⌜ r ≡ cut rule (withSign nb (addendSize b) +ℤ withSign na (addendSize a)) (2 ^ 88) ⌝ }
 {
     if a <= b {
-        return add_lower(nb, b, na, a);
+        return add_lower(rule, nb, b, na, a);
     }
-    add_lower(na, a, nb, b)
+    add_lower(rule, na, a, nb, b)
 }
 
 // FADD of proper words: B + A.
-pub fn fadd(b: u32, a: u32) -> Flagged
+pub fn fadd(rule: Rule, b: u32, a: u32) -> Flagged
     requires { ⌜ (proper b ≡ true) × (proper a ≡ true) ⌝ }
-    ensures { λ r. ⌜ r ≡ add Cut b a ⌝ }
+    ensures { λ r. ⌜ r ≡ add rule b a ⌝ }
 {
-    add_signed(is_negative(b), addend_of(b), is_negative(a), addend_of(a))
+    add_signed(
+        rule,
+        is_negative(b),
+        addend_of(b),
+        is_negative(a),
+        addend_of(a),
+    )
 }
 
 // FSUB of proper words: B - A.
-pub fn fsub(b: u32, a: u32) -> Flagged
+pub fn fsub(rule: Rule, b: u32, a: u32) -> Flagged
     requires { ⌜ (proper b ≡ true) × (proper a ≡ true) ⌝ }
-    ensures { λ r. ⌜ r ≡ sub Cut b a ⌝ }
+    ensures { λ r. ⌜ r ≡ sub rule b a ⌝ }
 {
-    add_signed(is_negative(b), addend_of(b), !is_negative(a), addend_of(a))
+    add_signed(
+        rule,
+        is_negative(b),
+        addend_of(b),
+        !is_negative(a),
+        addend_of(a),
+    )
 }

@@ -3,7 +3,7 @@ use Prim.Native.Nat.{ℕ}
 use mathlib.Core.Bool.{Bool}
 use mathlib.Core.List.{List}
 use Rattle.terms.specs.Settings.{Settings}
-use Rattle.chip.specs.Step.{under}
+use Rattle.chip.specs.Step.{given}
 use Rattle.chip.specs.Place.{held}
 use Rattle.memory.specs.declared.place.Rest.{Rest}
 use Rattle.memory.specs.Memory.{Card}
@@ -17,7 +17,7 @@ cardOf on stack pending status service bits code = record {
 }
 
 abbrev pub settingsAt : Rest → Settings
-settingsAt f = under (f .mode)
+settingsAt f = given (f .mode) (f .rule)
 
 abbrev pub cardAt : List ℕ → Rest → Card
 cardAt stack f = cardOf (settingsAt f) stack (f .pending) (f .status) (f .service) (f .bits) (f .code)

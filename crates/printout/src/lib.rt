@@ -17,6 +17,6 @@ pub fn print(input: &[u8], text: &mut [u8; TEXT_ROOM]) -> usize
     let mut state = [0u8; STATE_BYTES];
     let mut replies = [0u8; REPLY_ROOM];
     let mut report = [0u8; REPORT_BYTES];
-    pundaliket::pundaliket_run(0, &mut state, input, &mut replies, &mut report);
+    pundaliket::pundaliket_run(0, 0, &mut state, input, &mut replies, &mut report);
     listing::list(&replies, &report, text)
 }

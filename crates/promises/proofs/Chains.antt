@@ -182,7 +182,7 @@ chains on = record {
 }
 
 pub demand-3 : Demand3
-demand-3 mode = chains (under mode)
+demand-3 = chains
 
 -- ---- the examples
 pub chain-examples : Examples

@@ -383,8 +383,8 @@ module _ (rule : Rule) where
         accepted rule (Flt Double) (three a b c ds) Double ((fltd rule a) .word) 0 false (word Double b (word Double c (zeros 4))) refl (fltd-result rule a .word .fits)
         (converted-to (fltd rule) a b c A ds ((fltd rule a) .word) 0 (no-error (fltd rule a) (fltd-no-error rule a A)));
     flts-row = λ a b c d e A fs.
-        accepted rule (Flt Single) (five a b c d e fs) Double ((flts rule a) .word) 0 false (word Single b (word Single c (word Single d (word Single e (zeros 4))))) refl (flts-result rule a .word .fits)
-        (widened-to (flts rule) a b c d e A fs ((flts rule a) .word) (no-error (flts rule a) (flts-no-error rule a A)));
+        accepted rule (Flt Single) (five a b c d e fs) Double ((flts a) .word) 0 false (word Single b (word Single c (word Single d (word Single e (zeros 4))))) refl (flts-result a .word .fits)
+        (widened-to flts a b c d e A fs ((flts a) .word) (no-error (flts a) (flts-no-error a A)));
     fixd-row = λ a b c A h ds.
         accepted rule (Fix Double) (three a b c ds) Double (complement (2 ^ 31) (negative a) (wholePart a)) 0 false (word Double b (word Double c (zeros 4)))
         (one-operand Double a (word Double b (word Double c ds)) (A .fits) ∙ A .is-proper) (complement-lt (2 ^ 31) (negative a) (wholePart a) h)
@@ -431,4 +431,4 @@ rows rule = record {
 }
 
 pub commands : Commands
-commands = rows baseRule
+commands = rows

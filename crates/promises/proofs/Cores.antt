@@ -10,7 +10,7 @@ use native.Mathlib.Omega.{arith}
 use borrow.Author.Tests.{lt-leb, eq-eqb, eqb-true}
 use lib.Dec.{eqb, lit<}
 use lib.ListN.{length, take, getD}
-use Rattle.terms.specs.Settings.{Settings, modeOf}
+use Rattle.terms.specs.Settings.{Settings}
 use Rattle.terms.specs.declared.Refusal.{Refusal}
 use Rattle.terms.specs.declared.Refusal.the-variants.{BadState}
 use Rattle.terms.specs.Refusal.{numberOf}
@@ -151,7 +151,7 @@ still-serves g k e r h = record { good = leaves-good k e (r .good) h; set = sett
 module _ (g : Given) (C : Chosen g) (c : Core) (M : Meets g c) where
   -- the call's definition on the bytes of a card
   called : (n : ℕ) (k : Card) (e : Event) → Serves g k → eventCall g (laidOut n k) (kindNumber e) (byteOf e) ≡ signalUnder (k .on) (laidOut n k) (kindNumber e) (byteOf e)
-  called n k e r = event-chosen (g .mode) (laidOut n k) (kindNumber e) (byteOf e) (C .mode) ∙ ap (λ (on : Settings). signalUnder on (laidOut n k) (kindNumber e) (byteOf e)) (sym (r .set))
+  called n k e r = event-chosen (g .mode) (g .rule) (laidOut n k) (kindNumber e) (byteOf e) (C .mode) (C .rule) ∙ ap (λ (on : Settings). signalUnder on (laidOut n k) (kindNumber e) (byteOf e)) (sym (r .set))
 
   -- the state and the number that its contract gives a core
   abbrev StateTold : ℕ → Card → Event → Type 0
@@ -371,24 +371,24 @@ module _ (g : Given) (C : Chosen g) (c : Core) (M : Meets g c) where
     answers : allZero (returned c state (busRun w sr ks)) ≡ true
     answers =
         ap allZero (calls-return state (busRun w sr ks) (B .bytes) (B .good) (sent w sr ks) (inr (bus-told (runEvents w sr ks))) ∙ card-answers (cardOf state) (runEvents w sr ks))
-        ∙ all-zero (settingsIn g) (stateOf state) (runEvents w sr ks) (none-append (pushesOf 4 w) (chainOf sr ks) tt (chain-none sr ks)) (demand-3 (modeOf (g .mode)) .every-answered (runFrom state w sr) ks (starts state w sr B) K)
+        ∙ all-zero (settingsIn g) (stateOf state) (runEvents w sr ks) (none-append (pushesOf 4 w) (chainOf sr ks) tt (chain-none sr ks)) (demand-3 (settingsIn g) .every-answered (runFrom state w sr) ks (starts state w sr B) K)
 
-    top-bytes : take 4 (driven c state (busRun w sr ks)) ≡ bytesOf 4 (wordAfter baseRule w ks)
+    top-bytes : take 4 (driven c state (busRun w sr ks)) ≡ bytesOf 4 (wordAfter (settingsIn g .rule) w ks)
     top-bytes =
         let k = afterAll (cardOf state) (busRun w sr ks) in
         ap (λ (l : List ℕ). take 4 l) (calls-states state (busRun w sr ks) (B .bytes) (B .good) (sent w sr ks) ∙ laid-is (length state) k)
         ∙ ap (λ (s : State). take 4 (s .stack ++ behind (length state) k)) (chip-alone (cardOf state) (runEvents w sr ks))
         ∙ on-top (settingsIn g) (runFrom state w sr) ks (starts state w sr B) K _
 
-    top-word : wordLeft c state (busRun w sr ks) ≡ wordAfter baseRule w ks
+    top-word : wordLeft c state (busRun w sr ks) ≡ wordAfter (settingsIn g .rule) w ks
     top-word =
-        let r = demand-3 (modeOf (g .mode)) .by-word-alone (runFrom state w sr) ks (starts state w sr B) K in
-        let p = subst (λ (x : ℕ). FloatWord x) r (demand-3 (modeOf (g .mode)) .proper-result (runFrom state w sr) ks (starts state w sr B) K) in
-        ap (λ (l : List ℕ). numberFrom 0 l) top-bytes ∙ number-bytes 4 (wordAfter baseRule w ks) (p .fits)
+        let r = demand-3 (settingsIn g) .by-word-alone (runFrom state w sr) ks (starts state w sr B) K in
+        let p = subst (λ (x : ℕ). FloatWord x) r (demand-3 (settingsIn g) .proper-result (runFrom state w sr) ks (starts state w sr B) K) in
+        ap (λ (l : List ℕ). numberFrom 0 l) top-bytes ∙ number-bytes 4 (wordAfter (settingsIn g .rule) w ks) (p .fits)
 
     -- what the statement's result is at the calls
     result-told : resultOf (settingsIn g) (runFrom state w sr) ks ≡ wordLeft c state (busRun w sr ks)
-    result-told = demand-3 (modeOf (g .mode)) .by-word-alone (runFrom state w sr) ks (starts state w sr B) K ∙ sym top-word
+    result-told = demand-3 (settingsIn g) .by-word-alone (runFrom state w sr) ks (starts state w sr B) K ∙ sym top-word
 
     quiet-told : drivenQuietly c state (busRun w sr ks) ≡ true → Quiet (settingsIn g) (runFrom state w sr) ks
     quiet-told q = calls-quiet state (runEvents w sr ks) (B .bytes) (B .good) (sent w sr ks) q
@@ -403,8 +403,8 @@ cores g C c M = record {
   chain-word = λ state w sr ks B K. top-word g C c M state w sr ks B K;
   chain-even = λ state state' v w sr sr' ks B B' K q q' l e.
       subst₂ Le (result-told g C c M state v sr ks B K) (result-told g C c M state' w sr' ks B' K)
-      (demand-3 (modeOf (g .mode)) .even-keeps (runFrom state v sr) (runFrom state' w sr') ks (starts state v sr B) (starts state' w sr' B') K (quiet-told g C c M state v sr ks B K q) (quiet-told g C c M state' w sr' ks B' K q') l e);
+      (demand-3 (settingsIn g) .even-keeps (runFrom state v sr) (runFrom state' w sr') ks (starts state v sr B) (starts state' w sr' B') K (quiet-told g C c M state v sr ks B K q) (quiet-told g C c M state' w sr' ks B' K q') l e);
   chain-odd = λ state state' v w sr sr' ks B B' K q q' l e.
       subst₂ Le (result-told g C c M state' w sr' ks B' K) (result-told g C c M state v sr ks B K)
-      (demand-3 (modeOf (g .mode)) .odd-turns (runFrom state v sr) (runFrom state' w sr') ks (starts state v sr B) (starts state' w sr' B') K (quiet-told g C c M state v sr ks B K q) (quiet-told g C c M state' w sr' ks B' K q') l e);
+      (demand-3 (settingsIn g) .odd-turns (runFrom state v sr) (runFrom state' w sr') ks (starts state v sr B) (starts state' w sr' B') K (quiet-told g C c M state v sr ks B K q) (quiet-told g C c M state' w sr' ks B' K q') l e);
 }

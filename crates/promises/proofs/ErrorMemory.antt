@@ -187,7 +187,7 @@ module _ (g : Given) (C : Chosen g) (c : Core) (M : Meets g c) (state : List ℕ
       let o = runOf start (joined rs) (length replies) in
       let after = run-ready start (joined rs) (length replies) ready (L .bytes .1) in
       ap memoryAt (M .run state (joined rs) replies report (L .bytes .0) (L .bytes .1) (L .bytes .2) (L .bytes .3) .state-is
-      ∙ ap (λ (x : Called). x .state) (good (g .mode) state (joined rs) replies report (L .nine) (C .mode) (L .good) (omega arith))
+      ∙ ap (λ (x : Called). x .state) (good (g .mode) (g .rule) state (joined rs) replies report (L .nine) (C .mode) (C .rule) (L .good) (omega arith))
       ∙ ap (λ (m : ℕ). laidOut m (o .state)) n)
       ∙ two-bytes (o .state) (after .chip .stack .sixteen)
       ∙ ap (λ (k : Card). k .memory) (records-are-events start rs (length replies) (L .each))
@@ -204,7 +204,7 @@ module _ (g : Given) (C : Chosen g) (c : Core) (M : Meets g c) (state : List ℕ
       let rest = drop (length (runOf start (joined rs ++ recall) (length replies) .written)) replies in
       ap (λ (l : List ℕ). take 7 (drop (length ws) l))
       (M .run state (joined rs ++ recall) replies report (L .bytes .0) (bytes-append (joined rs) recall (L .bytes .1) (lit< tt, (lit< tt, (lit< tt, (lit< tt, tt))))) (L .bytes .2) (L .bytes .3) .replies-is
-      ∙ ap (λ (x : Called). x .replies) (good (g .mode) state (joined rs ++ recall) replies report (L .nine) (C .mode) (L .good) (omega arith))
+      ∙ ap (λ (x : Called). x .replies) (good (g .mode) (g .rule) state (joined rs ++ recall) replies report (L .nine) (C .mode) (C .rule) (L .good) (omega arith))
       ∙ ap (λ (l : List ℕ). l ++ rest) w
       ∙ append-assoc ws reply rest)
       ∙ ap (take 7) (drop-append-seam ws (reply ++ rest))
@@ -337,12 +337,12 @@ pub short-states : ShortStates
 short-states g C c M = record {
   run = λ state input replies report n B I W P.
       called-as (c .run state input replies report) _ (M .run state input replies report B I W P)
-      ∙ run-chosen (g .mode) state input replies report (C .mode)
+      ∙ run-chosen (g .mode) (g .rule) state input replies report (C .mode) (C .rule)
       ∙ short-call (settingsIn g) state n input replies report B I
-      ∙ ap (λ (x : Called). shortCall x) (sym (run-chosen (g .mode) (lengthened state) input replies report (C .mode)) ∙ sym (called-as (c .run (lengthened state) input replies report) _ (M .run (lengthened state) input replies report (longer-bytes state B) I W P)));
+      ∙ ap (λ (x : Called). shortCall x) (sym (run-chosen (g .mode) (g .rule) (lengthened state) input replies report (C .mode) (C .rule)) ∙ sym (called-as (c .run (lengthened state) input replies report) _ (M .run (lengthened state) input replies report (longer-bytes state B) I W P)));
   event = λ state kind byte n B k b.
       signalled-as (c .event state kind byte) _ (M .event state kind byte B k b)
-      ∙ event-chosen (g .mode) state kind byte (C .mode)
+      ∙ event-chosen (g .mode) (g .rule) state kind byte (C .mode) (C .rule)
       ∙ short-signal (settingsIn g) state n kind byte B b
-      ∙ ap (λ (x : Signal). shortSignal x) (sym (event-chosen (g .mode) (lengthened state) kind byte (C .mode)) ∙ sym (signalled-as (c .event (lengthened state) kind byte) _ (M .event (lengthened state) kind byte (longer-bytes state B) k b)));
+      ∙ ap (λ (x : Signal). shortSignal x) (sym (event-chosen (g .mode) (g .rule) (lengthened state) kind byte (C .mode) (C .rule)) ∙ sym (signalled-as (c .event (lengthened state) kind byte) _ (M .event (lengthened state) kind byte (longer-bytes state B) k b)));
 }

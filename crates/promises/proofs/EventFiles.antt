@@ -70,7 +70,7 @@ module _ (on : Settings) (s : State) (m : Memory) (G : ReadyCard (cardWith on s 
 
   pushes : (b : ℕ) → 5 ≤ room → Alike (cardWith on s m) (Chip (Push b)) room
   pushes b h =
-      let z = refusals Am9511A .push-done s b calm in
+      let z = refusals on .push-done s b calm in
       let y = push-byte s b in
       push-record on s m (b ∷ []) room calm (omega arith) (omega arith) h
       ∙ ap (λ (n : ℕ). took (cardWith on ((pushOf s b) .state) m) 5 (3 ∷ 0 ∷ 129 ∷ 0 ∷ n ∷ [])) (sym (refusal-in (numberOf ((pushOf s b) .refusal)) ((pushOf s b) .byte) (omega arith) ∙ z))
@@ -85,14 +85,14 @@ module _ (on : Settings) (s : State) (m : Memory) (G : ReadyCard (cardWith on s 
   pops h =
       let a = popOf s in
       let e = pop-done s (G .chip .ready) in
-      let z : numberOf (a .refusal) ≡ 0 = refusals Am9511A .pop-done s calm in
+      let z : numberOf (a .refusal) ≡ 0 = refusals on .pop-done s calm in
       let y : a .byte < 256 = subst (λ (n : ℕ). n < 256) (sym (ap (λ (x : Answer). x .byte) e)) (byte-at (s .stack) (G .chip .stack .bytes) 0) in
       pop-record on s m 1 room calm (omega arith) (omega arith) h
       ∙ ap₂ (λ (n b : ℕ). took (cardWith on (a .state) m) 5 (4 ∷ 0 ∷ 130 ∷ 0 ∷ n ∷ b ∷ [])) (sym (refusal-in (numberOf (a .refusal)) (a .byte) y ∙ z)) (sym (byte-in (numberOf (a .refusal)) (a .byte) y))
 
   reads : 6 ≤ room → Alike (cardWith on s m) (Chip Status) room
   reads h =
-      let r = refusals Am9511A .read-done s calm in
+      let r = refusals on .read-done s calm in
       let low = G .chip .ready in
       let y : (readOf s) .byte < 256 = subst (λ (n : ℕ). n < 256) (sym (r .1)) (omega arith) in
       status-record on s m room calm h
@@ -107,7 +107,7 @@ module _ (on : Settings) (s : State) (m : Memory) (G : ReadyCard (cardWith on s 
 
   acknowledges : 5 ≤ room → Alike (cardWith on s m) (Chip Acknowledge) room
   acknowledges h =
-      let g = bus-events Am9511A .acknowledge-leaves (s .stack) (s .pending) (s .status) (s .service) (G .chip .ready) in
+      let g = bus-events on .acknowledge-leaves (s .stack) (s .pending) (s .status) (s .service) (G .chip .ready) in
       let y = g .byte-read in
       acknowledge-record on s m room calm h
       ∙ ap (λ (t : State). took (cardWith on t m) 4 (3 ∷ 0 ∷ 134 ∷ 0 ∷ 0 ∷ [])) (sym (g .state))
@@ -215,7 +215,7 @@ event-files g C c M state es replies report S L =
     let o : fileRun k file (length replies) ≡ took (afterAll k es) (length file) ws =
     files es k (length replies) G S (subst (λ (l : List ℕ). length l ≤ length replies) same (L .room)) ∙ ap (took (afterAll k es) (length file)) (sym same) in
     let call : runCall g state file replies report ≡ ranOf (length state) (took (afterAll k es) (length file) ws) replies =
-    good (g .mode) state file replies report (L .nine) (C .mode) (L .good) (L .short) ∙ ap (λ (x : Outcome). ranOf (length state) x replies) o in
+    good (g .mode) (g .rule) state file replies report (L .nine) (C .mode) (C .rule) (L .good) (L .short) ∙ ap (λ (x : Outcome). ranOf (length state) x replies) o in
     let counts = counts-exact g C state file replies report (L .nine) (L .good) (L .short) in
     record {
       result = told .result-is ∙ ap (λ (x : Called). x .result) call;

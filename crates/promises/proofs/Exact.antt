@@ -11,6 +11,7 @@ use lib.Pow.{pow-pos}
 use Rattle.whole.specs.Signed.{withSign}
 use Rattle.whole.proofs.Signs.{times}
 use Rattle.float.specs.Word.{mantissa, value, FloatWord}
+use Rattle.terms.specs.declared.Rule.{Rule}
 use Rattle.terms.specs.declared.Rule.the-variants.{Cut}
 use Rattle.float.specs.Cut.{below0}
 use Rattle.float.specs.Float.{exactSum, exactDifference, exactProduct, dividend, divisor, add, sub, mul, div}
@@ -36,21 +37,22 @@ twice z x y =
     alone true = refl
     alone false = refl
 
-sum-kept : (b a w : ℕ) → FloatWord w → value w ≡ exactSum b a → add Cut b a ≡ clean w
+-- an exact result that is the value of a proper word, under either rule
+pub sum-kept : (r : Rule) (b a w : ℕ) → FloatWord w → value w ≡ exactSum b a → add r b a ≡ clean w
 unfolding add
-sum-kept b a w W e = own-value Cut w (exactSum b a) (2 ^ 88) W (pow-pos 88) (ap (λ (z : ℤ). z *ℤ pos (2 ^ 88)) e)
+sum-kept r b a w W e = own-value r w (exactSum b a) (2 ^ 88) W (pow-pos 88) (ap (λ (z : ℤ). z *ℤ pos (2 ^ 88)) e)
 
-difference-kept : (b a w : ℕ) → FloatWord w → value w ≡ exactDifference b a → sub Cut b a ≡ clean w
+pub difference-kept : (r : Rule) (b a w : ℕ) → FloatWord w → value w ≡ exactDifference b a → sub r b a ≡ clean w
 unfolding sub
-difference-kept b a w W e = own-value Cut w (exactDifference b a) (2 ^ 88) W (pow-pos 88) (ap (λ (z : ℤ). z *ℤ pos (2 ^ 88)) e)
+difference-kept r b a w W e = own-value r w (exactDifference b a) (2 ^ 88) W (pow-pos 88) (ap (λ (z : ℤ). z *ℤ pos (2 ^ 88)) e)
 
-product-kept : (b a w : ℕ) → FloatWord w → value w *ℤ pos (2 ^ 88) ≡ exactProduct b a → mul Cut b a ≡ clean w
+pub product-kept : (r : Rule) (b a w : ℕ) → FloatWord w → value w *ℤ pos (2 ^ 88) ≡ exactProduct b a → mul r b a ≡ clean w
 unfolding mul
-product-kept b a w W e = own-value Cut w (exactProduct b a) (2 ^ 176) W (pow-pos 176)
+product-kept r b a w W e = own-value r w (exactProduct b a) (2 ^ 176) W (pow-pos 176)
     (sym (twice (value w) (2 ^ 88) (2 ^ 88)) ∙ ap (λ (z : ℤ). z *ℤ pos (2 ^ 88)) e)
 
-quotient-kept : (b a w : ℕ) → FloatWord w → (mantissa a ≡ 0 → ⊥) → value w *ℤ pos (divisor a) ≡ dividend b a *ℤ pos (2 ^ 88) → div Cut b a ≡ clean w
-quotient-kept b a w W nz e = div-cut Cut b a nz ∙ own-value Cut w (dividend b a) (divisor a) W (size-pos a nz) e
+pub quotient-kept : (r : Rule) (b a w : ℕ) → FloatWord w → (mantissa a ≡ 0 → ⊥) → value w *ℤ pos (divisor a) ≡ dividend b a *ℤ pos (2 ^ 88) → div r b a ≡ clean w
+quotient-kept r b a w W nz e = div-cut r b a nz ∙ own-value r w (dividend b a) (divisor a) W (size-pos a nz) e
 
 -- below half, or not
 taken : (half a : ℕ) → wholePart a < half → Truncated half a (fix half a)
@@ -72,10 +74,10 @@ pub exact : Exact
 exact = record {
   one-pair = record { exists = a-pair; only = one-pair };
   operations = record {
-    sum = λ b a B A. add-exactly b a;
-    difference = λ b a B A. sub-exactly b a;
-    product = λ b a B A. mul-exactly b a (B .is-proper) (A .is-proper);
-    quotient = λ b a B A nz. div-exactly b a (B .is-proper) (A .is-proper) nz;
+    sum = λ b a B A. add-exactly Cut b a;
+    difference = λ b a B A. sub-exactly Cut b a;
+    product = λ b a B A. mul-exactly Cut b a (B .is-proper) (A .is-proper);
+    quotient = λ b a B A nz. div-exactly Cut b a (B .is-proper) (A .is-proper) nz;
     by-zero = λ b a A z. div-by-zero Cut b a z;
   };
   words = record {
@@ -83,18 +85,18 @@ exact = record {
     proper-product = λ b a. mul-result Cut b a .word;
     proper-quotient = λ b a B. div-result Cut b a B .word;
     proper-change = λ a A. chsf-word a A;
-    sum-kept = sum-kept;
-    difference-kept = difference-kept;
-    product-kept = product-kept;
-    quotient-kept = quotient-kept;
+    sum-kept = sum-kept Cut;
+    difference-kept = difference-kept Cut;
+    product-kept = product-kept Cut;
+    quotient-kept = quotient-kept Cut;
     one-word = same-word;
     opposite = chsf-value;
   };
   conversions = record {
-    flts-exact = λ a h. flts-exact Cut a h;
-    fltd-cut = λ a h. fltd-exactly a h;
-    no-error = λ a. (λ h. flts-no-error Cut a h, λ h. fltd-no-error Cut a h);
-    proper-floats = λ a. (flts-result Cut a .word, fltd-result Cut a .word);
+    flts-exact = λ a h. flts-exact a h;
+    fltd-cut = λ a h. fltd-exactly Cut a h;
+    no-error = λ a. (λ h. flts-no-error a h, λ h. fltd-no-error Cut a h);
+    proper-floats = λ a. (flts-result a .word, fltd-result Cut a .word);
     fixd-taken = λ a h. taken (2 ^ 31) a h;
     fixs-taken = λ a h. taken (2 ^ 15) a h;
     fixd-over = λ a h. over (2 ^ 31) a h;

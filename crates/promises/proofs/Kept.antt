@@ -13,7 +13,7 @@ use borrow.Author.Tests.{ne-eqb, leb-true}
 use Rattle.little.proofs.Exact.{le4-exact}
 use Rattle.terms.specs.Refusal.{numberOf}
 use Rattle.terms.specs.declared.Rule.{Rule}
-use Rattle.terms.specs.Settings.{isMode}
+use Rattle.terms.specs.Settings.{isMode, isRule}
 use Rattle.chip.specs.declared.State.{State}
 use Rattle.chip.specs.declared.Answer.{Answer}
 use Rattle.chip.specs.State.{busy}
@@ -25,7 +25,7 @@ use Rattle.memory.specs.declared.Event.the-variants.{Chip, Recall, Forget}
 use Rattle.memory.specs.declared.Memory.{Memory}
 use Rattle.memory.specs.Memory.{emptyMemory, isMemory, Card, CardAnswer, unlessBusy as unlessCardBusy}
 use Rattle.memory.proofs.Good.{memory-cases, marked-memory, ReadyCard, event-fair}
-use Rattle.terms.specs.declared.Refusal.the-variants.{BadState, BadMode}
+use Rattle.terms.specs.declared.Refusal.the-variants.{BadState, BadMode, BadRule}
 use Rattle.stack.specs.Stack.{Bytes, topByte}
 use Rattle.stack.proofs.Words.{bytes-take, byte-at}
 use Rattle.codes.specs.declared.Kind.{Kind}
@@ -55,10 +55,10 @@ unfolding callOf
 no-report g state input replies report a = rw (ne-eqb (length report) 9 a)
 
 pub no-state : NoState
-no-state g C state input replies report a b = bad-state (g .mode) state input replies report a (C .mode) b
+no-state g C state input replies report a b = bad-state (g .mode) (g .rule) state input replies report a (C .mode) (C .rule) b
 
 pub long-input : LongInput
-long-input g C state input replies report a b d = too-long (g .mode) state input replies report a (C .mode) b d
+long-input g C state input replies report a b d = too-long (g .mode) (g .rule) state input replies report a (C .mode) (C .rule) b d
 
 -- the two bytes of a memory, test by test
 pub remembers : (bits code : ℕ) → isMemory bits code ≡ true → Remembers bits code
@@ -94,7 +94,7 @@ state-returns = card-returns
 
 pub empty-input : EmptyInput
 empty-input g C state replies report a b =
-    good (g .mode) state [] replies report a (C .mode) b (omega arith) ∙ rw (nothing lawful (cardIn (settingsIn g) state) (length replies), state-returns (settingsIn g) state b)
+    good (g .mode) (g .rule) state [] replies report a (C .mode) (C .rule) b (omega arith) ∙ rw (nothing lawful (cardIn (settingsIn g) state) (length replies), state-returns (settingsIn g) state b)
 
 pub out-kept : OutKept
 unfolding sentOf
@@ -115,7 +115,8 @@ module _ (g : Given) (state input replies report : List ℕ) where
   unfolding callOf
   calls P away ran =
       either-eq P (length report) 9 _ _
-      (λ n. either P (isMode (g .mode)) (λ k. either P (isState state) (λ b. either-lt P 12288 (length input) _ _ (λ d. away _ (omega arith, refl, refl)) (λ d. ran n (record { mode = leb-true (g .mode) 1 k }) b d)) (λ b. away _ (omega arith, refl, refl))) (λ k. away _ (omega arith, refl, refl)))
+      (λ n. either P (isMode (g .mode)) (λ k. either P (isRule (g .rule)) (λ q. either P (isState state) (λ b. either-lt P 12288 (length input) _ _ (λ d. away _ (omega arith, refl, refl))
+      (λ d. ran n (record { mode = leb-true (g .mode) 1 k; rule = leb-true (g .rule) 1 q }) b d)) (λ b. away _ (omega arith, refl, refl))) (λ q. away _ (omega arith, refl, refl))) (λ k. away _ (omega arith, refl, refl)))
       (λ n. away _ (omega arith, refl, refl))
     where
       either : {x y : Called} (P : Called → Type 0) (b : Bool) → (b ≡ true → P x) → (b ≡ false → P y) → P (cond b x y)
@@ -164,8 +165,8 @@ bad-file g C state input replies report a b d =
     let f = t .in-file in
     let n = length-take-le (o .taken) input f in
     let exact = le4-exact (o .taken) (omega arith) in
-    rw (good (g .mode) state input replies report a (C .mode) b d, exact)
-    (good (g .mode) state (take (o .taken) input) replies report a (C .mode) b (omega arith) ∙ ap (λ (p : Outcome). ranOf (length state) p replies) (up-to-stop lawful s input room))
+    rw (good (g .mode) (g .rule) state input replies report a (C .mode) (C .rule) b d, exact)
+    (good (g .mode) (g .rule) state (take (o .taken) input) replies report a (C .mode) (C .rule) b (omega arith) ∙ ap (λ (p : Outcome). ranOf (length state) p replies) (up-to-stop lawful s input room))
 
 -- ---- a file cut after any byte
 
@@ -185,7 +186,7 @@ cut-file g state input replies report =
     let ln = length-take-le n input (omega arith) in
     let exact = le4-exact (runOf s (take n input) room .taken) (omega (arith, c .whole-taken)) in (
       n,
-      rw (good (g .mode) state (take k input) replies report a (C .mode) b (omega arith), good (g .mode) state (take n input) replies report a (C .mode) b (omega arith)) record {
+      rw (good (g .mode) (g .rule) state (take k input) replies report a (C .mode) (C .rule) b (omega arith), good (g .mode) (g .rule) state (take n input) replies report a (C .mode) (C .rule) b (omega arith)) record {
         upto = up;
         whole-done = c .whole-done;
         whole-taken = exact ∙ c .whole-taken;
@@ -228,7 +229,7 @@ last-end g state input replies report z k n most c m up w =
     count-after (runCall g state (take k input) replies report .report) ∙ ap (λ (l : List ℕ). countAt l 0) (c .counts-are)
     ∙ sym (count-after (runCall g state (take n input) replies report .report)) ∙ c .whole-taken in
     let done : runOf s (take m input) room .refusal ≡ 0 =
-    sym (ap (λ (x : Called). x .result) (good (g .mode) state (take m input) replies report (is .0) (is .3 .mode) (is .1) (omega arith))) ∙ w in
+    sym (ap (λ (x : Called). x .result) (good (g .mode) (g .rule) state (take m input) replies report (is .0) (is .3 .mode) (is .3 .rule) (is .1) (omega arith))) ∙ w in
     let front = takes-more s (take k input) room m (omega arith) (ap (λ (l : List ℕ). runOf s l room .refusal) (take-take m k input up) ∙ done) in
     omega arith
 
@@ -285,7 +286,7 @@ bits-byte l h = by (eqb (length l) 19)
 
 pub event-kept : EventKept
 unfolding signalOf
-event-kept g state kind byte bytes = by (isMode (g .mode)) (isState state)
+event-kept g state kind byte bytes = by (isMode (g .mode)) (isRule (g .rule)) (isState state)
   where
     a : CardAnswer
     a = answerToKind (cardIn (settingsIn g) state) kind byte
@@ -293,13 +294,14 @@ event-kept g state kind byte bytes = by (isMode (g .mode)) (isState state)
     small : a .byte < 256
     small = event-byte (cardIn (settingsIn g) state) kind byte (byte-at (take 16 state) (bytes-take 16 state bytes) 0) (byte-at state bytes 17) (bits-byte state bytes)
 
-    by : (k b : Bool) → 256 ≤ (cond k (cond b (signalBy state a) (unsent BadState state)) (unsent BadMode state)) .result
-        → (cond k (cond b (signalBy state a) (unsent BadState state)) (unsent BadMode state)) .state ≡ state
-    by true true h =
+    by : (k q b : Bool) → 256 ≤ (cond k (cond q (cond b (signalBy state a) (unsent BadState state)) (unsent BadRule state)) (unsent BadMode state)) .result
+        → (cond k (cond q (cond b (signalBy state a) (unsent BadState state)) (unsent BadRule state)) (unsent BadMode state)) .state ≡ state
+    by true true true h =
         either-eq (λ (l : List ℕ). l ≡ state) (numberOf (a .refusal)) 0 (laidOut (length state) (a .card)) state
         (λ z. let y : ⊥ = omega (arith, small) in absurd y) (λ z. refl)
-    by true false h = refl
-    by false b h = refl
+    by true true false h = refl
+    by true false b h = refl
+    by false q b h = refl
 
 -- ---- a state stays a state
 
@@ -333,9 +335,11 @@ state-stays-event g state kind byte h i b =
     let a = answerToKind (cardIn (settingsIn g) state) kind byte in
     let r = event-ready (cardIn (settingsIn g) state) kind byte i (card-ready (settingsIn g) state h b) in
     let z = stands state b .size in
-    rw b (by (isMode (g .mode)) _ (either-eq (λ (l : List ℕ). (isState l ≡ true) × (length l ≡ length state)) (numberOf (a .refusal)) 0 (laidOut (length state) (a .card)) state
+    rw b (by (isMode (g .mode)) (isRule (g .rule)) _ (either-eq (λ (l : List ℕ). (isState l ≡ true) × (length l ≡ length state)) (numberOf (a .refusal)) 0 (laidOut (length state) (a .card)) state
     (λ y. (laid-state (a .card) r (length state) z, laid-length (a .card) (r .chip .stack .sixteen) (length state) z)) (λ y. (b, refl))))
   where
-    by : (x : Bool) (t : Signal) → (isState (t .state) ≡ true) × (length (t .state) ≡ length state) → (isState (cond x t (unsent BadMode state) .state) ≡ true) × (length (cond x t (unsent BadMode state) .state) ≡ length state)
-    by true t q = q
-    by false t q = (b, refl)
+    by : (x y : Bool) (t : Signal) → (isState (t .state) ≡ true) × (length (t .state) ≡ length state)
+        → (isState (cond x (cond y t (unsent BadRule state)) (unsent BadMode state) .state) ≡ true) × (length (cond x (cond y t (unsent BadRule state)) (unsent BadMode state) .state) ≡ length state)
+    by true true t q = q
+    by true false t q = (b, refl)
+    by false y t q = (b, refl)

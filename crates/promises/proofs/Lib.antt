@@ -25,3 +25,6 @@ pub mod OldLimits
 pub mod LongBlocks
 pub mod ErrorMemory
 pub mod Modes
+pub mod Rules
+pub mod Nearest
+pub mod NearBench

@@ -64,7 +64,7 @@ fresh-good = refl
 module _ (input : List ℕ) where
   call-is : length input ≤ 12288 → callFor input ≡ ranOf 19 (runOf fresh input 65536) (replicate 65536 0)
   call-is h =
-      good 0 (replicate 19 0) input (replicate 65536 0) (replicate 9 0) refl (lit≤ tt) fresh-good h
+      good 0 0 (replicate 19 0) input (replicate 65536 0) (replicate 9 0) refl (lit≤ tt) (lit≤ tt) fresh-good h
       ∙ ap (λ (n : ℕ). ranOf 19 (runOf fresh input n) (replicate 65536 0)) (length-replicate {A = ℕ} 65536 0)
 
   text-is : length input ≤ 12288 → printoutOf input ≡ linesOf 1 (runOf fresh input 65536 .written) ++ endOf (runOf fresh input 65536 .refusal) (runOf fresh input 65536 .taken)
@@ -80,7 +80,7 @@ module _ (input : List ℕ) where
 
   long-is : 12288 < length input → printoutOf input ≡ 101 ∷ 110 ∷ 100 ∷ 32 ∷ 57 ∷ 32 ∷ 48 ∷ 10 ∷ []
   unfolding linesUpTo hasReply spelled
-  long-is h = ap (λ (c : Called). printedOf (c .replies) (c .report)) (too-long 0 (replicate 19 0) input (replicate 65536 0) (replicate 9 0) refl (lit≤ tt) fresh-good h)
+  long-is h = ap (λ (c : Called). printedOf (c .replies) (c .report)) (too-long 0 0 (replicate 19 0) input (replicate 65536 0) (replicate 9 0) refl (lit≤ tt) (lit≤ tt) fresh-good h)
 
 -- ---- characters
 value-snoc : (n : ℕ) (l : List ℕ) (c : ℕ) → valueOf n (l ++ (c ∷ [])) ≡ valueOf n l * 10 + (c - 48)

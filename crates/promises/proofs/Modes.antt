@@ -14,7 +14,7 @@ use Rattle.terms.specs.declared.Mode.the-variants.{Am9511}
 use Rattle.terms.specs.declared.Refusal.the-variants.{InputTooLong, BadState}
 use Rattle.terms.specs.declared.Rule.{Rule}
 use Rattle.terms.specs.Refusal.{numberOf}
-use Rattle.terms.specs.Settings.{Settings}
+use Rattle.terms.specs.Settings.{Settings, ruleOf}
 use Rattle.stack.specs.Stack.{tos, pushed, popped}
 use Rattle.stack.proofs.Elems.{spelled}
 use Rattle.chip.specs.declared.State.{State}
@@ -49,8 +49,8 @@ use Rattle.promises.proofs.RunCall.{after-joined, stops-on}
 -- ---- turned away
 pub no-such-mode : NoMode
 no-such-mode = record {
-  run = λ g state input replies report k n. bad-mode (g .mode) state input replies report n k;
-  event = λ g state kind byte k. let s = no-mode (g .mode) state kind byte k 16 4096 refl refl in λ i. record { result = sym (s .result-is) i; state = sym (s .state-is) i };
+  run = λ g state input replies report k n. bad-mode (g .mode) (g .rule) state input replies report n k;
+  event = λ g state kind byte k. let s = no-mode (g .mode) (g .rule) state kind byte k 16 4096 refl refl in λ i. record { result = sym (s .result-is) i; state = sym (s .state-is) i };
 }
 
 -- ---- the older reset
@@ -239,20 +239,23 @@ module _ (by : Settings) where
       (pick (eqb kind 8) (pick (busy (c .chip)) (record { is = refl }) (record { is = refl })) (record { is = refl }))))))))
 
 -- ---- the calls
-module _ (g h : Given) (C : Chosen g) (D : Chosen h) where
+module _ (g h : Given) (C : Chosen g) (D : Chosen h) (same : g .rule ≡ h .rule) where
+  rules : settingsIn g .rule ≡ settingsIn h .rule
+  rules = ap ruleOf same
+
   calls-alike : (state input replies report : List ℕ) (split : Split (cardIn (settingsIn g) state) input (length replies) (runOf (cardIn (settingsIn g) state) input (length replies)))
       → NoReset (split .records) → runCall g state input replies report ≡ runCall h state input replies report
   calls-alike state input replies report split z =
-      let e = run-told (settingsIn h) (cardIn (settingsIn g) state) input (length replies) refl split z in
-      run-chosen (g .mode) state input replies report (C .mode)
+      let e = run-told (settingsIn h) (cardIn (settingsIn g) state) input (length replies) rules split z in
+      run-chosen (g .mode) (g .rule) state input replies report (C .mode) (C .rule)
       ∙ ap (λ (o : Outcome). cond (eqb (length report) 9) (cond (isState state) (cond (ltb 12288 (length input)) (away InputTooLong state replies) (ranOf (length state) o replies)) (away BadState state replies)) (record { result = 14; state = state; replies = replies; report = report })) (sym e)
-      ∙ sym (run-chosen (h .mode) state input replies report (D .mode))
+      ∙ sym (run-chosen (h .mode) (h .rule) state input replies report (D .mode) (D .rule))
 
   events-alike : (state : List ℕ) (kind byte : ℕ) → (kind ≡ 5 → ⊥) → eventCall g state kind byte ≡ eventCall h state kind byte
   events-alike state kind byte z =
-      event-chosen (g .mode) state kind byte (C .mode)
-      ∙ ap (λ (a : CardAnswer). cond (isState state) (signalBy state a) (unsent BadState state)) (sym (event-told (settingsIn h) (cardIn (settingsIn g) state) kind byte refl z .is))
-      ∙ sym (event-chosen (h .mode) state kind byte (D .mode))
+      event-chosen (g .mode) (g .rule) state kind byte (C .mode) (C .rule)
+      ∙ ap (λ (a : CardAnswer). cond (isState state) (signalBy state a) (unsent BadState state)) (sym (event-told (settingsIn h) (cardIn (settingsIn g) state) kind byte rules z .is))
+      ∙ sym (event-chosen (h .mode) (h .rule) state kind byte (D .mode) (D .rule))
 
 pub modes-differ-at-reset-alone : ModesAlike
 modes-differ-at-reset-alone = record {
@@ -265,6 +268,6 @@ modes-differ-at-reset-alone = record {
         taken = sym (ap (λ (o : Outcome). o .taken) e);
         written = sym (ap (λ (o : Outcome). o .written) e);
       };
-  calls = λ g h C D state input replies report split z. calls-alike g h C D state input replies report split z;
-  events = λ g h C D state kind byte z. events-alike g h C D state kind byte z;
+  calls = λ g h C D e state input replies report split z. calls-alike g h C D e state input replies report split z;
+  events = λ g h C D e state kind byte z. events-alike g h C D e state kind byte z;
 }

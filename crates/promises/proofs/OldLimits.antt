@@ -43,5 +43,5 @@ old-limits = record {
   same = same-run 16 240 (lit≤ tt) (lit≤ tt);
   up-to = same-up-to 16 240 (lit≤ tt) (lit≤ tt);
   call = λ g C state input replies report a b d no.
-      good (g .mode) state input replies report a (C .mode) b d ∙ ap (λ (o : Outcome). ranOf (length state) o replies) (same-run 16 240 (lit≤ tt) (lit≤ tt) (cardIn (settingsIn g) state) input (length replies) no);
+      good (g .mode) (g .rule) state input replies report a (C .mode) (C .rule) b d ∙ ap (λ (o : Outcome). ranOf (length state) o replies) (same-run 16 240 (lit≤ tt) (lit≤ tt) (cardIn (settingsIn g) state) input (length replies) no);
 }

@@ -140,7 +140,7 @@ bus on = record {
 }
 
 pub bus-events : BusEvents
-bus-events mode = bus (under mode)
+bus-events = bus
 
 -- byte 16 of a state's bytes is the flag
 flag-odd : (x : ℕ) → x ≤ 1 → Odd (eqb x 1) x

@@ -109,7 +109,7 @@ counts-exact g C state input replies report a b d =
     let t = tally lawful (cardIn (settingsIn g) state) input (length replies) in
     let i = t .in-file in
     let f = t .few in
-    rw (good (g .mode) state input replies report a (C .mode) b d) (le4-exact (o .taken) (omega arith), le4-exact (length (o .written)) (omega arith))
+    rw (good (g .mode) (g .rule) state input replies report a (C .mode) (C .rule) b d) (le4-exact (o .taken) (omega arith), le4-exact (length (o .written)) (omega arith))
 
 -- ---- one whole record
 

@@ -83,4 +83,4 @@ numbers on = record {
 }
 
 pub refusals : Refusals
-refusals mode = numbers (under mode)
+refusals = numbers

@@ -12,6 +12,7 @@ use Rattle.terms.specs.declared.Width.the-variants.{Double}
 use Rattle.float.specs.declared.Flagged.{Flagged}
 use Rattle.float.specs.Word.{negative, proper, size88, value, FloatWord}
 use Rattle.terms.specs.declared.Rule.{Rule}
+use Rattle.terms.specs.declared.Rule.the-variants.{Cut}
 use Rattle.float.specs.Float.{exactProduct}
 use Rattle.float.specs.Root.{sqrt}
 use Rattle.float.proofs.RootCut.{root-negative, root-none}
@@ -80,7 +81,7 @@ squares a b s t e = ap natAbs (rw (s, t) at e)
 root-values : RootValues
 root-values = record {
   only = one-root;
-  found = λ a A. root-exactly a (A .is-proper);
+  found = λ a A. root-exactly Cut a (A .is-proper);
   no-error = λ rule a A s. root-no-error rule a (A .is-proper) s;
   proper-root = λ rule a A. root-result rule a A .word;
   square = λ rule a b s B t e. root-exact rule a b s t B (squares a b s t e);

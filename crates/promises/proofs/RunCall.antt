@@ -9,8 +9,8 @@ use borrow.Author.Tests.{eq-eqb}
 use lib.Dec.{ltb}
 use lib.ListN.{length, take, drop, getD, length-drop}
 use lib.Seq.{drop-append-add}
-use Rattle.terms.specs.declared.Refusal.the-variants.{NoRoom, InputTooLong, BadState, BadMode}
-use Rattle.terms.specs.Settings.{Settings, isMode}
+use Rattle.terms.specs.declared.Refusal.the-variants.{NoRoom, InputTooLong, BadState, BadMode, BadRule}
+use Rattle.terms.specs.Settings.{Settings, isMode, isRule}
 use Rattle.stack.specs.Stack.{Bytes}
 use Rattle.memory.specs.Memory.{Card, cardWith}
 use Rattle.memory.proofs.Good.{ReadyCard}
@@ -52,7 +52,7 @@ run-call g C c set state input replies report B I h f n d =
     let is : cardIn (settingsIn g) state ≡ c = ap (λ (on : Settings). cardIn on state) (sym set) ∙ stands-read state c h f in
     let r = run-ready c input (length replies) (subst ReadyCard is (card-ready (settingsIn g) state B h)) I in
     let e : runCall g state input replies report ≡ ranOf (length state) o replies =
-    good (g .mode) state input replies report n (C .mode) h d ∙ ap (λ (x : Card). ranOf (length state) (runOf x input (length replies)) replies) is in
+    good (g .mode) (g .rule) state input replies report n (C .mode) (C .rule) h d ∙ ap (λ (x : Card). ranOf (length state) (runOf x input (length replies)) replies) is in
     subst (λ (x : Called). Reports (length state) x o replies) (sym e) (record {
       result = refl;
       state = laid-so (length state) (o .state) (r .chip .stack .sixteen);
@@ -63,17 +63,18 @@ run-call g C c set state input replies report B I h f n d =
 -- every way but 14
 pub reports-result : ReportsResult
 unfolding callOf
-reports-result g state input replies report n = rw (eq-eqb (length report) 9 n) (by (isMode (g .mode)) (isState state) (ltb 12288 (length input)))
+reports-result g state input replies report n = rw (eq-eqb (length report) 9 n) (by (isMode (g .mode)) (isRule (g .rule)) (isState state) (ltb 12288 (length input)))
   where
     Says : Called → Type 0
     Says c = getD (c .report) 0 0 ≡ c .result
 
-    by : (k x y : Bool)
-        → Says (cond k (cond x (cond y (away InputTooLong state replies) (ranOf (length state) (runOf (cardIn (settingsIn g) state) input (length replies)) replies)) (away BadState state replies)) (away BadMode state replies))
-    by true true true = refl
-    by true true false = refl
-    by true false y = refl
-    by false x y = refl
+    by : (k q x y : Bool)
+        → Says (cond k (cond q (cond x (cond y (away InputTooLong state replies) (ranOf (length state) (runOf (cardIn (settingsIn g) state) input (length replies)) replies)) (away BadState state replies)) (away BadRule state replies)) (away BadMode state replies))
+    by true true true true = refl
+    by true true true false = refl
+    by true true false y = refl
+    by true false x y = refl
+    by false q x y = refl
 
 -- what follows the records of a split file
 pub after-joined : (rs : List (List ℕ)) (rest : List ℕ) → drop (total (lengths rs)) (joined rs ++ rest) ≡ rest
@@ -127,7 +128,7 @@ stops-again g C state input replies report B I h n d z =
     let s = cardIn (settingsIn g) state in
     let size = good-states state .0 h .size in
     let o = runOf s input (length replies) in
-    let e = good (g .mode) state input replies report n (C .mode) h d in
+    let e = good (g .mode) (g .rule) state input replies report n (C .mode) (C .rule) h d in
     let c = counts-exact g C state input replies report n h d in
     let y : o .refusal ≡ 0 → ⊥ = λ x. z (ap (λ (q : Called). q .result) e ∙ x) in
     let r = tally lawful s input (length replies) .range y in
@@ -138,7 +139,7 @@ stops-again g C state input replies report B I h n d z =
     let k = cardIn (settingsIn g) bytes in
     let room = drop (length (o .written)) replies in
     let again : runCall g bytes (drop (o .taken) input) room report ≡ record { result = o .refusal; state = bytes; replies = room; report = o .refusal ∷ 0 ∷ 0 ∷ 0 ∷ 0 ∷ 0 ∷ 0 ∷ 0 ∷ 0 ∷ [] } =
-    good (g .mode) bytes (drop (o .taken) input) room report n (C .mode) stand (omega arith)
+    good (g .mode) (g .rule) bytes (drop (o .taken) input) room report n (C .mode) (C .rule) stand (omega arith)
     ∙ ap (λ (x : ℕ). ranOf (length bytes) (runOf k (drop (o .taken) input) x) room) (length-drop (length (o .written)) replies)
     ∙ ap (λ (p : Outcome). ranOf (length bytes) p room) (stops-on s input (length replies) y k)
     ∙ ap (λ (l : List ℕ). record { result = o .refusal; state = l; replies = room; report = o .refusal ∷ 0 ∷ 0 ∷ 0 ∷ 0 ∷ 0 ∷ 0 ∷ 0 ∷ 0 ∷ [] }) (card-returns (settingsIn g) bytes stand) in

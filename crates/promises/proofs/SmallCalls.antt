@@ -11,12 +11,13 @@ use lib.ListN.{length, take, getD, length-append}
 use lib.Seq.{take-at, take-append-le, getD-append-add}
 use Rattle.terms.specs.declared.Mode.{Mode}
 use Rattle.terms.specs.declared.Mode.the-variants.{Am9511A, Am9511}
-use Rattle.terms.specs.Settings.{Settings, modeOf}
+use Rattle.terms.specs.declared.Rule.{Rule}
+use Rattle.terms.specs.Settings.{Settings, modeOf, ruleOf}
 use Rattle.stack.specs.Stack.{zeros}
 use Rattle.chip.specs.declared.State.{State}
 use Rattle.chip.specs.declared.Event.the-variants.{Reset}
 use Rattle.chip.specs.State.{afterReset}
-use Rattle.chip.specs.Step.{done, pushOf, popOf, readOf, resetOf, acknowledgeOf, under}
+use Rattle.chip.specs.Step.{done, pushOf, popOf, readOf, resetOf, acknowledgeOf, given}
 use Rattle.memory.specs.declared.Memory.{Memory}
 use Rattle.memory.specs.Memory.{emptyMemory, Card, cardWith, around, answerWith}
 use Rattle.host.specs.declared.Reply.{Reply}
@@ -190,16 +191,16 @@ unfolding popOf
 pops b l p u v h = rw (lt-leb 128 u h)
 
 -- what a reset leaves of the bytes, whichever part's it is
-reset-signals : (mode : Mode) (byte : ℕ) (l : List ℕ) (p u v : ℕ) (t : List ℕ) → Parts l p u v t
-    → signalUnder (under mode) (laid l p u v t) 5 byte ≡ signalled 0 (afterReset mode (stood l p u v) .stack ++ (0 ∷ 0 ∷ 0 ∷ zeros (length t)))
-reset-signals Am9511A byte l p u v t P =
-    signals l p u v t P (under Am9511A) 5 byte 0 _ emptyMemory (ap (answerWith (under Am9511A) (behindIs t) Reset) (resets l p u v t P Am9511A)) (tail-gone l p u v t P)
-reset-signals Am9511 byte l p u v t P =
-    signals l p u v t P (under Am9511) 5 byte 0 _ emptyMemory (ap (answerWith (under Am9511) (behindIs t) Reset) (resets l p u v t P Am9511)) (tail-gone l p u v t P)
+reset-signals : (mode : Mode) (rule : Rule) (byte : ℕ) (l : List ℕ) (p u v : ℕ) (t : List ℕ) → Parts l p u v t
+    → signalUnder (given mode rule) (laid l p u v t) 5 byte ≡ signalled 0 (afterReset mode (stood l p u v) .stack ++ (0 ∷ 0 ∷ 0 ∷ zeros (length t)))
+reset-signals Am9511A rule byte l p u v t P =
+    signals l p u v t P (given Am9511A rule) 5 byte 0 _ emptyMemory (ap (answerWith (given Am9511A rule) (behindIs t) Reset) (resets l p u v t P Am9511A)) (tail-gone l p u v t P)
+reset-signals Am9511 rule byte l p u v t P =
+    signals l p u v t P (given Am9511 rule) 5 byte 0 _ emptyMemory (ap (answerWith (given Am9511 rule) (behindIs t) Reset) (resets l p u v t P Am9511)) (tail-gone l p u v t P)
 
 -- the mode of a number that is known
-mode-is : (g : Given) (n : ℕ) → g .mode ≡ n → settingsIn g ≡ under (modeOf n)
-mode-is g n e = ap (λ (m : ℕ). under (modeOf m)) e
+mode-is : (g : Given) (n : ℕ) → g .mode ≡ n → settingsIn g ≡ given (modeOf n) (ruleOf (g .rule))
+mode-is g n e = ap (λ (m : ℕ). given (modeOf m) (ruleOf (g .rule))) e
 
 module _ (g : Given) (C : Chosen g) where
   -- the settings, and the call under them
@@ -207,12 +208,12 @@ module _ (g : Given) (C : Chosen g) where
   set = settingsIn g
 
   chosen : (state : List ℕ) (kind byte : ℕ) {x : Signal} → signalUnder set state kind byte ≡ x → eventCall g state kind byte ≡ x
-  chosen state kind byte e = event-chosen (g .mode) state kind byte (C .mode) ∙ e
+  chosen state kind byte e = event-chosen (g .mode) (g .rule) state kind byte (C .mode) (C .rule) ∙ e
 
   reset-told : (n : ℕ) → g .mode ≡ n → (byte : ℕ) (l : List ℕ) (p u v : ℕ) (t : List ℕ) → Parts l p u v t
       → eventCall g (laid l p u v t) 5 byte ≡ signalled 0 (afterReset (modeOf n) (stood l p u v) .stack ++ (0 ∷ 0 ∷ 0 ∷ zeros (length t)))
   reset-told n m byte l p u v t P =
-      chosen (laid l p u v t) 5 byte (ap (λ (on : Settings). signalUnder on (laid l p u v t) 5 byte) (mode-is g n m) ∙ reset-signals (modeOf n) byte l p u v t P)
+      chosen (laid l p u v t) 5 byte (ap (λ (on : Settings). signalUnder on (laid l p u v t) 5 byte) (mode-is g n m) ∙ reset-signals (modeOf n) (ruleOf (g .rule)) byte l p u v t P)
 
   event-under : EventCallUnder g
   event-under = record {

@@ -70,7 +70,7 @@ whole on = record {
 }
 
 pub whole-words : WholeWords
-whole-words mode = whole (under mode)
+whole-words = whole
 
 -- ---- every 16 bytes are words
 -- bytes are those of the number that they stand for, after the bytes of the number before them

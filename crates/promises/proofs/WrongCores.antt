@@ -88,11 +88,11 @@ module _ (g : Given) (C : Chosen g) (c : Core) (M : Meets g c) where
       ((c .run fresh input replies nine) .replies) ((c .run fresh input replies nine) .report)
   run-told input replies i w l =
       subst (λ (x : Called). Calls x ((c .run fresh input replies nine) .result) ((c .run fresh input replies nine) .state) ((c .run fresh input replies nine) .replies) ((c .run fresh input replies nine) .report))
-      (good (g .mode) fresh input replies nine refl (C .mode) (begins .good) l) (M .run fresh input replies nine fresh-bytes i w nine-bytes)
+      (good (g .mode) (g .rule) fresh input replies nine refl (C .mode) (C .rule) (begins .good) l) (M .run fresh input replies nine fresh-bytes i w nine-bytes)
 
   event-told : (kind byte : ℕ) → kind < 2 ^ 32 → byte < 256 → Signals (signalUnder (settingsIn g) fresh kind byte) ((c .event fresh kind byte) .result) ((c .event fresh kind byte) .state)
   event-told kind byte k b =
-      subst (λ (x : Signal). Signals x ((c .event fresh kind byte) .result) ((c .event fresh kind byte) .state)) (event-chosen (g .mode) fresh kind byte (C .mode)) (M .event fresh kind byte fresh-bytes k b)
+      subst (λ (x : Signal). Signals x ((c .event fresh kind byte) .result) ((c .event fresh kind byte) .state)) (event-chosen (g .mode) (g .rule) fresh kind byte (C .mode) (C .rule)) (M .event fresh kind byte fresh-bytes k b)
 
 tells : (g : Given) → Chosen g → (c : Core) → Meets g c → Tells c
 unfolding callOf sentOf isState runBy run turnUnder frameUnder hostOf takenOf pushOf resetOf
@@ -184,12 +184,12 @@ module _ (g : Given) (C : Chosen g) where
   -- both-of counts are 0 where a call is turned away
   none-counted : (state input replies report : List ℕ) → length report ≡ 9 → (isState state ≡ false) ⊎ (12288 < length input)
       → (countAt ((runCall g state input replies report) .report) 1 ≡ 0) × (countAt ((runCall g state input replies report) .report) 5 ≡ 0)
-  none-counted state input replies report n (inl b) = rw (bad-state (g .mode) state input replies report n (C .mode) b) (refl, refl)
+  none-counted state input replies report n (inl b) = rw (bad-state (g .mode) (g .rule) state input replies report n (C .mode) (C .rule) b) (refl, refl)
   none-counted state input replies report n (inr l) = go (isState state) refl
     where
       go : (x : Bool) → isState state ≡ x → (countAt ((runCall g state input replies report) .report) 1 ≡ 0) × (countAt ((runCall g state input replies report) .report) 5 ≡ 0)
-      go true e = rw (too-long (g .mode) state input replies report n (C .mode) e l) (refl, refl)
-      go false e = rw (bad-state (g .mode) state input replies report n (C .mode) e) (refl, refl)
+      go true e = rw (too-long (g .mode) (g .rule) state input replies report n (C .mode) (C .rule) e l) (refl, refl)
+      go false e = rw (bad-state (g .mode) (g .rule) state input replies report n (C .mode) (C .rule) e) (refl, refl)
 
   invented-counts : No g (InventedCounts g)
   invented-counts c M (wrong-taken state input replies report s i w p n q l split differs) =

@@ -155,7 +155,7 @@ pub record Chains (on : Settings) : Type 0 where
 
 -- demand 3: of the chip as it stands
 abbrev pub Demand3 : Type 0
-Demand3 = (mode : Mode) → Chains (under mode)
+Demand3 = (on : Settings) → Chains on
 
 -- ---- examples: the premise of the order can be met, and without it order can break
 -- from reset, sr clear; and from a full stack with every error bit and the carry standing in the status, the service line high, sr set

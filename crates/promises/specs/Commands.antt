@@ -154,7 +154,7 @@ pub record ConversionRows (rule : Rule) : Type 0 where
       → Leaves rule (Flt Double) (word Double a (word Double b (word Double c ds))) Double ((fltd rule a) .word) 0 false (word Double b (word Double c (zeros 4)))
   -- FLTS: A's value; R (two cells), 16-bit B, C, D, E, 0, 0
   pub flts-row : (a b c d e : ℕ) → a < words Single → (fs : List ℕ)
-      → Leaves rule (Flt Single) (word Single a (word Single b (word Single c (word Single d (word Single e fs))))) Double ((flts rule a) .word) 0 false
+      → Leaves rule (Flt Single) (word Single a (word Single b (word Single c (word Single d (word Single e fs))))) Double ((flts a) .word) 0 false
       (word Single b (word Single c (word Single d (word Single e (zeros 4)))))
   -- FIXD: whole part of A toward zero; R, B, C, 0
   pub fixd-row : (a b c : ℕ) → FloatWord a → wholePart a < 2 ^ 31 → (ds : List ℕ)
@@ -190,4 +190,4 @@ pub record Rows (rule : Rule) : Type 0 where
 
 -- demand 2 of the chip as it stands
 abbrev pub Commands : Type 0
-Commands = Rows baseRule
+Commands = (rule : Rule) → Rows rule

@@ -156,8 +156,8 @@ pub record Driven (g : Given) (c : Core) : Type 0 where
   -- demand 3 at the event call: every call of a run returns 0, error bits or not
   pub chain-answers : (state : List ℕ) (w : ℕ) (sr : ℕ → Bool) (ks : List Step) → Begins state w → Constants ks → allZero (returned c state (busRun w sr ks)) ≡ true
   -- at the end the word of demand 2 lies on top, high byte first, a function of the word and the chain alone
-  pub chain-bytes : (state : List ℕ) (w : ℕ) (sr : ℕ → Bool) (ks : List Step) → Begins state w → Constants ks → take 4 (driven c state (busRun w sr ks)) ≡ bytesOf 4 (wordAfter baseRule w ks)
-  pub chain-word : (state : List ℕ) (w : ℕ) (sr : ℕ → Bool) (ks : List Step) → Begins state w → Constants ks → wordLeft c state (busRun w sr ks) ≡ wordAfter baseRule w ks
+  pub chain-bytes : (state : List ℕ) (w : ℕ) (sr : ℕ → Bool) (ks : List Step) → Begins state w → Constants ks → take 4 (driven c state (busRun w sr ks)) ≡ bytesOf 4 (wordAfter (settingsIn g .rule) w ks)
+  pub chain-word : (state : List ℕ) (w : ℕ) (sr : ℕ → Bool) (ks : List Step) → Begins state w → Constants ks → wordLeft c state (busRun w sr ks) ≡ wordAfter (settingsIn g .rule) w ks
   -- where neither run leaves an error bit, an even number of reversing steps keeps the order of the values
   pub chain-even : (state state' : List ℕ) (v w : ℕ) (sr sr' : ℕ → Bool) (ks : List Step) → Begins state v → Begins state' w → Constants ks
       → drivenQuietly c state (busRun v sr ks) ≡ true → drivenQuietly c state' (busRun w sr' ks) ≡ true → Le v w

@@ -13,7 +13,7 @@ use Rattle.memory.specs.declared.Event.{Event}
 use Rattle.memory.specs.declared.Event.the-variants.{Chip, Recall, Forget}
 use Rattle.stored.specs.Bytes.{isState}
 use Rattle.pundaliket.specs.Calls.{Called}
-use Rattle.promises.specs.Given.{Given, Chosen}
+use Rattle.promises.specs.Given.{Given, Chosen, settingsIn}
 use Rattle.promises.specs.Records.{countAt}
 use Rattle.promises.specs.Chains.{Step, Constants, reversing, wordAfter}
 use Rattle.promises.specs.Cores.{Core, Meets, kindNumber, byteOf, Sendable, Keeps, driven, returned, drivenQuietly, Begins, busRun}
@@ -87,7 +87,7 @@ abbrev pub zerosFor : List Event → List ℕ
 zerosFor [] = []
 zerosFor (e ∷ es) = 0 ∷ zerosFor es
 
-pub record ChainFiles (c : Core) : Type 0 where
+pub record ChainFiles (g : Given) (c : Core) : Type 0 where
   -- every record is answered 0, error bits or not, and the call returns 0
   pub answers : (state : List ℕ) (w : ℕ) (sr : ℕ → Bool) (ks : List Step) (replies report : List ℕ) → Begins state w → Constants ks → Lent c state (busRun w sr ks) replies report
       → ((c .run state (chainFile w sr ks) replies report) .result ≡ 0)
@@ -95,7 +95,7 @@ pub record ChainFiles (c : Core) : Type 0 where
       ≡ repliesTo (busRun w sr ks) (zerosFor (busRun w sr ks)) (zerosFor (busRun w sr ks)) ++ drop (length (repliesTo (busRun w sr ks) (zerosFor (busRun w sr ks)) (zerosFor (busRun w sr ks)))) replies)
   -- the word of demand 2 lies on top, high byte first, a function of the word and the chain alone
   pub bytes : (state : List ℕ) (w : ℕ) (sr : ℕ → Bool) (ks : List Step) (replies report : List ℕ) → Begins state w → Constants ks → Lent c state (busRun w sr ks) replies report
-      → take 4 ((c .run state (chainFile w sr ks) replies report) .state) ≡ bytesOf 4 (wordAfter baseRule w ks)
+      → take 4 ((c .run state (chainFile w sr ks) replies report) .state) ≡ bytesOf 4 (wordAfter (settingsIn g .rule) w ks)
   -- where the events of neither file leave an error bit, an even number of reversing steps keeps the order of the values, and an odd number turns it round
   pub even : (state state' : List ℕ) (v w : ℕ) (sr sr' : ℕ → Bool) (ks : List Step) (replies replies' report report' : List ℕ) → Begins state v → Begins state' w → Constants ks
       → Lent c state (busRun v sr ks) replies report → Lent c state' (busRun w sr' ks) replies' report'
@@ -107,4 +107,4 @@ pub record ChainFiles (c : Core) : Type 0 where
       → Le (tos 4 ((c .run state' (chainFile w sr' ks) replies' report') .state)) (tos 4 ((c .run state (chainFile v sr ks) replies report) .state))
 
 abbrev pub Demand3Files : Type 0
-Demand3Files = (g : Given) → Chosen g → (c : Core) → Meets g c → ChainFiles c
+Demand3Files = (g : Given) → Chosen g → (c : Core) → Meets g c → ChainFiles g c

@@ -54,10 +54,10 @@ pub record WordLaws : Type 0 where
 -- ---- the conversions
 pub record Conversions : Type 0 where
   -- FLTS: A's value, exact; FLTD: A's value, cut to 24 bits; neither sets an error
-  pub flts-exact : (a : ℕ) → a < 2 ^ 16 → value ((flts baseRule a) .word) ≡ integer (2 ^ 15) a *ℤ pos (2 ^ 88)
+  pub flts-exact : (a : ℕ) → a < 2 ^ 16 → value ((flts a) .word) ≡ integer (2 ^ 15) a *ℤ pos (2 ^ 88)
   pub fltd-cut : (a : ℕ) → a < 2 ^ 32 → Exactly (integer (2 ^ 31) a) 1 (pos 1) (pos 32) (fltd baseRule a)
-  pub no-error : (a : ℕ) → (a < 2 ^ 16 → (flts baseRule a) .error ≡ 0) × (a < 2 ^ 32 → (fltd baseRule a) .error ≡ 0)
-  pub proper-floats : (a : ℕ) → FloatWord ((flts baseRule a) .word) × FloatWord ((fltd baseRule a) .word)
+  pub no-error : (a : ℕ) → (a < 2 ^ 16 → (flts a) .error ≡ 0) × (a < 2 ^ 32 → (fltd baseRule a) .error ≡ 0)
+  pub proper-floats : (a : ℕ) → FloatWord ((flts a) .word) × FloatWord ((fltd baseRule a) .word)
   -- FIXD, FIXS: |R| <= |A| < |R| + 1 with A's sign where the whole part is at most 2^31-1 or 32,767
   pub fixd-taken : (a : ℕ) → wholePart a < 2 ^ 31 → Truncated (2 ^ 31) a (fixd a)
   pub fixs-taken : (a : ℕ) → wholePart a < 2 ^ 15 → Truncated (2 ^ 15) a (fixs a)

@@ -5,8 +5,9 @@ use mathlib.Core.Path.{_≡_}
 use mathlib.Core.List.{List, [], _∷_, _++_, map}
 use lib.ListN.{length, drop, getD}
 use Rattle.terms.specs.declared.Mode.the-variants.{Am9511A}
+use Rattle.terms.specs.declared.Rule.the-variants.{Cut}
 use Rattle.chip.specs.State.{resetState}
-use Rattle.chip.specs.Step.{under}
+use Rattle.chip.specs.Step.{given}
 use Rattle.memory.specs.Memory.{emptyMemory, Card, cardWith}
 use Rattle.records.specs.Record.{replyOf}
 use Rattle.records.specs.Run.{runOf}
@@ -63,7 +64,7 @@ lastLine refusal taken = 101 ∷ 110 ∷ 100 ∷ ((32 ∷ decimal refusal) ++ ((
 
 -- the card after a reset
 abbrev pub fresh : Card
-fresh = cardWith (under Am9511A) resetState emptyMemory
+fresh = cardWith (given Am9511A Cut) resetState emptyMemory
 
 pub record Listings : Type 0 where
   -- an input of at most 12,288 bytes, run from reset with 65,536 bytes of room and split into the records taken and the rest (Records: every file splits so):

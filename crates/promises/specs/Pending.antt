@@ -81,4 +81,4 @@ PendingByte =
 
 -- of the chip as it stands
 abbrev pub BusEvents : Type 0
-BusEvents = (mode : Mode) → Bus (under mode)
+BusEvents = (on : Settings) → Bus on

@@ -45,4 +45,4 @@ pub record Numbers (on : Settings) : Type 0 where
 
 -- of the chip as it stands
 abbrev pub Refusals : Type 0
-Refusals = (mode : Mode) → Numbers (under mode)
+Refusals = (on : Settings) → Numbers on

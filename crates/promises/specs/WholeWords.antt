@@ -55,7 +55,7 @@ pub record Whole (on : Settings) : Type 0 where
 
 -- of the chip as it stands
 abbrev pub WholeWords : Type 0
-WholeWords = (mode : Mode) → Whole (under mode)
+WholeWords = (on : Settings) → Whole on
 
 -- ---- every 16 bytes are words, in the sense of the rows of 01's tables
 -- words of a width, each over the next

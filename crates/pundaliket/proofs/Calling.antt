@@ -11,7 +11,7 @@ use lib.Seq.{length-take-le, getD-append-add, getD-drop, take-at}
 use borrow.Author.Tests.{lt-ltb, le-ltb, lt-leb, le-leb, eq-eqb, ne-eqb}
 use Rattle.little.specs.Little.{le4}
 use Rattle.terms.specs.declared.Refusal.{Refusal}
-use Rattle.terms.specs.declared.Refusal.the-variants.{Done, NoSuchKind, NoRoom, InputTooLong, BadState, BadMode}
+use Rattle.terms.specs.declared.Refusal.the-variants.{Done, NoSuchKind, NoRoom, InputTooLong, BadState, BadMode, BadRule}
 use Rattle.terms.specs.Refusal.{numberOf}
 use Rattle.terms.specs.Settings.{Settings}
 use Rattle.chip.specs.declared.State.{State}
@@ -116,32 +116,36 @@ pub turned-away : (r : Refusal) (n : ℕ) (state replies report : List ℕ) → 
     → Calls (away r state replies) n state replies report
 turned-away r n state replies report e h = record { result-is = e; state-is = refl; replies-is = refl; report-is = h }
 
-module _ (mode : ℕ) (state input replies report : List ℕ) where
-  pub bad-report : (length report ≡ 9 → ⊥) → (n : ℕ) → n ≡ 14 → Calls (callOf mode state input replies report) n state replies report
+module _ (mode rule : ℕ) (state input replies report : List ℕ) where
+  pub bad-report : (length report ≡ 9 → ⊥) → (n : ℕ) → n ≡ 14 → Calls (callOf mode rule state input replies report) n state replies report
   unfolding callOf
   bad-report a n e = simp ne-eqb record { result-is = e; state-is = refl; replies-is = refl; report-is = refl }
 
   -- under numbers that are not turned away
-  pub run-chosen : mode ≤ 1 → callOf mode state input replies report ≡ cond (eqb (length report) 9) (callUnder (settingsOf mode) state input replies) (record { result = 14; state = state; replies = replies; report = report })
+  pub run-chosen : mode ≤ 1 → rule ≤ 1 → callOf mode rule state input replies report ≡ cond (eqb (length report) 9) (callUnder (settingsOf mode rule) state input replies) (record { result = 14; state = state; replies = replies; report = report })
   unfolding callOf
-  run-chosen k = rw (le-leb mode 1 k)
+  run-chosen k q = rw (le-leb mode 1 k, le-leb rule 1 q)
 
-  pub bad-mode : length report ≡ 9 → 1 < mode → callOf mode state input replies report ≡ away BadMode state replies
+  pub bad-mode : length report ≡ 9 → 1 < mode → callOf mode rule state input replies report ≡ away BadMode state replies
   unfolding callOf
   bad-mode a k = rw (eq-eqb (length report) 9 a, lt-leb mode 1 k)
 
-  pub bad-state : length report ≡ 9 → mode ≤ 1 → isState state ≡ false → callOf mode state input replies report ≡ away BadState state replies
+  pub bad-rule : length report ≡ 9 → mode ≤ 1 → 1 < rule → callOf mode rule state input replies report ≡ away BadRule state replies
   unfolding callOf
-  bad-state a k b = rw (eq-eqb (length report) 9 a, le-leb mode 1 k, b)
+  bad-rule a k q = rw (eq-eqb (length report) 9 a, le-leb mode 1 k, lt-leb rule 1 q)
 
-  pub too-long : length report ≡ 9 → mode ≤ 1 → isState state ≡ true → 12288 < length input → callOf mode state input replies report ≡ away InputTooLong state replies
+  pub bad-state : length report ≡ 9 → mode ≤ 1 → rule ≤ 1 → isState state ≡ false → callOf mode rule state input replies report ≡ away BadState state replies
   unfolding callOf
-  too-long a k b d = rw (eq-eqb (length report) 9 a, le-leb mode 1 k, b, lt-ltb 12288 (length input) d)
+  bad-state a k q b = rw (eq-eqb (length report) 9 a, le-leb mode 1 k, le-leb rule 1 q, b)
 
-  pub good : length report ≡ 9 → mode ≤ 1 → isState state ≡ true → length input ≤ 12288
-      → callOf mode state input replies report ≡ ranOf (length state) (runOf (cardIn (settingsOf mode) state) input (length replies)) replies
+  pub too-long : length report ≡ 9 → mode ≤ 1 → rule ≤ 1 → isState state ≡ true → 12288 < length input → callOf mode rule state input replies report ≡ away InputTooLong state replies
   unfolding callOf
-  good a k b d = rw (eq-eqb (length report) 9 a, le-leb mode 1 k, b, le-ltb 12288 (length input) d)
+  too-long a k q b d = rw (eq-eqb (length report) 9 a, le-leb mode 1 k, le-leb rule 1 q, b, lt-ltb 12288 (length input) d)
+
+  pub good : length report ≡ 9 → mode ≤ 1 → rule ≤ 1 → isState state ≡ true → length input ≤ 12288
+      → callOf mode rule state input replies report ≡ ranOf (length state) (runOf (cardIn (settingsOf mode rule) state) input (length replies)) replies
+  unfolding callOf
+  good a k q b d = rw (eq-eqb (length report) 9 a, le-leb mode 1 k, le-leb rule 1 q, b, le-ltb 12288 (length input) d)
 
 -- a single event: refused, and the stack where it lies as it was, or done
 module _ (on : Settings) (state : List ℕ) (e : Event) (a : CardAnswer) (is : a ≡ eventIn (cardIn on state) e) {n r : ℕ} (en : n ≡ numberOf (a .refusal)) (er : r ≡ joinedOf n (a .byte)) where
@@ -185,28 +189,32 @@ module _ (on : Settings) (state : List ℕ) (h : isState state ≡ true) {r : �
       (other-memory (length state) (stateOf state) (memoryIn state) emptyMemory (stack-size state (state-sized state h)) (sym (card-returns on state h)) refl (e ∙ ap (λ (k : Memory). take 19 state ++ memoryBytesOf (length state) k) is))
 
 -- an event by its kind: turned away, one that the kind names, or 5
-module _ (mode : ℕ) (state : List ℕ) (kind byte : ℕ) where
-  pub no-mode : 1 < mode → (n r : ℕ) → n ≡ numberOf BadMode → r ≡ joinedOf n 0 → Signals (signalOf mode state kind byte) r state
+module _ (mode rule : ℕ) (state : List ℕ) (kind byte : ℕ) where
+  pub no-mode : 1 < mode → (n r : ℕ) → n ≡ numberOf BadMode → r ≡ joinedOf n 0 → Signals (signalOf mode rule state kind byte) r state
   unfolding signalOf
   no-mode k n r e f = rw (lt-leb mode 1 k) record { result-is = f ∙ rw e; state-is = refl }
 
-  pub event-chosen : mode ≤ 1 → signalOf mode state kind byte ≡ signalUnder (settingsOf mode) state kind byte
+  pub no-rule : mode ≤ 1 → 1 < rule → (n r : ℕ) → n ≡ numberOf BadRule → r ≡ joinedOf n 0 → Signals (signalOf mode rule state kind byte) r state
   unfolding signalOf
-  event-chosen k = rw (le-leb mode 1 k)
+  no-rule k q n r e f = rw (le-leb mode 1 k, lt-leb rule 1 q) record { result-is = f ∙ rw e; state-is = refl }
 
-  pub no-state : mode ≤ 1 → isState state ≡ false → (n r : ℕ) → n ≡ numberOf BadState → r ≡ joinedOf n 0 → Signals (signalOf mode state kind byte) r state
+  pub event-chosen : mode ≤ 1 → rule ≤ 1 → signalOf mode rule state kind byte ≡ signalUnder (settingsOf mode rule) state kind byte
   unfolding signalOf
-  no-state k h n r e f = rw (le-leb mode 1 k, h) record { result-is = f ∙ rw e; state-is = refl }
+  event-chosen k q = rw (le-leb mode 1 k, le-leb rule 1 q)
 
-  module _ (k : mode ≤ 1) (h : isState state ≡ true) (m : Named) (is : Names kind byte m) where
-    signalled : signalBy state (answeredBy (cardIn (settingsOf mode) state) m) ≡ signalOf mode state kind byte
+  pub no-state : mode ≤ 1 → rule ≤ 1 → isState state ≡ false → (n r : ℕ) → n ≡ numberOf BadState → r ≡ joinedOf n 0 → Signals (signalOf mode rule state kind byte) r state
+  unfolding signalOf
+  no-state k q h n r e f = rw (le-leb mode 1 k, le-leb rule 1 q, h) record { result-is = f ∙ rw e; state-is = refl }
+
+  module _ (k : mode ≤ 1) (q : rule ≤ 1) (h : isState state ≡ true) (m : Named) (is : Names kind byte m) where
+    signalled : signalBy state (answeredBy (cardIn (settingsOf mode rule) state) m) ≡ signalOf mode rule state kind byte
     unfolding signalOf
-    signalled = rw (le-leb mode 1 k, h) (ap (signalBy state) (is (cardIn (settingsOf mode) state)))
+    signalled = rw (le-leb mode 1 k, le-leb rule 1 q, h) (ap (signalBy state) (is (cardIn (settingsOf mode rule) state)))
 
-    pub named : {o : Named} {r : ℕ} {left : List ℕ} → m ≡ o → Signals (signalBy state (answeredBy (cardIn (settingsOf mode) state) o)) r left → Signals (signalOf mode state kind byte) r left
-    named {o} {r} {left} told w = subst (λ (t : Signal). Signals t r left) (ap (λ (n : Named). signalBy state (answeredBy (cardIn (settingsOf mode) state) n)) (sym told) ∙ signalled) w
+    pub named : {o : Named} {r : ℕ} {left : List ℕ} → m ≡ o → Signals (signalBy state (answeredBy (cardIn (settingsOf mode rule) state) o)) r left → Signals (signalOf mode rule state kind byte) r left
+    named {o} {r} {left} told w = subst (λ (t : Signal). Signals t r left) (ap (λ (n : Named). signalBy state (answeredBy (cardIn (settingsOf mode rule) state) n)) (sym told) ∙ signalled) w
 
-    pub unnamed : (n r : ℕ) → m ≡ Unknown → n ≡ numberOf NoSuchKind → r ≡ joinedOf n 0 → Signals (signalOf mode state kind byte) r state
+    pub unnamed : (n r : ℕ) → m ≡ Unknown → n ≡ numberOf NoSuchKind → r ≡ joinedOf n 0 → Signals (signalOf mode rule state kind byte) r state
     unnamed n r told e f = named told (record { result-is = f ∙ rw e; state-is = refl })
 
 -- a conversion: a slice of another length, a refusal, the bits sent

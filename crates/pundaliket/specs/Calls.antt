@@ -7,11 +7,11 @@ use lib.Dec.{eqb, ltb}
 use lib.ListN.{length, drop}
 use Rattle.little.specs.Little.{wordBytes, le4}
 use Rattle.terms.specs.declared.Refusal.{Refusal}
-use Rattle.terms.specs.declared.Refusal.the-variants.{NoSuchKind, NoRoom, InputTooLong, BadState, BadReport, BadMode}
+use Rattle.terms.specs.declared.Refusal.the-variants.{NoSuchKind, NoRoom, InputTooLong, BadState, BadReport, BadMode, BadRule}
 use Rattle.terms.specs.Refusal.{numberOf}
 use Rattle.terms.specs.Limits.{reportBytes, mostInput}
-use Rattle.terms.specs.Settings.{Settings, isMode, modeOf}
-use Rattle.chip.specs.Step.{under}
+use Rattle.terms.specs.Settings.{Settings, isMode, modeOf, isRule, ruleOf}
+use Rattle.chip.specs.Step.{given}
 use Rattle.chip.specs.declared.Event.the-variants.{Push, Pop, Command, Status, Reset, Acknowledge}
 use Rattle.memory.specs.declared.Event.{Event}
 use Rattle.memory.specs.declared.Event.the-variants.{Chip, Recall, Forget}
@@ -22,9 +22,9 @@ use Rattle.stored.specs.Bytes.{isState, cardIn, laidOut, reportOf}
 use Rattle.pundaliket.specs.declared.Named.{Named}
 use Rattle.pundaliket.specs.declared.Named.the-variants.{Known, Recalls, Forgets, Unknown}
 
--- what the numbers that are given with a call set: the mode
-abbrev pub settingsOf : ℕ → Settings
-settingsOf mode = under (modeOf mode)
+-- what the numbers that are given with a call set: the mode and the rule
+abbrev pub settingsOf : ℕ → ℕ → Settings
+settingsOf mode rule = given (modeOf mode) (ruleOf rule)
 
 -- ---- the run
 
@@ -55,11 +55,13 @@ callUnder on state input replies =
     (cond (ltb mostInput (length input)) (away InputTooLong state replies) (ranOf (length state) (runOf (cardIn on state) input (length replies)) replies))
     (away BadState state replies)
 
--- the order is 14, 16, 13, 9; 14 writes nothing
-unfoldable pub callOf : ℕ → List ℕ → List ℕ → List ℕ → List ℕ → Called
-callOf mode state input replies report =
+-- the order is 14, 16, 17, 13, 9; 14 writes nothing
+unfoldable pub callOf : ℕ → ℕ → List ℕ → List ℕ → List ℕ → List ℕ → Called
+callOf mode rule state input replies report =
     cond (eqb (length report) reportBytes)
-    (cond (isMode mode) (callUnder (settingsOf mode) state input replies) (away BadMode state replies))
+    (cond (isMode mode)
+    (cond (isRule rule) (callUnder (settingsOf mode rule) state input replies) (away BadRule state replies))
+    (away BadMode state replies))
     (record { result = numberOf BadReport; state = state; replies = replies; report = report })
 
 -- what a call did beside the definition's
@@ -119,9 +121,12 @@ unsent r state = record { result = joinedOf (numberOf r) 0; state = state }
 abbrev pub signalUnder : Settings → List ℕ → ℕ → ℕ → Signal
 signalUnder on state kind byte = cond (isState state) (signalBy state (answerToKind (cardIn on state) kind byte)) (unsent BadState state)
 
--- 16 comes before
-unfoldable pub signalOf : ℕ → List ℕ → ℕ → ℕ → Signal
-signalOf mode state kind byte = cond (isMode mode) (signalUnder (settingsOf mode) state kind byte) (unsent BadMode state)
+-- 16 and 17 come before
+unfoldable pub signalOf : ℕ → ℕ → List ℕ → ℕ → ℕ → Signal
+signalOf mode rule state kind byte =
+    cond (isMode mode)
+    (cond (isRule rule) (signalUnder (settingsOf mode rule) state kind byte) (unsent BadRule state))
+    (unsent BadMode state)
 
 pub record Signals (t : Signal) (result : ℕ) (state : List ℕ) : Type 0 where
   pub result-is : result ≡ t .result

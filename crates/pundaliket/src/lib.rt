@@ -17,9 +17,12 @@ use stored::put_rest;
 use stored::rest;
 use terms::Mode;
 use terms::Refusal;
+use terms::Rule;
 use terms::is_mode;
+use terms::is_rule;
 use terms::mode_of;
 use terms::number;
+use terms::rule_of;
 ghost use mathlib.Core.Path.{_≡_};
 ghost use mathlib.Core.Bool.{true};
 ghost use mathlib.Core.List.{_++_};
@@ -29,7 +32,7 @@ ghost use Rattle.host.specs.Host.{hostOf, takenOf, hostReply, takenReply};
 ghost use Rattle.records.specs.Run.{runOf};
 ghost use Rattle.terms.specs.Refusal.{numberOf};
 ghost use Rattle.terms.specs.Limits.{stateBytes, reportBytes};
-ghost use Rattle.chip.specs.Step.{under};
+ghost use Rattle.chip.specs.Step.{given};
 ghost use Rattle.memory.specs.declared.Event.the-variants.{Chip, Recall, Forget};
 ghost use Rattle.memory.specs.Memory.{remembered, keptBy, eventIn};
 ghost use Rattle.stored.specs.Bytes.{Sized, isState, memoryIn, cardIn, memoryBytesOf, reportOf};
@@ -48,18 +51,20 @@ fn turn_away(report: &mut [u8], refusal: Refusal) -> u32
 // The run on a good state, its stack worked where it lies; reported.
 fn run_good(
     mode: Mode,
+    rule: Rule,
     state: &mut [u8],
     input: &[u8],
     replies: &mut [u8],
     report: &mut [u8],
 ) -> u32
     requires { ⌜ Sized (now state) × (length (now report) ≡ reportBytes) ⌝ }
-    ensures { λ r. ⌜ Calls (ranOf (length (now (state .entry))) (runOf (cardIn (under mode) (now (state .entry))) (now (input .entry)) (length (now (replies .entry)))) (now (replies .entry))) r (now (state .exit)) (now (replies .exit)) (now (report .exit)) ⌝ }
+    ensures { λ r. ⌜ Calls (ranOf (length (now (state .entry))) (runOf (cardIn (given mode rule) (now (state .entry))) (now (input .entry)) (length (now (replies .entry)))) (now (replies .entry))) r (now (state .exit)) (now (replies .exit)) (now (report .exit)) ⌝ }
 {
-    let f = rest(mode, state);
+    let f = rest(mode, rule, state);
     let r = run_all(&mut state[..16], f, input, replies);
     let after = Rest {
         mode,
+        rule,
         pending: r.pending,
         status: r.status,
         service: r.service,
@@ -71,23 +76,27 @@ fn run_good(
     r.refusal as u32
 }
 
-// A file of records run on a state. Returns the refusal; 14, then 16, 13, 9 before any record.
+// A file of records run on a state. Returns the refusal; 14, then 16, 17, 13, 9 before any record.
 // A call for each length of a state: the run stays a function of its own, and its loop keeps no more at hand than it needs.
 #[no_mangle]
 pub extern "C" fn pundaliket_run(
     mode: u32,
+    rule: u32,
     state: &mut [u8],
     input: &[u8],
     replies: &mut [u8],
     report: &mut [u8],
 ) -> u32
-    ensures { λ r. ⌜ Calls (callOf mode (now (state .entry)) (now (input .entry)) (now (replies .entry)) (now (report .entry))) r (now (state .exit)) (now (replies .exit)) (now (report .exit)) ⌝ }
+    ensures { λ r. ⌜ Calls (callOf mode rule (now (state .entry)) (now (input .entry)) (now (replies .entry)) (now (report .entry))) r (now (state .exit)) (now (replies .exit)) (now (report .exit)) ⌝ }
 {
     if report.len() != terms::REPORT_BYTES {
         return number(Refusal::BadReport) as u32;
     }
     if !is_mode(mode) {
         return turn_away(report, Refusal::BadMode);
+    }
+    if !is_rule(rule) {
+        return turn_away(report, Refusal::BadRule);
     }
     if !is_state(state) {
         return turn_away(report, Refusal::BadState);
@@ -96,10 +105,11 @@ pub extern "C" fn pundaliket_run(
         return turn_away(report, Refusal::InputTooLong);
     }
     let part = mode_of(mode);
+    let way = rule_of(rule);
     if state.len() == terms::STATE_BYTES {
-        return run_good(part, state, input, replies, report);
+        return run_good(part, way, state, input, replies, report);
     }
-    run_good(part, state, input, replies, report)
+    run_good(part, way, state, input, replies, report)
 }
 
 // What a kind names: an event of the chip, the memory read, the memory cleared, or none.
@@ -161,12 +171,12 @@ fn keep(state: &mut [u8], e: chip::Event, status: u8)
 }
 
 // An event of the chip on a good state, where its stack lies; the bytes behind the stack are written on 0 alone.
-fn chip_event(mode: Mode, state: &mut [u8], e: chip::Event) -> u32
+fn chip_event(mode: Mode, rule: Rule, state: &mut [u8], e: chip::Event) -> u32
     requires { ⌜ isState (now state) ≡ true ⌝ }
-    ensures { λ r. ⌜ Signals (signalBy (now (state .entry)) (eventIn (cardIn (under mode) (now (state .entry))) (Chip e))) r (now (state .exit)) ⌝ }
+    ensures { λ r. ⌜ Signals (signalBy (now (state .entry)) (eventIn (cardIn (given mode rule) (now (state .entry))) (Chip e))) r (now (state .exit)) ⌝ }
 {
     let f = flags(state);
-    let left = place::event(&mut state[..16], f, mode, e);
+    let left = place::event(&mut state[..16], f, mode, rule, e);
     let refusal = left.refusal;
     let n = number(refusal);
     if n != 0 {
@@ -197,17 +207,26 @@ fn forget(state: &mut [u8]) -> u32
 
 // One event on a state. Returns 256 times the refusal plus the byte read; a refused event writes nothing.
 #[no_mangle]
-pub extern "C" fn pundaliket_event(mode: u32, state: &mut [u8], kind: u32, byte: u8) -> u32
-    ensures { λ r. ⌜ Signals (signalOf mode (now (state .entry)) kind byte) r (now (state .exit)) ⌝ }
+pub extern "C" fn pundaliket_event(
+    mode: u32,
+    rule: u32,
+    state: &mut [u8],
+    kind: u32,
+    byte: u8,
+) -> u32
+    ensures { λ r. ⌜ Signals (signalOf mode rule (now (state .entry)) kind byte) r (now (state .exit)) ⌝ }
 {
     if !is_mode(mode) {
         return joined(number(Refusal::BadMode), 0);
+    }
+    if !is_rule(rule) {
+        return joined(number(Refusal::BadRule), 0);
     }
     if !is_state(state) {
         return joined(number(Refusal::BadState), 0);
     }
     match event_of(kind, byte) {
-        Named::Known(e) => chip_event(mode_of(mode), state, e),
+        Named::Known(e) => chip_event(mode_of(mode), rule_of(rule), state, e),
         Named::Recalls => recall(state),
         Named::Forgets => forget(state),
         Named::Unknown => joined(number(Refusal::NoSuchKind), 0),

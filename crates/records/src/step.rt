@@ -159,7 +159,8 @@ fn pass_command(stack: &mut [u8], f: Rest, code: u8, room: &mut [u8]) -> Pass
         bits: f.bits,
         code: f.code,
     };
-    let answer = place::command(stack, f.pending, code);
+    let rule = f.rule;
+    let answer = place::command(stack, f.pending, rule, code);
     if 255 < answer {
         open_reply(room, 0, 131, (answer / 256) as u8);
         return Pass {

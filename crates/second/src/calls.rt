@@ -5,8 +5,8 @@ use crate::host_floats;
 use crate::host_floats::Host;
 
 // 256 times the refusal plus the byte read; a refused event leaves the state, and one of 19 bytes drops the memory.
-pub fn event(mode: u32, state: &mut [u8], kind: u32, byte: u8) -> u32 {
-    let r = chip::event_of(bytes::read(state, 0), mode, state.len(), kind, byte);
+pub fn event(mode: u32, rule: u32, state: &mut [u8], kind: u32, byte: u8) -> u32 {
+    let r = chip::event_of(bytes::read(state, 0), mode, rule, state.len(), kind, byte);
     let after = r.chip;
     bytes::write(state, 0, after, 21);
     r.refusal as u32 * 256 + r.byte as u32

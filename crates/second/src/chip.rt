@@ -38,28 +38,28 @@ fn is_memory(bits: u8, code: u8) -> bool {
 }
 
 // What an operation, the low five bits of a code, makes of two words.
-fn worked(op: u8, mask: u64, b: u32, a: u32) -> Outcome {
+fn worked(op: u8, rule: u32, mask: u64, b: u32, a: u32) -> Outcome {
     match op {
-        0x01 => float_words::sqrt(a),
+        0x01 => float_words::sqrt(rule, a),
         0x0C | 0x0D | 0x0E | 0x0F | 0x14 | 0x16 => fixed_point::fixed(op, mask, b, a),
-        0x10 | 0x11 => float_words::sum(op == 0x11, b, a),
-        0x12 => float_words::mul(b, a),
-        0x13 => float_words::div(b, a),
+        0x10 | 0x11 => float_words::sum(rule, op == 0x11, b, a),
+        0x12 => float_words::mul(rule, b, a),
+        0x13 => float_words::div(rule, b, a),
         0x15 => float_words::chsf(a),
-        0x1A => made(0x02C90FDA, 0, false),
-        0x1C => float_words::float(fixed_point::spread(2147483648, a as u64)),
-        0x1D => float_words::float(fixed_point::spread(32768, (a / 65536) as u64)),
+        0x1A => made(0x02C90FDA | (rule == 1) as u32, 0, false),
+        0x1C => float_words::float(rule, fixed_point::spread(2147483648, a as u64)),
+        0x1D => float_words::float(rule, fixed_point::spread(32768, (a / 65536) as u64)),
         0x1E | 0x1F => float_words::fix(op == 0x1E, a),
         _ => made(0, 0, false),
     }
 }
 
 // The words of 16 bits are the halves of the one on top.
-fn result(code: u8, b: u32, a: u32) -> Outcome {
+fn result(code: u8, rule: u32, b: u32, a: u32) -> Outcome {
     if is_narrow(code) {
-        worked(code % 32, 65535, a % 65536, a / 65536)
+        worked(code % 32, rule, 65535, a % 65536, a / 65536)
     } else {
-        worked(code % 32, 4294967295, b, a)
+        worked(code % 32, rule, 4294967295, b, a)
     }
 }
 
@@ -124,7 +124,7 @@ fn after(c: Bytes, code: u8, row: u8, r: Outcome) -> Bytes {
     remembered(line, code, r.error)
 }
 
-fn command(c: Bytes, code: u8) -> Reply {
+fn command(c: Bytes, rule: u32, code: u8) -> Reply {
     let row = sheet::row(code);
     let a = bytes::number(c, 0);
     let b = bytes::number(c, 4);
@@ -132,7 +132,7 @@ fn command(c: Bytes, code: u8) -> Reply {
     if refusal != 0 {
         return answered(refusal, 0, c);
     }
-    let r = result(code, b, a);
+    let r = result(code, rule, b, a);
     answered(0, 0, after(c, code, became(row, r.error), r))
 }
 
@@ -162,12 +162,12 @@ fn reset(c: Bytes, mode: u32) -> Bytes {
     }
 }
 
-// An event by the number of its kind, in a mode that is 0 or 1.
-pub fn event(c: Bytes, mode: u32, kind: u32, b: u8) -> Reply {
+// An event by the number of its kind, in a mode and under a rule that are 0 or 1.
+pub fn event(c: Bytes, mode: u32, rule: u32, kind: u32, b: u8) -> Reply {
     match kind {
         1 => answered(0, 0, moved(c, b'B', b)),
         2 => answered(0, bytes::byte(c, 0), moved(c, b'C', 0)),
-        3 => command(c, b),
+        3 => command(c, rule, b),
         4 => answered(0, bytes::byte(c, 17), c),
         5 => answered(0, 0, reset(c, mode)),
         6 => answered(0, 0, bytes::with(c, 18, 0)),
@@ -177,14 +177,15 @@ pub fn event(c: Bytes, mode: u32, kind: u32, b: u8) -> Reply {
     }
 }
 
-// An event on the first bytes of n, where the mode is one and they are a state.
-pub fn event_of(c: Bytes, mode: u32, n: usize, kind: u32, b: u8) -> Reply {
-    match mode {
-        0 | 1 => if is_state(c, n) {
-            event(c, mode, kind, b)
-        } else {
-            answered(13, 0, c)
-        },
-        _ => answered(16, 0, c),
+// An event on the first bytes of n, where mode and rule are such and they are a state.
+pub fn event_of(c: Bytes, mode: u32, rule: u32, n: usize, kind: u32, b: u8) -> Reply {
+    if 1 < mode {
+        answered(16, 0, c)
+    } else if 1 < rule {
+        answered(17, 0, c)
+    } else if is_state(c, n) {
+        event(c, mode, rule, kind, b)
+    } else {
+        answered(13, 0, c)
     }
 }

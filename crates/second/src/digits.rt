@@ -31,11 +31,12 @@ pub fn greatest(x: u64, a: u64, with_itself: bool) -> u64 {
     found
 }
 
-// What is kept of a whole number: its first 24 digits, and how many it has; `below`: it is negative, and
-// nothing of it is kept.
+// What is kept of a whole number: its first 24 digits, and how many it has; of those behind them the first, twice,
+// and whether any after it is 1; `below`: it is negative, and nothing of it is kept.
 pub struct Kept {
     pub digits: u32,
     pub length: u32,
+    pub behind: u32,
     pub below: bool,
 }
 
@@ -45,27 +46,33 @@ fn digit(n: u64, at: u32, place: u32) -> u32 {
     if i < 64 { ((n >> i) % 2) as u32 } else { 0 }
 }
 
-// b times 2^i, plus or minus a times 2^j, from the lowest digit up: `last` are the last 24 of the result.
+// b times 2^i, plus or minus a times 2^j, from the lowest digit up: `last` are the last 24 of the
+// result, `gone` is what `behind` would be for them.
 pub fn combined(b: u64, i: u32, a: u64, j: u32, minus: bool) -> Kept {
     let turn = minus as u32;
     let mut carry: u32 = 0;
     let mut last: u32 = 0;
+    let mut gone: u32 = 0;
     let mut digits: u32 = 0;
     let mut length: u32 = 0;
+    let mut behind: u32 = 0;
     for place in 0..320u32 {
         let x = digit(b, i, place);
         let y = digit(a, j, place);
         let sum = x ^ y ^ carry;
         carry = (x ^ turn) & y | carry & (x ^ turn | y);
+        gone = last % 2 * 2 | (gone != 0) as u32;
         last = last >> 1 | sum << 23;
         if sum == 1 {
             digits = last;
+            behind = gone;
             length = place + 1;
         }
     }
     Kept {
         digits,
         length,
+        behind,
         below: carry == 1,
     }
 }

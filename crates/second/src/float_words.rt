@@ -1,4 +1,4 @@
-// Float words: exact values, of which the first 24 digits are kept. The value of a word is its mantissa
+// Float words: exact values, of which the first 24 digits are kept, or the nearest 24 where the rule is 1. The value of a word is its mantissa
 // times 2^(raised - 88).
 use crate::digits;
 use crate::digits::Kept;
@@ -27,13 +27,21 @@ pub fn is_proper(w: u32) -> bool {
     (w == 0) | (8388608 <= w % 16777216)
 }
 
+// The digits kept under a rule: one more where what is behind them is over a half, or a half and they are odd.
+fn brought(rule: u32, k: Kept) -> u32 {
+    let over = (k.behind == 3) | (k.behind == 2) & (k.digits % 2 == 1);
+    std::num::wrapping_add_u32(k.digits, ((rule == 1) & over) as u32)
+}
+
 // The word of what is kept of a number times 2^(up - 192), and the error of its exponent: `high` is the
-// exponent plus 192.
-pub fn cut(negative: bool, k: Kept, up: u32) -> Outcome {
+// exponent plus 192, and one more where the digits became 25.
+pub fn cut(rule: u32, negative: bool, k: Kept, up: u32) -> Outcome {
     if k.length == 0 {
         return made(0, 0, false);
     }
-    let high = std::num::wrapping_add_u32(k.length, up);
+    let m = brought(rule, k);
+    let full = m / 16777216 % 2;
+    let high = std::num::wrapping_add_u32(std::num::wrapping_add_u32(k.length, up), full);
     let error = match high {
         0..=127 => 2,
         128..=255 => 0,
@@ -41,15 +49,15 @@ pub fn cut(negative: bool, k: Kept, up: u32) -> Outcome {
     };
     let exponent = (high ^ 64) % 128;
     made(
-        (negative as u32) << 31 | exponent << 24 | k.digits,
+        (negative as u32) << 31 | exponent << 24 | m >> full,
         error,
         false,
     )
 }
 
 // The word of a single number times 2^(place + up - 192).
-fn kept(negative: bool, n: u64, place: u32, up: u32) -> Outcome {
-    cut(negative, digits::combined(n, place, 0, 0, false), up)
+fn kept(rule: u32, negative: bool, n: u64, place: u32, up: u32) -> Outcome {
+    cut(rule, negative, digits::combined(n, place, 0, 0, false), up)
 }
 
 // The sum of the values of two words without their signs, or their difference.
@@ -58,14 +66,14 @@ fn combined(b: u32, a: u32, minus: bool) -> Kept {
 }
 
 // The sum of two words, or their difference: the greater magnitude has the sign.
-pub fn sum(minus: bool, b: u32, a: u32) -> Outcome {
+pub fn sum(rule: u32, minus: bool, b: u32, a: u32) -> Outcome {
     let negative = is_negative(a) != minus;
     let unlike = is_negative(b) != negative;
     let k = combined(b, a, unlike);
     if unlike & k.below {
-        cut(negative, combined(a, b, true), 104)
+        cut(rule, negative, combined(a, b, true), 104)
     } else {
-        cut(is_negative(b), k, 104)
+        cut(rule, is_negative(b), k, 104)
     }
 }
 
@@ -73,33 +81,47 @@ fn unlike(b: u32, a: u32) -> bool {
     is_negative(b) != is_negative(a)
 }
 
-pub fn mul(b: u32, a: u32) -> Outcome {
+pub fn mul(rule: u32, b: u32, a: u32) -> Outcome {
     let p = digits::product(mantissa(b), mantissa(a));
-    kept(unlike(b, a), p, raised(b) + raised(a), 16)
+    kept(rule, unlike(b, a), p, raised(b) + raised(a), 16)
+}
+
+// A quotient or root and one digit behind it, which is 1 where the exact one has more.
+fn with_more(found: u64, x: u64, a: u64) -> u64 {
+    found << 1 | (digits::product(found, a) != x) as u64
 }
 
 // The quotient of the mantissas times 2^25 has more than 24 digits.
-pub fn div(b: u32, a: u32) -> Outcome {
+pub fn div(rule: u32, b: u32, a: u32) -> Outcome {
     if a == 0 {
         return made(b, 8, false);
     }
-    let q = digits::greatest(mantissa(b) << 25, mantissa(a), false);
-    kept(unlike(b, a), q, 128 + raised(b) - raised(a), 39)
+    let x = mantissa(b) << 25;
+    let q = digits::greatest(x, mantissa(a), false);
+    kept(
+        rule,
+        unlike(b, a),
+        with_more(q, x, mantissa(a)),
+        128 + raised(b) - raised(a),
+        38,
+    )
 }
 
-// The root of the mantissa times 2^24, or 2^25 where the exponent is odd. A negative word stays.
-pub fn sqrt(a: u32) -> Outcome {
+// The root of the mantissa times 2^26, or 2^27 where the exponent is odd, has 25 digits. A negative word stays.
+pub fn sqrt(rule: u32, a: u32) -> Outcome {
     if is_negative(a) {
         return made(a, 4, false);
     }
     let e = raised(a);
-    let q = digits::greatest(mantissa(a) << (24 + e % 2), 0, true);
-    kept(false, q, e / 2, 136)
+    let x = mantissa(a) << (26 + e % 2);
+    let q = digits::greatest(x, 0, true);
+    kept(rule, false, with_more(q, x, q), e / 2, 134)
 }
 
 // A number in 64 bits of two's complement as a float word.
-pub fn float(x: u64) -> Outcome {
+pub fn float(rule: u32, x: u64) -> Outcome {
     kept(
+        rule,
         fixed_point::is_negative(x),
         fixed_point::magnitude(x),
         0,

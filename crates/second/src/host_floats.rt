@@ -53,7 +53,7 @@ pub fn f32_to_word(bits: u32) -> Host {
     } else {
         given(
             0,
-            float_words::cut(float_words::is_negative(bits), k, 43).word,
+            float_words::cut(0, float_words::is_negative(bits), k, 43).word,
         )
     }
 }

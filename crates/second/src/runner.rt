@@ -118,14 +118,14 @@ fn keep(replies: &mut [u8], to: usize, i: usize, n: usize, b: u8) {
 }
 
 // A record done: an event for each byte of input that it pushes, each byte read to its place in the reply.
-fn done(r: Progress, h: Head, mode: u32, input: &[u8], replies: &mut [u8]) -> Progress {
+fn done(r: Progress, h: Head, mode: u32, rule: u32, input: &[u8], replies: &mut [u8]) -> Progress {
     let mut chip = r.chip;
     let mut refusal = 0;
     let from = std::num::wrapping_add_usize(r.taken, 4);
     let to = std::num::wrapping_add_usize(r.written, 5);
     for i in 0..events(h) {
         let pushed = bytes::get(input, std::num::wrapping_add_usize(from, i));
-        let answer = chip::event(chip, mode, h.kind, pushed);
+        let answer = chip::event(chip, mode, rule, h.kind, pushed);
         chip = answer.chip;
         refusal = answer.refusal;
         keep(replies, to, i, data(h) as usize, byte_read(h, i, answer));
@@ -146,7 +146,7 @@ fn stopped(r: Progress, stop: u8) -> Progress {
 }
 
 // One record more, unless the run has stopped or none is left; a run that stops writes nothing.
-fn next(r: Progress, mode: u32, input: &[u8], replies: &mut [u8]) -> Progress {
+fn next(r: Progress, mode: u32, rule: u32, input: &[u8], replies: &mut [u8]) -> Progress {
     if (r.stop != 0) | (input.len() <= r.taken) {
         return r;
     }
@@ -157,13 +157,16 @@ fn next(r: Progress, mode: u32, input: &[u8], replies: &mut [u8]) -> Progress {
     if stop != 0 {
         return stopped(r, stop);
     }
-    done(r, h, mode, input, replies)
+    done(r, h, mode, rule, input, replies)
 }
 
 // What stops a run before its first record, or 0.
-fn first_stop(mode: u32, sound: bool, n: usize) -> u8 {
+fn first_stop(mode: u32, rule: u32, sound: bool, n: usize) -> u8 {
     if 1 < mode {
         return 16;
+    }
+    if 1 < rule {
+        return 17;
     }
     match sound {
         false => 13,
@@ -177,10 +180,19 @@ fn report_of(r: Progress) -> Bytes {
     bytes::with_four(taken, 5, (r.written % 4294967296) as u32)
 }
 
-// A record has at least four bytes, so the turns are enough for every file. A state of 19 bytes has no place for the
-// memory, which is dropped.
+// A record has at least four bytes, so the turns are enough for every file.
+fn in_turn(start: Progress, mode: u32, rule: u32, input: &[u8], replies: &mut [u8]) -> Progress {
+    let mut r = start;
+    for _ in 0..input.len() / 4 + 1 {
+        r = next(r, mode, rule, input, replies);
+    }
+    r
+}
+
+// A state of 19 bytes has no place for the memory, which is dropped.
 pub fn run(
     mode: u32,
+    rule: u32,
     state: &mut [u8],
     input: &[u8],
     replies: &mut [u8],
@@ -190,11 +202,8 @@ pub fn run(
         return 14;
     }
     let chip = bytes::read(state, 0);
-    let stop = first_stop(mode, chip::is_state(chip, state.len()), input.len());
-    let mut r = begun(chip, stop);
-    for _ in 0..input.len() / 4 + 1 {
-        r = next(r, mode, input, replies);
-    }
+    let stop = first_stop(mode, rule, chip::is_state(chip, state.len()), input.len());
+    let r = in_turn(begun(chip, stop), mode, rule, input, replies);
     let after = r.chip;
     bytes::write(state, 0, after, 21);
     bytes::write(report, 0, report_of(r), 9);

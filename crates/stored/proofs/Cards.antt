@@ -11,8 +11,9 @@ use lib.Seq.{length-take-le, drop-cons, getD-append-add, take-at}
 use borrow.Author.Tests.{eq-eqb, ne-eqb, eqb-true, eqb-false}
 use Rattle.terms.specs.Limits.{stateBytes, longStateBytes}
 use Rattle.terms.specs.declared.Mode.the-variants.{Am9511A}
+use Rattle.terms.specs.declared.Rule.the-variants.{Cut}
 use Rattle.terms.specs.Settings.{Settings}
-use Rattle.chip.specs.Step.{under}
+use Rattle.chip.specs.Step.{given}
 use Rattle.stack.specs.Stack.{Bytes}
 use Rattle.stack.proofs.Words.{bytes-append, bytes-take, byte-at}
 use Rattle.chip.specs.declared.State.{State}
@@ -117,7 +118,7 @@ module _ (c : Card) (n : length (c .chip .stack) ≡ 16) where
 
 -- a memory, laid behind any chip
 pub long-back : (s : State) (m : Memory) → length (s .stack) ≡ 16 → (size : ℕ) → size ≡ longStateBytes → memoryIn (laid size s m) ≡ m
-long-back s m n size b = rw b (ap (λ (k : Card). k .memory) (card-long (cardWith (under Am9511A) s m) n))
+long-back s m n size b = rw b (ap (λ (k : Card). k .memory) (card-long (cardWith (given Am9511A Cut) s m) n))
 
 -- a card that 13 does not turn away
 module _ (c : Card) (r : ReadyCard c) where

@@ -6,12 +6,13 @@ use memory::empty;
 use memory::is_memory;
 use memory::place::Rest;
 use terms::Mode;
+use terms::Rule;
 ghost use mathlib.Core.Path.{_≡_};
 ghost use mathlib.Core.List.{_++_};
 ghost use Prim.Native.Nat.{_≤_};
 ghost use lib.ListN.{length, take};
 ghost use Rattle.terms.specs.Limits.{stackBytes, stateBytes, reportBytes};
-ghost use Rattle.chip.specs.Step.{under};
+ghost use Rattle.chip.specs.Step.{given};
 ghost use Rattle.chip.specs.Place.{held};
 ghost use Rattle.memory.specs.Held.{cardAt};
 ghost use Rattle.stored.specs.Bytes.{Sized, isChip, isState, stateOf, memoryIn, cardIn, flagOf, memoryBytesOf, laid, laidOut, reportOf};
@@ -75,15 +76,16 @@ pub fn memory_in(state: &[u8]) -> Memory
     }
 }
 
-// What stands beside the stack in a state's bytes, and the mode.
-pub fn rest(mode: Mode, state: &[u8]) -> Rest
+// What stands beside the stack in a state's bytes, and the settings.
+pub fn rest(mode: Mode, rule: Rule, state: &[u8]) -> Rest
     requires { ⌜ Sized (now state) ⌝ }
-    ensures { λ r. ⌜ cardAt (take stackBytes (now (state .entry))) r ≡ cardIn (under mode) (now (state .entry)) ⌝ }
+    ensures { λ r. ⌜ cardAt (take stackBytes (now (state .entry))) r ≡ cardIn (given mode rule) (now (state .entry)) ⌝ }
 {
     let m = memory_in(state);
     let f = flags(state);
     Rest {
         mode,
+        rule,
         pending: f.pending,
         status: f.status,
         service: f.service,

@@ -5,6 +5,7 @@ use lib.Dec.{eqb, leb}
 use Rattle.terms.specs.declared.Mode.{Mode}
 use Rattle.terms.specs.declared.Mode.the-variants.{Am9511A, Am9511}
 use Rattle.terms.specs.declared.Rule.{Rule}
+use Rattle.terms.specs.declared.Rule.the-variants.{Cut, Nearest}
 
 pub record Settings : Type 0 where
   pub mode : Mode
@@ -16,3 +17,10 @@ isMode n = leb n 1
 
 abbrev pub modeOf : ℕ → Mode
 modeOf n = cond (eqb n 0) Am9511A Am9511
+
+-- 02, ask 9: "a rule, 0 for cut or 1 for nearest, a number given with each call as the mode is"; any other is no rule
+abbrev pub isRule : ℕ → Bool
+isRule n = leb n 1
+
+abbrev pub ruleOf : ℕ → Rule
+ruleOf n = cond (eqb n 0) Cut Nearest

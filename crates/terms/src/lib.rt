@@ -4,7 +4,7 @@ ghost use mathlib.Core.Path.{_≡_};
 ghost use Prim.Native.Nat.{_≤_};
 ghost use Rattle.terms.specs.Refusal.{numberOf};
 ghost use Rattle.terms.specs.Width.{sizeOf};
-ghost use Rattle.terms.specs.Settings.{isMode, modeOf};
+ghost use Rattle.terms.specs.Settings.{isMode, modeOf, isRule, ruleOf};
 
 // The bytes of the stack.
 pub const STACK_BYTES: usize = 16;
@@ -32,8 +32,10 @@ pub const NEGATIVE_ROOT: u8 = 4;
 
 pub const DIVIDE_BY_ZERO: u8 = 8;
 
-// Pi as a float word, cut.
+// Pi as a float word, cut, and the word nearest to it.
 pub const PI: u32 = 0x02c9_0fda;
+
+pub const NEAREST_PI: u32 = 0x02c9_0fdb;
 
 // Every case of 01's table of refusals, in its order, then those of 02.
 pub enum Refusal {
@@ -54,6 +56,7 @@ pub enum Refusal {
     BadReport,
     MinusZero,
     BadMode,
+    BadRule,
 }
 
 // A stack word has 16 bits or 32.
@@ -63,7 +66,7 @@ pub enum Width {
 }
 
 // How an exact float value is brought to 24 bits: cut, or to the nearest word, of two the one with
-// the even mantissa. The definitions alone speak of it; the code cuts.
+// the even mantissa.
 pub enum Rule {
     Cut,
     Nearest,
@@ -77,7 +80,7 @@ pub enum Mode {
 
 // The number that 01 or 02 gives a refusal.
 pub fn number(refusal: Refusal) -> u8
-    ensures { λ r. ⌜ (r ≡ numberOf refusal) × (r ≤ 16) ⌝ }
+    ensures { λ r. ⌜ (r ≡ numberOf refusal) × (r ≤ 17) ⌝ }
 {
     match refusal {
         Refusal::Done => 0,
@@ -97,6 +100,7 @@ pub fn number(refusal: Refusal) -> u8
         Refusal::BadReport => 14,
         Refusal::MinusZero => 15,
         Refusal::BadMode => 16,
+        Refusal::BadRule => 17,
     }
 }
 
@@ -115,6 +119,23 @@ pub fn mode_of(number: u32) -> Mode
         return Mode::Am9511A;
     }
     Mode::Am9511
+}
+
+// Whether a number is that of a rule.
+pub fn is_rule(number: u32) -> bool
+    ensures { λ r. ⌜ r ≡ isRule number ⌝ }
+{
+    number <= 1
+}
+
+// The rule of its number, 0 or 1.
+pub fn rule_of(number: u32) -> Rule
+    ensures { λ r. ⌜ r ≡ ruleOf number ⌝ }
+{
+    if number == 0 {
+        return Rule::Cut;
+    }
+    Rule::Nearest
 }
 
 // The bytes of a word.

@@ -22,8 +22,8 @@ fn code(op: u32) -> u8 {
     bytes::at(codes, op as usize)
 }
 
-// A command, on a state with the operands on top: halves of one word where they have 16 bits.
-fn commanded(t: Tally, op: u32, p: Pair, i: u32) -> Tally {
+// A command under a rule, on a state with the operands on top: halves of one word where they have 16 bits.
+fn commanded(t: Tally, op: u32, rule: u32, p: Pair, i: u32) -> Tally {
     let code = code(op);
     let top = if words::is_narrow(op) {
         p.a << 16 | p.b
@@ -32,8 +32,8 @@ fn commanded(t: Tally, op: u32, p: Pair, i: u32) -> Tally {
     };
     let mut x = bytes::state(top, p.b, 0, 0, i);
     let mut y = x;
-    let told = pundaliket::pundaliket_event(0, &mut x, 3, code);
-    let second = second::calls::event(0, &mut y, 3, code);
+    let told = pundaliket::pundaliket_event(0, rule, &mut x, 3, code);
+    let second = second::calls::event(0, rule, &mut y, 3, code);
     tally::seen(t, i, told, second, &x, &y)
 }
 
@@ -58,18 +58,29 @@ fn compared_bits(t: Tally, side: u32, bits: u32, size: usize, i: u32) -> Tally {
 
 // One case more of an operation's part, or of a part of the chip's states or of the memory's.
 fn seen(t: Tally, op: u32, part: u32, i: u32) -> Tally {
-    let p = words::operands(op, part, i);
+    let both = words::reads_rule(op);
+    let p = words::operands(op, part, if both { i / 2 } else { i });
     match op {
         23 | 24 => compared_bits(t, op - 23, p.a, words::size(part, i), i),
         25 => states::seen(t, part, i),
         26 => memories::seen(t, part, i),
-        _ => commanded(t, op, p, i),
+        _ => commanded(t, op, i % 2, p, i),
+    }
+}
+
+// A command that looks at the rule has each case twice, under the one and the other.
+fn cases(op: u32, part: u32) -> u32 {
+    let n = words::count(op, part);
+    if words::reads_rule(op) {
+        std::num::wrapping_add_u32(n, n)
+    } else {
+        n
     }
 }
 
 fn compared(op: u32, part: u32) -> Tally {
     let mut t = tally::none();
-    for i in 0..words::count(op, part) {
+    for i in 0..cases(op, part) {
         t = seen(t, op, part, i);
     }
     t
@@ -79,10 +90,10 @@ fn main() {
     let names =
         b"SADD SSUB SMUL SMUU SDIV CHSS DADD DSUB DMUL DMUU DDIV CHSD FADD FSUB FMUL FDIV FIXD FIXS FLTD FLTS CHSF PROP SQRT to_f32 to_word chip memory";
     let parts =
-        b"edges distances neighbours squares exponents slices drawn grid half-words busy codes events";
-    for group in 0..324u32 {
-        let op = group / 12;
-        let part = group % 12;
+        b"edges distances neighbours squares exponents slices drawn grid half-words busy codes events ties";
+    for group in 0..351u32 {
+        let op = group / 13;
+        let part = group % 13;
         if words::count(op, part) > 0 {
             tally::line(names, op as usize, parts, part as usize, compared(op, part));
         }

@@ -32,25 +32,26 @@ fn remembering(state: [u8; 19], i: u32) -> [u8; 24] {
 }
 
 // An event of the calls, or of the second opinion.
-fn answered(again: bool, mode: u32, state: &mut [u8], kind: u32, byte: u8) -> u32 {
+fn answered(again: bool, mode: u32, rule: u32, state: &mut [u8], kind: u32, byte: u8) -> u32 {
     let n = bytes::part(state, 21);
     if again {
-        second::calls::event(mode, &mut state[..n], kind, byte)
+        second::calls::event(mode, rule, &mut state[..n], kind, byte)
     } else {
-        pundaliket::pundaliket_event(mode, &mut state[..n], kind, byte)
+        pundaliket::pundaliket_event(mode, rule, &mut state[..n], kind, byte)
     }
 }
 
-// One event more: a command with every code in turn, and in the last part every event with a drawn byte; both modes in turn.
+// One event more: a command with every code in turn, and in the last part every event with a drawn byte; both modes and both rules in turn.
 pub fn seen(t: Tally, part: u32, i: u32) -> Tally {
     let any = part == 11;
     let kind = if any { 1 + i % 8 } else { 3 };
     let code = if any { words::drawn(i) } else { i };
     let byte = (code % 256) as u8;
     let mode = i / 8 % 2;
+    let rule = i / 256 % 2;
     let mut x = state_at(part, i);
     let mut y = x;
-    let told = answered(false, mode, &mut x, kind, byte);
-    let second = answered(true, mode, &mut y, kind, byte);
+    let told = answered(false, mode, rule, &mut x, kind, byte);
+    let second = answered(true, mode, rule, &mut y, kind, byte);
     tally::seen(t, i, told, second, &x, &y)
 }

@@ -100,18 +100,18 @@ fn bytes_of(s: State) -> [u8; 19] {
     all
 }
 
-fn answer(s: State, mode: u32, kind: u32, byte: u8) -> Answer {
+fn answer(s: State, mode: u32, rule: u32, kind: u32, byte: u8) -> Answer {
     match kind {
         1 => s.push(byte),
         2 => s.pop(),
-        3 => s.command(byte),
+        3 => s.command(terms::rule_of(rule), byte),
         4 => s.status(),
         5 => s.reset(terms::mode_of(mode)),
         _ => s.acknowledge(),
     }
 }
 
-// One event more: a command with every code in turn, and in the last part every event with a drawn byte; both modes in turn.
+// One event more: a command with every code in turn, and in the last part every event with a drawn byte; both modes and both rules in turn.
 pub fn seen(t: Tally, part: u32, i: u32) -> Tally {
     let any = part == 11;
     let kind = if any { 1 + i % 6 } else { 3 };
@@ -119,10 +119,11 @@ pub fn seen(t: Tally, part: u32, i: u32) -> Tally {
     let byte = (code % 256) as u8;
     let mut y = state_at(part, i);
     let mode = i / 6 % 2;
-    let x = answer(state_of(y), mode, kind, byte);
+    let rule = i / 256 % 2;
+    let x = answer(state_of(y), mode, rule, kind, byte);
     let refusal = x.refusal;
     let after = x.state;
     let told = terms::number(refusal) as u32 * 256 + x.byte as u32;
-    let second = second::calls::event(mode, &mut y, kind, byte);
+    let second = second::calls::event(mode, rule, &mut y, kind, byte);
     tally::seen(t, i, told, second, &bytes_of(after), &y)
 }

@@ -34,6 +34,7 @@ pub fn count(op: u32, part: u32) -> u32 {
         4 => exponent_count(op),
         5 => if (op == 23) | (op == 24) { 198 * 8 } else { 0 },
         6 => drawn_count(op),
+        12 => if has_ties(op) { 4096 } else { 0 },
         _ => state_count(op, part),
     }
 }
@@ -73,6 +74,16 @@ fn drawn_count(op: u32) -> u32 {
         25 | 26 => 0,
         _ => 4096,
     }
+}
+
+// Whether the command looks at the rule; its cases are compared under both.
+pub fn reads_rule(op: u32) -> bool {
+    float_pair(op) | (op == 18) | (op == 22)
+}
+
+// A quotient and a root are never half way between two words.
+fn has_ties(op: u32) -> bool {
+    (12 <= op) & (op <= 14) | (op == 18)
 }
 
 fn float_pair(op: u32) -> bool {
@@ -223,7 +234,38 @@ fn drawn_pair(op: u32, i: u32) -> Pair {
     }
 }
 
-// The case i of a part: edges, distances, neighbours, squares, exponents, slices, drawn.
+// A number or its opposite, in 32 bits of two's complement.
+fn signed(negative: bool, n: u32) -> u32 {
+    if negative {
+        std::num::wrapping_sub_u32(0, n)
+    } else {
+        n
+    }
+}
+
+// Results that often lie half way between two words: an odd mantissa one exponent below another; mantissas of 13 and of
+// 12 digits; numbers of 25 digits.
+fn tie_pair(op: u32, i: u32) -> Pair {
+    let at = i % 8192 * 3;
+    let x = words::drawn(at);
+    let y = words::drawn(at + 1);
+    let z = words::drawn(at + 2);
+    let high = (1 + z % 126) * 8388608;
+    let low = (z % 126) * 8388608;
+    match op {
+        14 => two(
+            words::float(x / 4096 % 2 == 1, high + x % 4096 * 2048),
+            words::float(y / 4096 % 2 == 1, high + y % 2048 * 4096),
+        ),
+        18 => one(signed(z % 2 == 1, (16777217 + x % 8388608 * 2) << (y % 7))),
+        _ => two(
+            words::float(x / 8388608 % 2 == 1, high + x % 8388608),
+            words::float(y / 8388608 % 2 == 1, low + y % 4194304 * 2 + 1),
+        ),
+    }
+}
+
+// The case i of a part: edges, distances, neighbours, squares, exponents, slices, drawn, ties.
 pub fn operands(op: u32, part: u32, i: u32) -> Pair {
     match part {
         0 => edge_pair(op, i),
@@ -232,6 +274,7 @@ pub fn operands(op: u32, part: u32, i: u32) -> Pair {
         3 => one(square_word(i)),
         4 => one(pattern(op, i)),
         5 => one(words::edge(true, i / 8)),
+        12 => tie_pair(op, i),
         _ => drawn_pair(op, i),
     }
 }

@@ -7,7 +7,7 @@ use cases::tally::Tally;
 use cases::words;
 
 // A run: the file is drawn from a seed with so many records, then cut and damaged, or is an edge record
-// where there are none; the state has its number in `files`; replies and report have so many bytes; the mode is any number.
+// where there are none; the state has its number in `files`; replies and report have so many bytes; mode and rule are any numbers.
 pub struct Case {
     seed: u32,
     records: u32,
@@ -17,6 +17,7 @@ pub struct Case {
     room: usize,
     report: usize,
     mode: u32,
+    rule: u32,
 }
 
 // The most bytes that are lent.
@@ -34,18 +35,19 @@ fn sound(seed: u32, records: u32, cut: usize, damage: u32, room: usize) -> Case 
         room,
         report: 9,
         mode: seed / 2 % 2,
+        rule: seed / 4 % 2,
     }
 }
 
-// The two modes, and two numbers that are none, of which one is 1 in its low bits.
-fn mode(i: u32) -> u32 {
+// The numbers of the two modes and of the two rules, and two that are of none, of which one is 1 in its low bits.
+fn number(i: u32) -> u32 {
     match i % 4 {
         3 => 4294967041,
         n => n,
     }
 }
 
-// Every state, a length of the report, a long input or a short one, every mode.
+// Every state, a length of the report, a long input or a short one, every mode, every rule.
 fn unsound(i: u32) -> Case {
     let long = i / 16 % 2 == 1;
     Case {
@@ -61,7 +63,8 @@ fn unsound(i: u32) -> Case {
             2 => 0,
             _ => 9,
         },
-        mode: mode(i / 128),
+        mode: number(i / 128),
+        rule: number(i / 512),
     }
 }
 
@@ -115,6 +118,7 @@ fn ran(
     if again {
         second::runner::run(
             c.mode,
+            c.rule,
             &mut state[..s],
             &input[..i],
             &mut replies[..r],
@@ -123,6 +127,7 @@ fn ran(
     } else {
         pundaliket::pundaliket_run(
             c.mode,
+            c.rule,
             &mut state[..s],
             &input[..i],
             &mut replies[..r],
@@ -167,12 +172,20 @@ fn kind(i: u32) -> u32 {
 }
 
 // An event of the calls, or of the second opinion, on so many bytes.
-fn answered(again: bool, mode: u32, state: &mut [u8], size: usize, kind: u32, byte: u8) -> u32 {
+fn answered(
+    again: bool,
+    mode: u32,
+    rule: u32,
+    state: &mut [u8],
+    size: usize,
+    kind: u32,
+    byte: u8,
+) -> u32 {
     let s = bytes::part(state, size);
     if again {
-        second::calls::event(mode, &mut state[..s], kind, byte)
+        second::calls::event(mode, rule, &mut state[..s], kind, byte)
     } else {
-        pundaliket::pundaliket_event(mode, &mut state[..s], kind, byte)
+        pundaliket::pundaliket_event(mode, rule, &mut state[..s], kind, byte)
     }
 }
 
@@ -181,6 +194,7 @@ fn compared(
     t: Tally,
     i: u32,
     mode: u32,
+    rule: u32,
     state: [u8; 24],
     size: usize,
     kind: u32,
@@ -188,18 +202,19 @@ fn compared(
 ) -> Tally {
     let mut left = state;
     let mut again = state;
-    let x = answered(false, mode, &mut left, size, kind, byte);
-    let y = answered(true, mode, &mut again, size, kind, byte);
+    let x = answered(false, mode, rule, &mut left, size, kind, byte);
+    let y = answered(true, mode, rule, &mut again, size, kind, byte);
     tally::seen(t, i, x, y, &left, &again)
 }
 
-// One event more, on every state and in every mode.
+// One event more, on every state, in every mode and under every rule.
 pub fn seen_event(t: Tally, i: u32) -> Tally {
     let fault = i % 16;
     compared(
         t,
         i,
-        mode(i / 224),
+        number(i / 224),
+        number(i / 896),
         files::state(i, fault),
         files::state_size(fault),
         kind(i / 16),
@@ -211,15 +226,16 @@ pub fn seen_event(t: Tally, i: u32) -> Tally {
 pub fn seen_memory(t: Tally, i: u32) -> Tally {
     let sound = bytes::state(0, 0x01800000, 0, 0, i);
     let state = bytes::stored(sound, (i / 2 % 256) as u8, (i / 512 % 256) as u8);
-    compared(t, i, i / 2 % 2, state, 21, 3 + i % 2 * 4, 0x93)
+    compared(t, i, i / 2 % 2, i / 4 % 2, state, 21, 3 + i % 2 * 4, 0x93)
 }
 
-// One length more: a state with an empty memory or any, of which 0 to 24 bytes are lent, every kind and every mode.
+// One length more: a state with an empty memory or any, of which 0 to 24 bytes are lent, every kind, mode and rule.
 pub fn seen_length(t: Tally, i: u32) -> Tally {
     compared(
         t,
         i,
-        mode(i / 700),
+        number(i / 700),
+        number(i / 175),
         files::state(i, 7 + i / 350 % 2),
         (i % 25) as usize,
         kind(i / 25),
@@ -239,13 +255,16 @@ fn kind_in_turn(n: u32) -> u32 {
 }
 
 // 32 events in turn; a number made of all their answers, each of which changes it.
-fn history(again: bool, mode: u32, state: &mut [u8], size: usize, seed: u32) -> u32 {
+fn history(again: bool, state: &mut [u8], size: usize, seed: u32) -> u32 {
+    let mode = seed / 4 % 2;
+    let rule = seed / 8 % 2;
     let mut told: u32 = 0;
     for k in 0..32u32 {
         let n = words::drawn(std::num::wrapping_add_u32(seed % 65536 * 32, k));
         let answer = answered(
             again,
             mode,
+            rule,
             state,
             size,
             kind_in_turn(n),
@@ -261,7 +280,7 @@ pub fn seen_history(t: Tally, i: u32) -> Tally {
     let size = if i % 4 == 3 { 19 } else { 21 };
     let mut left = files::state(i, 7 + i % 2);
     let mut again = left;
-    let x = history(false, i / 4 % 2, &mut left, size, i);
-    let y = history(true, i / 4 % 2, &mut again, size, i);
+    let x = history(false, &mut left, size, i);
+    let y = history(true, &mut again, size, i);
     tally::seen(t, i, x, y, &left, &again)
 }

@@ -3,7 +3,7 @@ use mathlib.Core.Path.{sym, ap, _∙_}
 use native.Mathlib.Omega.{arith}
 use denote.Ref.{now}
 use Rattle.chip.specs.declared.State.{State}
-use Rattle.chip.specs.Step.{under}
+use Rattle.chip.specs.Step.{given}
 use Rattle.stored.proofs.States.{least, sized-as, state-sized, state-ready}
 use Rattle.pundaliket.proofs.Calling.{stack-size, same-size, still-sized, no-chip-event, a-chip-event}
 use borrow.Author.Needs.{needs}
@@ -42,7 +42,7 @@ returns : tie.Need-returns
 returns c =
     let a = c .before .before .before .before .before .before .before .before .before .before .args in
     let v = c .before .before .before .before .before .event in
-    no-chip-event (under (a .mode)) (now (a .state)) (a .e) (v .result) (v .last .0) (c .before .before .before .before .before .before .before .flags .ensures) (v .ensures) (c .before .before .number .ensures .0) (c .joined .ensures) (c .before .if1 .taken)
+    no-chip-event (given (a .mode) (a .rule)) (now (a .state)) (a .e) (v .result) (v .last .0) (c .before .before .before .before .before .before .before .flags .ensures) (v .ensures) (c .before .before .number .ensures .0) (c .joined .ensures) (c .before .if1 .taken)
 
 put-flags-requires : tie.Need-put-flags-requires
 put-flags-requires c κs =
@@ -69,7 +69,7 @@ returns-2 c =
     let l = now (a .state) in
     let h = state-sized l (c .before .before .before .before .before .before .before .before .before .before .before .before .before .before .before .before .before .before .pre) in
     let v = c .before .before .before .before .before .before .before .before .before .before .before .before .before .event in
-    a-chip-event (under (a .mode)) l (a .e) (v .result) (v .last .0) (c .before .before .before .before .before .before .before .before .before .before .before .before .before .before .before .flags .ensures) (v .ensures) (c .before .before .before .before .before .before .before .before .before .before .number .ensures .0) (c .joined2 .ensures) (c .before .before .before .before .before .before .before .before .before .if1 .left) h
+    a-chip-event (given (a .mode) (a .rule)) l (a .e) (v .result) (v .last .0) (c .before .before .before .before .before .before .before .before .before .before .before .before .before .before .before .flags .ensures) (v .ensures) (c .before .before .before .before .before .before .before .before .before .before .number .ensures .0) (c .joined2 .ensures) (c .before .before .before .before .before .before .before .before .before .if1 .left) h
     (omega (arith, c .before .before .before .before .before .before .before .before .before .before .before .before .state .given, stack-size l h)) (c .before .before .before .before .before .before .before .put-flags .ensures) (c .before .before .before .before .before .before .state2 .given) (c .before .before .before .keep .ensures)
 
 pub chip-event-spec : {M : Type 1} → statement M

@@ -34,10 +34,10 @@ returns : tie.Need-returns
 returns c =
     let l = now (c .before .before .before .before .before .before .before .before .before .before .before .before .before .before .before .before .before .before .before .before .before .before .args .state) in
     let h = c .before .before .before .before .before .before .before .before .before .before .before .before .before .before .before .before .before .before .before .before .before .before .pre .0 in
-    let m = c .before .before .before .before .before .before .before .before .before .before .before .before .before .before .before .before .before .before .before .before .before .before .args .mode in
+    let m = c .before .before .before .before .before .before .before .before .before .before .before .before .before .before .before .before .before .before .before .before .before .before .args in
     let k = c .before .before .before .before .before .before .before .before .before .before .before .before .before .run-all in
     called (length l) _ _ _ _ _ _ _ _ _ _ (rw (c .before .before .before .before .before .before .before .before .before .before .before .before .before .before .before .before .rest .ensures) at (k .ensures))
-    (put-back l (k .last .0) h (omega (arith, c .before .before .before .before .before .before .before .before .before .before .before .before .state .given, stack-size l h)) (record { mode = m; pending = k .result .pending; status = k .result .status; service = k .result .service; bits = k .result .bits; code = k .result .code }) (c .before .before .before .before .before .before .before .put-rest .ensures))
+    (put-back l (k .last .0) h (omega (arith, c .before .before .before .before .before .before .before .before .before .before .before .before .state .given, stack-size l h)) (record { mode = m .mode; rule = m .rule; pending = k .result .pending; status = k .result .status; service = k .result .service; bits = k .result .bits; code = k .result .code }) (c .before .before .before .before .before .before .before .put-rest .ensures))
     (c .before .before .before .fill-report .ensures)
 
 pub run-good-spec : {M : Type 1} → statement M

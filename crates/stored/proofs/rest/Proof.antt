@@ -3,7 +3,7 @@ use mathlib.Core.Path.{ap₂}
 use denote.Ref.{now}
 use Rattle.chip.specs.declared.State.{State}
 use Rattle.memory.specs.declared.Memory.{Memory}
-use Rattle.chip.specs.Step.{under}
+use Rattle.chip.specs.Step.{given}
 use Rattle.memory.specs.Memory.{cardWith}
 use Rattle.stored.proofs.States.{least}
 use borrow.Author.Needs.{needs}
@@ -14,7 +14,7 @@ flags-requires : tie.Need-flags-requires
 flags-requires c κs = least (now (c .before .before .args .state)) (c .before .before .pre)
 
 returns : tie.Need-returns
-returns c = ap₂ (cardWith (under (c .before .before .before .args .mode))) (c .flags .ensures) (c .before .memory-in .ensures)
+returns c = let a = c .before .before .before .args in ap₂ (cardWith (given (a .mode) (a .rule))) (c .flags .ensures) (c .before .memory-in .ensures)
 
 pub rest-spec : {M : Type 1} → statement M
 rest-spec =

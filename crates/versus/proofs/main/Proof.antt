@@ -5,10 +5,10 @@ use Rattle.versus.proofs.main.Statement.{statement}
 use Rattle.versus.proofs.main.Tie as tie
 
 abbrev Inv-loop : tie.InvT-loop
-Inv-loop names parts group₀ group = group ≤ 324
+Inv-loop names parts group₀ group = group ≤ 351
 
 abbrev μ-loop : tie.MeasureT-loop
-μ-loop names parts group₀ group = 324 - group
+μ-loop names parts group₀ group = 351 - group
 
 pub main-spec : {M : Type 1} → statement M
 main-spec = tie.close (tie.spec Inv-loop μ-loop (λ c. search needs) (λ c κs. search needs) (λ c. search needs) (λ c. search needs) (λ c κs. search needs) (λ c κs. search needs) (λ c. search needs) (λ c. search needs) (λ c. search needs) (λ c. search needs))

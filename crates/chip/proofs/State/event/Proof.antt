@@ -1,13 +1,13 @@
 -- `chip::State::event` meets its contract: a busy state is handed back, any other has the event done on its stack. Assumes nothing.
 use mathlib.Core.Path.{_∙_}
-use Rattle.chip.specs.Step.{under}
+use Rattle.chip.specs.Step.{given}
 use Rattle.chip.proofs.InPlace.{busy-event}
 use borrow.Author.Needs.{needs}
 use Rattle.chip.proofs.State.event.Statement.{statement}
 use Rattle.chip.proofs.State.event.Tie as tie
 
 returns : tie.Need-returns
-returns c = c .refuse .ensures ∙ busy-event (under (c .before .before .args .mode)) (c .before .before .args .self) (c .before .before .args .event) (c .before .if1 .taken)
+returns c = let a = c .before .before .args in c .refuse .ensures ∙ busy-event (given (a .mode) (a .rule)) (a .self) (a .event) (c .before .if1 .taken)
 
 returns-2 : tie.Need-returns-2
 returns-2 c = c .before .event .ensures

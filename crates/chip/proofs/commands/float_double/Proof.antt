@@ -4,17 +4,16 @@ use Prim.Native.Nat.{_<_}
 use denote.Ref.{now}
 use Rattle.float.specs.declared.Flagged.{Flagged}
 use Rattle.float.proofs.Results.{fltd-result}
-use Rattle.chip.specs.Commands.{baseRule}
 use Rattle.chip.proofs.Rows.{fltd-row}
 use borrow.Author.Needs.{needs}
 use Rattle.chip.proofs.commands.float_double.Statement.{statement}
 use Rattle.chip.proofs.commands.float_double.Tie as tie
 
 status-of-requires : tie.Need-status-of-requires
-status-of-requires c κs = (search needs, subst (λ (r : Flagged). r .error < 16) (sym (c .before .before .before .before .before .fltd .ensures)) (fltd-result baseRule _ .small))
+status-of-requires c κs = (search needs, subst (λ (r : Flagged). r .error < 16) (sym (c .before .before .before .before .before .fltd .ensures)) (fltd-result _ _ .small))
 
 returns : tie.Need-returns
-returns c = fltd-row (now (c .before .before .before .before .before .before .before .before .before .before .args .s)) (c .before .before .before .before .before .before .before .top-word .ensures .0) (c .before .before .before .before .before .before .fltd .ensures) (c .before .before .before .before .convert .ensures) (c .status-of .ensures)
+returns c = fltd-row (now (c .before .before .before .before .before .before .before .before .before .before .args .s)) _ (c .before .before .before .before .before .before .before .top-word .ensures .0) (c .before .before .before .before .before .before .fltd .ensures) (c .before .before .before .before .convert .ensures) (c .status-of .ensures)
 
 pub float-double-spec : {M : Type 1} → statement M
 float-double-spec =

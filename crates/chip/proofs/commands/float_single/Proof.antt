@@ -4,14 +4,13 @@ use Prim.Native.Nat.{_<_}
 use denote.Ref.{now}
 use Rattle.float.specs.declared.Flagged.{Flagged}
 use Rattle.float.proofs.Results.{flts-result}
-use Rattle.chip.specs.Commands.{baseRule}
 use Rattle.chip.proofs.Rows.{flts-row}
 use borrow.Author.Needs.{needs}
 use Rattle.chip.proofs.commands.float_single.Statement.{statement}
 use Rattle.chip.proofs.commands.float_single.Tie as tie
 
 status-of-requires : tie.Need-status-of-requires
-status-of-requires c κs = (search needs, subst (λ (r : Flagged). r .error < 16) (sym (c .before .before .before .before .before .flts .ensures)) (flts-result baseRule _ .small))
+status-of-requires c κs = (search needs, subst (λ (r : Flagged). r .error < 16) (sym (c .before .before .before .before .before .flts .ensures)) (flts-result _ .small))
 
 returns : tie.Need-returns
 returns c = flts-row (now (c .before .before .before .before .before .before .before .before .before .before .args .s)) (c .before .before .before .before .before .before .before .top-word .ensures .0) (c .before .before .before .before .before .before .flts .ensures) (c .before .before .before .before .widen .ensures) (c .status-of .ensures)

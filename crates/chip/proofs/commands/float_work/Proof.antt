@@ -25,7 +25,7 @@ returns-3 c =
     let eb = c .before .before .before .before .before .before .before .before .before .before .before .before .before .next-word .ensures .0 in
     let ea = c .before .before .before .before .before .before .before .before .before .before .before .top-word .ensures .0 in (
       both _ _ (sym (c .before .before .before .before .before .before .before .before .before .before .is-proper .ensures ∙ ap proper eb) ∙ not-false _ (c .before .before .before .before .before .before .before .before .before .if1 .left)) (sym (c .before .before .before .before .before .before .before .before .is-proper2 .ensures ∙ ap proper ea) ∙ not-false _ (c .before .before .before .before .before .before .before .if2 .left)),
-      float-row (a .op) (now (a .s)) eb ea (c .before .before .before .before .before .before .float-result .ensures .0) (c .before .before .before .before .over-zero .ensures) (c .status-of .ensures),
+      float-row (a .rule) (a .op) (now (a .s)) eb ea (c .before .before .before .before .before .before .float-result .ensures .0) (c .before .before .before .before .over-zero .ensures) (c .status-of .ensures),
     )
 
 pub float-work-spec : {M : Type 1} → statement M

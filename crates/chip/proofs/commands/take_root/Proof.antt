@@ -6,7 +6,6 @@ use denote.Ref.{now}
 use Rattle.float.specs.declared.Flagged.{Flagged}
 use Rattle.float.specs.Word.{proper}
 use Rattle.float.proofs.RootExact.{root-result}
-use Rattle.chip.specs.Commands.{baseRule}
 use Rattle.chip.proofs.Rows.{root-row, no-root-row}
 use borrow.Author.Needs.{needs}
 use Rattle.chip.proofs.commands.take_root.Statement.{statement}
@@ -19,24 +18,26 @@ sqrt-requires : tie.Need-sqrt-requires
 sqrt-requires c κs = sym (c .before .is-proper .ensures) ∙ not-false _ (c .if1 .left)
 
 returns-2 : tie.Need-returns-2
-returns-2 c = (
-  sym (c .before .before .before .before .before .before .before .before .before .before .is-proper .ensures ∙ ap proper (c .before .before .before .before .before .before .before .before .before .before .before .top-word .ensures .0)) ∙ not-false _ (c .before .before .before .before .before .before .before .before .before .if1 .left),
-  root-row (now (c .before .before .before .before .before .before .before .before .before .before .before .before .before .before .args .s)) (c .before .before .before .before .before .before .before .before .before .before .before .top-word .ensures .0) (c .before .before .before .before .before .before .before .before .sqrt .ensures) (c .before .before .before .before .before .before .if2 .taken) (c .before .before .before .before .convert .ensures) (c .status-of .ensures),
-)
+returns-2 c =
+    let a = c .before .before .before .before .before .before .before .before .before .before .before .before .before .before .args in (
+      sym (c .before .before .before .before .before .before .before .before .before .before .is-proper .ensures ∙ ap proper (c .before .before .before .before .before .before .before .before .before .before .before .top-word .ensures .0)) ∙ not-false _ (c .before .before .before .before .before .before .before .before .before .if1 .left),
+      root-row (now (a .s)) (a .rule) (c .before .before .before .before .before .before .before .before .before .before .before .top-word .ensures .0) (c .before .before .before .before .before .before .before .before .sqrt .ensures) (c .before .before .before .before .before .before .if2 .taken) (c .before .before .before .before .convert .ensures) (c .status-of .ensures),
+    )
 
 status-of-requires-2 : tie.Need-status-of-requires-2
 status-of-requires-2 c κs =
     let w = c .before .before .before .before .before .before .top-word in (
       c .before .before .before .before .before .before .before .before .before .pre,
       subst (λ (r : Flagged). r .error < 16) (sym (c .before .before .before .sqrt .ensures))
-          (root-result baseRule (w .result) (record { fits = w .ensures .1; is-proper = sym (c .before .before .before .before .before .is-proper .ensures) ∙ not-false _ (c .before .before .before .before .if1 .left) }) .small),
+          (root-result (c .before .before .before .before .before .before .before .before .before .args .rule) (w .result) (record { fits = w .ensures .1; is-proper = sym (c .before .before .before .before .before .is-proper .ensures) ∙ not-false _ (c .before .before .before .before .if1 .left) }) .small),
     )
 
 returns-3 : tie.Need-returns-3
-returns-3 c = (
-  sym (c .before .before .before .before .before .before .is-proper .ensures ∙ ap proper (c .before .before .before .before .before .before .before .top-word .ensures .0)) ∙ not-false _ (c .before .before .before .before .before .if1 .left),
-  no-root-row (now (c .before .before .before .before .before .before .before .before .before .before .args .s)) (c .before .before .before .before .before .before .before .top-word .ensures .0) (c .before .before .before .before .sqrt .ensures) (c .before .before .if2 .left) (c .status-of2 .ensures),
-)
+returns-3 c =
+    let a = c .before .before .before .before .before .before .before .before .before .before .args in (
+      sym (c .before .before .before .before .before .before .is-proper .ensures ∙ ap proper (c .before .before .before .before .before .before .before .top-word .ensures .0)) ∙ not-false _ (c .before .before .before .before .before .if1 .left),
+      no-root-row (a .rule) (now (a .s)) (c .before .before .before .before .before .before .before .top-word .ensures .0) (c .before .before .before .before .sqrt .ensures) (c .before .before .if2 .left) (c .status-of2 .ensures),
+    )
 
 pub take-root-spec : {M : Type 1} → statement M
 take-root-spec =

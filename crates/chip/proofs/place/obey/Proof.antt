@@ -13,7 +13,7 @@ returns : tie.Need-returns
 returns c =
     let a = c .before .before .before .before .before .before .before .args in
     let n = c .before .before .before .before .command .result in
-    done-as (now (a .stack)) (c .before .before .before .before .command .last .0) (a .f .pending) (a .f .status) (a .f .service) (a .code) (obeyedAs n) (c .before .before .before .before .before .before .before .pre .1) (c .before .before .before .before .command .ensures .0) n (as-done n (c .before .if1 .taken)) (c .service .ensures)
+    done-as (a .rule) (now (a .stack)) (c .before .before .before .before .command .last .0) (a .f .pending) (a .f .status) (a .f .service) (a .code) (obeyedAs n) (c .before .before .before .before .before .before .before .pre .1) (c .before .before .before .before .command .ensures .0) n (as-done n (c .before .if1 .taken)) (c .service .ensures)
 
 returns-2 : tie.Need-returns-2
 returns-2 c =
@@ -21,7 +21,7 @@ returns-2 c =
     let n = c .before .before .before .before .command .result in
     let after = c .before .before .before .before .command .last .0 in
     ap (λ (r : Refusal). refused r (held after (a .f .pending) (a .f .status) (a .f .service))) (c .refusal-of .ensures)
-    ∙ refused-as (now (a .stack)) after (a .f .pending) (a .f .status) (a .f .service) (a .code) (obeyedAs n) (c .before .before .before .before .before .before .before .pre .1) (c .before .before .before .before .command .ensures .0) _ (as-refused n (c .before .if1 .left))
+    ∙ refused-as (a .rule) (now (a .stack)) after (a .f .pending) (a .f .status) (a .f .service) (a .code) (obeyedAs n) (c .before .before .before .before .before .before .before .pre .1) (c .before .before .before .before .command .ensures .0) _ (as-refused n (c .before .if1 .left))
 
 pub obey-spec : {M : Type 1} → statement M
 obey-spec =

@@ -1,6 +1,5 @@
 -- `float::convert::fltd` meets its contract: a word below 2^31 is its own value, any other that of 2^32 less it below zero, and the value is cut. Assumes nothing.
 use mathlib.Core.Path.{refl, _∙_}
-use Rattle.terms.specs.declared.Rule.the-variants.{Cut}
 use Rattle.float.specs.Convert.{fltd}
 use Rattle.float.proofs.Fix.{integer-below, integer-above}
 use borrow.Author.Needs.{needs}
@@ -10,14 +9,14 @@ use Rattle.float.proofs.convert.fltd.Tie as tie
 returns : tie.Need-returns
 unfolding fltd
 returns c =
-    let a = c .before .before .args .a in
-    c .cut-word .ensures ∙ integer-below Cut 2147483648 a _ (c .before .if1 .taken) refl
+    let a = c .before .before .args in
+    c .cut-word .ensures ∙ integer-below (a .rule) 2147483648 (a .a) _ (c .before .if1 .taken) refl
 
 returns-2 : tie.Need-returns-2
 unfolding fltd
 returns-2 c =
-    let a = c .before .before .args .a in
-    c .cut-word2 .ensures ∙ integer-above Cut 2147483648 a (c .before .if1 .left)
+    let a = c .before .before .args in
+    c .cut-word2 .ensures ∙ integer-above (a .rule) 2147483648 (a .a) (c .before .if1 .left)
 
 pub fltd-spec : {M : Type 1} → statement M
 fltd-spec =

@@ -1,7 +1,6 @@
 -- `float::product::fdiv` meets its contract: the quotient to 64 bits stands for the fraction. Assumes nothing.
 use mathlib.Core.Path.{_∙_, ap₂}
 use lib.Ieee.{unlike}
-use Rattle.terms.specs.declared.Rule.the-variants.{Cut}
 use Rattle.float.proofs.ProductCut.{div-zero, div-law}
 use borrow.Author.Needs.{needs}
 use Rattle.float.proofs.product.fdiv.Statement.{statement}
@@ -10,13 +9,13 @@ use Rattle.float.proofs.product.fdiv.Tie as tie
 returns : tie.Need-returns
 returns c =
     let s = c .before .before in
-    div-zero Cut (s .args .b) (s .args .a) _ (c .before .mantissa-of .ensures .0) (c .if1 .taken)
+    div-zero (s .args .rule) (s .args .b) (s .args .a) _ (c .before .mantissa-of .ensures .0) (c .if1 .taken)
 
 returns-2 : tie.Need-returns-2
 returns-2 c =
     let s = c .before .before .before .before .before .before .before .before .before .before in
     c .cut-word .ensures
-    ∙ div-law Cut (s .args .b) (s .args .a) _ _ _ _ _ _
+    ∙ div-law (s .args .rule) (s .args .b) (s .args .a) _ _ _ _ _ _
     (c .before .unlike-signs .ensures ∙ ap₂ unlike (c .before .before .before .is-negative .ensures) (c .before .before .is-negative2 .ensures))
     (c .before .before .before .before .before .before .before .mantissa-of2 .ensures .0)
     (c .before .before .before .before .before .before .before .before .before .mantissa-of .ensures .0)

@@ -3,7 +3,6 @@ use mathlib.Core.Path.{_∙_, ap₂}
 use native.Mathlib.Nat.{lt-of-lt-of-le}
 use lib.Dec.{lit≤}
 use lib.Ieee.{unlike}
-use Rattle.terms.specs.declared.Rule.the-variants.{Cut}
 use Rattle.float.proofs.Powers.{mul-digits}
 use Rattle.float.proofs.ProductCut.{mul-law}
 use borrow.Author.Needs.{needs}
@@ -18,7 +17,7 @@ returns : tie.Need-returns
 returns c =
     let s = c .before .before .before .before .before .before .before .before in
     c .cut-word .ensures
-    ∙ mul-law Cut (s .args .b) (s .args .a) _ _ _ _ _
+    ∙ mul-law (s .args .rule) (s .args .b) (s .args .a) _ _ _ _ _
     (c .before .before .before .before .before .unlike-signs .ensures ∙ ap₂ unlike (c .before .before .before .before .before .before .before .is-negative .ensures) (c .before .before .before .before .before .before .is-negative2 .ensures))
     (c .before .before .before .before .mantissa-of .ensures .0)
     (c .before .before .before .mantissa-of2 .ensures .0)

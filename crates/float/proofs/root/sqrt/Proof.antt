@@ -5,7 +5,6 @@ use native.Mathlib.Nat.{lt-of-lt-of-le}
 use native.Mathlib.Omega.{arith}
 use lib.Dec.{lit<}
 use lib.Pow.{shl-exact}
-use Rattle.terms.specs.declared.Rule.the-variants.{Cut}
 use Rattle.float.proofs.WholeRoot.{root-lt}
 use Rattle.float.proofs.RootCut.{root-negative, root-zero, root-law, raised}
 use borrow.Author.Needs.{needs}
@@ -17,12 +16,12 @@ up : (m e : ℕ) → m < 16777216 → m * 2 ^ (24 - e % 2) % 2 ^ 64 ≡ m * 2 ^ 
 up m e h = shl-exact 24 (24 - e % 2) 64 h (omega arith)
 
 returns : tie.Need-returns
-returns c = root-negative Cut (c .before .before .args .a) (sym (c .before .is-negative .ensures) ∙ c .if1 .taken)
+returns c = let a = c .before .before .args in root-negative (a .rule) (a .a) (sym (c .before .is-negative .ensures) ∙ c .if1 .taken)
 
 returns-2 : tie.Need-returns-2
 returns-2 c =
     let s = c .before .before .before .before in
-    root-zero Cut (s .args .a) _ (sym (c .before .before .before .is-negative .ensures) ∙ c .before .before .if1 .left) (c .before .mantissa-of .ensures .0) (c .if2 .taken)
+    root-zero (s .args .rule) (s .args .a) _ (sym (c .before .before .before .is-negative .ensures) ∙ c .before .before .if1 .left) (c .before .mantissa-of .ensures .0) (c .if2 .taken)
 
 whole-root-requires : tie.Need-whole-root-requires
 whole-root-requires c κs =
@@ -48,7 +47,7 @@ returns-3 c =
     let v = up (m .result) (e .result) (m .ensures .1) in
     let b = raised (s .args .a) (m .result) (e .result) _ (s .pre) (m .ensures .0) (m .ensures .1) (c .before .before .before .before .if2 .left) v in
     c .cut-word .ensures
-    ∙ root-law Cut (s .args .a) (m .result) (e .result) _ _
+    ∙ root-law (s .args .rule) (s .args .a) (m .result) (e .result) _ _
     (sym (c .before .before .before .before .before .before .before .is-negative .ensures) ∙ c .before .before .before .before .before .before .if1 .left)
     (m .ensures .0)
     (e .ensures .0)

@@ -1,6 +1,5 @@
 -- `float::sum::add_lower` meets its contract: the smaller addend, shifted, is added to the greater or taken from it. Assumes nothing.
 use mathlib.Core.Path.{sym, _∙_}
-use Rattle.terms.specs.declared.Rule.the-variants.{Cut}
 use Rattle.float.proofs.SumCut.{sum-fits, under, same-sign, unlike-sign}
 use borrow.Author.Needs.{needs}
 use Rattle.float.proofs.sum.add_lower.Statement.{statement}
@@ -9,7 +8,7 @@ use Rattle.float.proofs.sum.add_lower.Tie as tie
 sub-cut-word : tie.Need-sub-cut-word
 sub-cut-word c =
     let s = c .before .before .before .before .before in
-    under Cut (s .args .neg) (s .args .other) (s .args .hi) (s .args .lo) _ _ _ (s .pre .0) (s .pre .2) (c .before .before .before .before .mantissa-of .ensures .0) (c .before .before .before .mantissa-of2 .ensures .0) (c .before .before .shifted .ensures)
+    under (s .args .rule) (s .args .neg) (s .args .other) (s .args .hi) (s .args .lo) _ _ _ (s .pre .0) (s .pre .2) (c .before .before .before .before .mantissa-of .ensures .0) (c .before .before .before .mantissa-of2 .ensures .0) (c .before .before .shifted .ensures)
 
 add-cut-word-2 : tie.Need-add-cut-word-2
 add-cut-word-2 c =
@@ -19,7 +18,7 @@ returns : tie.Need-returns
 returns c =
     let s = c .before .before .before .before .before .before in
     c .cut-word .ensures
-    ∙ unlike-sign Cut (s .args .neg) (s .args .other) (s .args .hi) (s .args .lo) _ _ _ (s .pre .0) (s .pre .2)
+    ∙ unlike-sign (s .args .rule) (s .args .neg) (s .args .other) (s .args .hi) (s .args .lo) _ _ _ (s .pre .0) (s .pre .2)
     (c .before .before .before .before .before .mantissa-of .ensures .0)
     (c .before .before .before .before .mantissa-of2 .ensures .0)
     (c .before .before .before .shifted .ensures)
@@ -29,7 +28,7 @@ returns-2 : tie.Need-returns-2
 returns-2 c =
     let s = c .before .before .before .before .before .before in
     c .cut-word2 .ensures
-    ∙ same-sign Cut (s .args .neg) (s .args .other) (s .args .hi) (s .args .lo) _ _ _ (s .pre .0) (s .pre .2)
+    ∙ same-sign (s .args .rule) (s .args .neg) (s .args .other) (s .args .hi) (s .args .lo) _ _ _ (s .pre .0) (s .pre .2)
     (c .before .before .before .before .before .mantissa-of .ensures .0)
     (c .before .before .before .before .mantissa-of2 .ensures .0)
     (c .before .before .before .shifted .ensures)

@@ -1,6 +1,5 @@
 -- `float::sum::fadd` meets its contract: the addends are the words'. Assumes nothing.
 use mathlib.Core.Path.{_∙_}
-use Rattle.terms.specs.declared.Rule.the-variants.{Cut}
 use Rattle.float.proofs.SumCut.{add-law}
 use borrow.Author.Needs.{needs}
 use Rattle.float.proofs.sum.fadd.Statement.{statement}
@@ -10,7 +9,7 @@ returns : tie.Need-returns
 returns c =
     let s = c .before .before .before .before .before in
     c .add-signed .ensures
-    ∙ add-law Cut (s .args .b) (s .args .a) _ _ _ _ (c .before .before .before .before .is-negative .ensures) (c .before .before .is-negative2 .ensures) (c .before .before .before .addend-of .ensures) (c .before .addend-of2 .ensures)
+    ∙ add-law (s .args .rule) (s .args .b) (s .args .a) _ _ _ _ (c .before .before .before .before .is-negative .ensures) (c .before .before .is-negative2 .ensures) (c .before .before .before .addend-of .ensures) (c .before .addend-of2 .ensures)
 
 pub fadd-spec : {M : Type 1} → statement M
 fadd-spec =

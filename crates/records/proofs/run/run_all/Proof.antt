@@ -4,7 +4,7 @@ use Prim.Native.Nat.{_-_}
 use native.Mathlib.Omega.{arith}
 use lib.ListN.{length, drop, length-drop}
 use denote.Ref.{now}
-use Rattle.chip.specs.Step.{under}
+use Rattle.chip.specs.Step.{given}
 use Rattle.memory.specs.Memory.{Card}
 use Rattle.memory.specs.Held.{cardOf, settingsAt, cardAt}
 use Rattle.files.proofs.Running.{Going, starts, goes-on, stops, ends, all-length}
@@ -17,11 +17,11 @@ use Rattle.records.proofs.run.run_all.Statement.{statement}
 use Rattle.records.proofs.run.run_all.Tie as tie
 
 abbrev Inv-loop : tie.InvT-loop
-Inv-loop stack₀ input replies₀ mode pending₀ status₀ service₀ bits₀ code₀ at₀ w₀ stack replies pending status service bits code at w =
-    (length stack ≡ 16) × Going turnOf (cardOf (under mode) stack₀ pending₀ status₀ service₀ bits₀ code₀) input replies₀ (cardOf (under mode) stack pending status service bits code) at w replies
+Inv-loop stack₀ input replies₀ mode rule pending₀ status₀ service₀ bits₀ code₀ at₀ w₀ stack replies pending status service bits code at w =
+    (length stack ≡ 16) × Going turnOf (cardOf (given mode rule) stack₀ pending₀ status₀ service₀ bits₀ code₀) input replies₀ (cardOf (given mode rule) stack pending status service bits code) at w replies
 
 abbrev μ-loop : tie.MeasureT-loop
-μ-loop stack₀ input replies₀ mode pending₀ status₀ service₀ bits₀ code₀ at₀ w₀ stack replies pending status service bits code at w = length input - at
+μ-loop stack₀ input replies₀ mode rule pending₀ status₀ service₀ bits₀ code₀ at₀ w₀ stack replies pending status service bits code at w = length input - at
 
 abbrev Turn : Type 0
 Turn = tie.After-pass-record Inv-loop μ-loop

@@ -35,7 +35,7 @@ returns-3 c =
     let after = held (k .last .0) (a .f .pending) (a .f .status) (a .f .service) in
     let e = number-of (n / 256) (omega (arith, h)) (omega (arith, k .ensures .1)) in
     λ file there. took (cardAt (now (a .stack)) (a .f)) (Command (a .code)) (answerWith (settingsAt (a .f)) (memoryAt (a .f)) (CommandEvent (a .code)) (refused r after)) file (now (a .room))
-    (ap (answerWith (settingsAt (a .f)) (memoryAt (a .f)) (CommandEvent (a .code))) (refused-as (now (a .stack)) (k .last .0) (a .f .pending) (a .f .status) (a .f .service) (a .code) (obeyedAs n) (c .before .before .before .before .before .before .before .before .before .if2 .left) (k .ensures .0) r (as-refused n h)))
+    (ap (answerWith (settingsAt (a .f)) (memoryAt (a .f)) (CommandEvent (a .code))) (refused-as (a .f .rule) (now (a .stack)) (k .last .0) (a .f .pending) (a .f .status) (a .f .service) (a .code) (obeyedAs n) (c .before .before .before .before .before .before .before .before .before .if2 .left) (k .ensures .0) r (as-refused n h)))
     (refused-stays (settingsAt (a .f)) (memoryAt (a .f)) (a .code) r after (omega (arith, e, h)))
     e refl (c .before .before .open-reply .ensures) there (c .before .before .before .before .before .before .before .before .before .before .before .if1 .left)
 
@@ -46,7 +46,7 @@ returns-4 c =
     let n = k .result in
     let after = held (k .last .0) (a .f .pending) n (c .service .result) in
     λ file there. took (cardAt (now (a .stack)) (a .f)) (Command (a .code)) (answerWith (settingsAt (a .f)) (memoryAt (a .f)) (CommandEvent (a .code)) (done 0 after)) file (now (a .room))
-    (ap (answerWith (settingsAt (a .f)) (memoryAt (a .f)) (CommandEvent (a .code))) (done-as (now (a .stack)) (k .last .0) (a .f .pending) (a .f .status) (a .f .service) (a .code) (obeyedAs n) (c .before .before .before .before .before .before .before .before .before .before .before .if2 .left) (k .ensures .0) n (as-done n (omega (arith, c .before .before .before .before .before .before .if3 .left))) (c .service .ensures)))
+    (ap (answerWith (settingsAt (a .f)) (memoryAt (a .f)) (CommandEvent (a .code))) (done-as (a .f .rule) (now (a .stack)) (k .last .0) (a .f .pending) (a .f .status) (a .f .service) (a .code) (obeyedAs n) (c .before .before .before .before .before .before .before .before .before .before .before .if2 .left) (k .ensures .0) n (as-done n (omega (arith, c .before .before .before .before .before .before .if3 .left))) (c .service .ensures)))
     (ap (cardWith (settingsAt (a .f)) after) (none-left (memoryAt (a .f)) (a .code) n (c .before .if4 .taken)))
     refl refl (c .before .before .before .before .open-reply2 .ensures) there (c .before .before .before .before .before .before .before .before .before .before .before .before .before .if1 .left)
 
@@ -57,7 +57,7 @@ returns-5 c =
     let n = k .result in
     let after = held (k .last .0) (a .f .pending) n (c .service2 .result) in
     λ file there. took (cardAt (now (a .stack)) (a .f)) (Command (a .code)) (answerWith (settingsAt (a .f)) (memoryAt (a .f)) (CommandEvent (a .code)) (done 0 after)) file (now (a .room))
-    (ap (answerWith (settingsAt (a .f)) (memoryAt (a .f)) (CommandEvent (a .code))) (done-as (now (a .stack)) (k .last .0) (a .f .pending) (a .f .status) (a .f .service) (a .code) (obeyedAs n) (c .before .before .before .before .before .before .before .before .before .before .before .before .if2 .left) (k .ensures .0) n (as-done n (omega (arith, c .before .before .before .before .before .before .before .if3 .left))) (c .service2 .ensures)))
+    (ap (answerWith (settingsAt (a .f)) (memoryAt (a .f)) (CommandEvent (a .code))) (done-as (a .f .rule) (now (a .stack)) (k .last .0) (a .f .pending) (a .f .status) (a .f .service) (a .code) (obeyedAs n) (c .before .before .before .before .before .before .before .before .before .before .before .before .if2 .left) (k .ensures .0) n (as-done n (omega (arith, c .before .before .before .before .before .before .before .if3 .left))) (c .service2 .ensures)))
     (ap (cardWith (settingsAt (a .f)) after) (c .before .remember .ensures))
     refl refl (c .before .before .before .before .before .open-reply2 .ensures) there (c .before .before .before .before .before .before .before .before .before .before .before .before .before .before .if1 .left)
 

@@ -5,10 +5,10 @@ use Rattle.second.proofs.digits.combined.Statement.{statement}
 use Rattle.second.proofs.digits.combined.Tie as tie
 
 abbrev Inv-loop : tie.InvT-loop
-Inv-loop b i a j minus turn carry₀ last₀ digits₀ length₀ place₀ carry last digits length place = place ≤ 320
+Inv-loop b i a j minus turn carry₀ last₀ gone₀ digits₀ length₀ behind₀ place₀ carry last gone digits length behind place = place ≤ 320
 
 abbrev μ-loop : tie.MeasureT-loop
-μ-loop b i a j minus turn carry₀ last₀ digits₀ length₀ place₀ carry last digits length place = 320 - place
+μ-loop b i a j minus turn carry₀ last₀ gone₀ digits₀ length₀ behind₀ place₀ carry last gone digits length behind place = 320 - place
 
 pub combined-spec : {M : Type 1} → statement M
-combined-spec = tie.close (tie.spec Inv-loop μ-loop (λ c. search needs) (λ c. search needs) (λ c κs. search needs) (λ c κs. search needs) (λ c. search needs) (λ c. search needs) (λ c. search needs) (λ c. search needs) (λ c. search needs))
+combined-spec = tie.close (tie.spec Inv-loop μ-loop (λ c. search needs) (λ c. search needs) (λ c κs. search needs) (λ c κs. search needs) (λ c. search needs) (λ c. search needs) (λ c. search needs) (λ c. search needs) (λ c. search needs) (λ c. search needs) (λ c. search needs))

@@ -7,10 +7,10 @@ use Rattle.second.proofs.runner.done.Statement.{statement}
 use Rattle.second.proofs.runner.done.Tie as tie
 
 abbrev Inv-loop : tie.InvT-loop
-Inv-loop r h mode input replies₀ chip₀ refusal₀ from to i₀ i-end replies chip refusal i = (i ≤ i-end) × (length replies ≡ length replies₀)
+Inv-loop r h mode rule input replies₀ chip₀ refusal₀ from to i₀ i-end replies chip refusal i = (i ≤ i-end) × (length replies ≡ length replies₀)
 
 abbrev μ-loop : tie.MeasureT-loop
-μ-loop r h mode input replies₀ chip₀ refusal₀ from to i₀ i-end replies chip refusal i = i-end - i
+μ-loop r h mode rule input replies₀ chip₀ refusal₀ from to i₀ i-end replies chip refusal i = i-end - i
 
 pub done-spec : {M : Type 1} → statement M
 done-spec =

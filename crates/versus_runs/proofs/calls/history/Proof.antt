@@ -7,10 +7,10 @@ use Rattle.versus_runs.proofs.calls.history.Statement.{statement}
 use Rattle.versus_runs.proofs.calls.history.Tie as tie
 
 abbrev Inv-loop : tie.InvT-loop
-Inv-loop again mode state₀ size seed told₀ k₀ state told k = (k ≤ 32) × (length state ≡ length state₀)
+Inv-loop again state₀ size seed mode rule told₀ k₀ state told k = (k ≤ 32) × (length state ≡ length state₀)
 
 abbrev μ-loop : tie.MeasureT-loop
-μ-loop again mode state₀ size seed told₀ k₀ state told k = 32 - k
+μ-loop again state₀ size seed mode rule told₀ k₀ state told k = 32 - k
 
 pub history-spec : {M : Type 1} → statement M
 history-spec =

@@ -1,0 +1,50 @@
+-- What request 9 says of rounding to the nearest word, by comparing products; beside it the pair under either rule. Definitions only. Assumes nothing.
+use mathlib.Core.Path.{_≡_}
+use mathlib.Core.Bool.{cond}
+use Prim.Native.Nat.{ℕ, _+_, _-_, _*_, _%_, _^_, _≤_, _<_}
+use lib.Dec.{eqb}
+use lib.IntN.{ℤ, pos, _-ℤ_}
+use lib.Ieee.{up, down}
+use Rattle.terms.specs.declared.Rule.{Rule}
+use Rattle.terms.specs.declared.Rule.the-variants.{Cut, Nearest}
+use Rattle.float.specs.Cut.{Pair}
+
+-- four times the mark below m, halfway to the next number of 24 digits: half a unit down, but a quarter at 2 ^ 23, since the words below it lie twice as close
+abbrev pub belowMark : ℕ → ℕ
+belowMark m = cond (eqb m (2 ^ 23)) (4 * m - 1) (4 * m - 2)
+
+-- four times the mark above m, half a unit up
+abbrev pub aboveMark : ℕ → ℕ
+aboveMark m = 4 * m + 2
+
+-- n lies from lo to hi, and m is even where n is one of the two
+pub record Between (n lo hi m : ℕ) : Type 0 where
+  pub reached : lo ≤ n
+  pub passed : n ≤ hi
+  pub low-even : n ≤ lo → m % 2 ≡ 0
+  pub high-even : hi ≤ n → m % 2 ≡ 0
+
+-- n / u lies between the marks of m; at either of them m is even
+abbrev pub Marks : ℕ → ℕ → ℕ → Type 0
+Marks n u m = Between (4 * n) (belowMark m * u) (aboveMark m * u) m
+
+-- m and e of the magnitude n / d, e unbounded, are the one pair with n / d * 2 ^ (24 - e) between the marks of m, and 2 ^ 23 <= m < 2 ^ 24
+pub record NearPair (n d m : ℕ) (e : ℤ) : Type 0 where
+  pub low : 2 ^ 23 ≤ m
+  pub high : m < 2 ^ 24
+  pub marks : Marks (n * down (e -ℤ pos 24)) (d * up (e -ℤ pos 24)) m
+
+-- the pair under a rule
+abbrev pub PairBy : Rule → ℕ → ℕ → ℕ → ℤ → Type 0
+PairBy Cut n d m e = Pair n d m e
+PairBy Nearest n d m e = NearPair n d m e
+
+-- how far two numbers are apart
+abbrev pub apart : ℕ → ℕ → ℕ
+apart x y = (x - y) + (y - x)
+
+-- no m', e' with 2 ^ 23 <= m' < 2 ^ 24 lies nearer to the magnitude n / d than m, e does: the two distances, each times d and both powers of two
+abbrev pub NoNearer : ℕ → ℕ → ℕ → ℤ → Type 0
+NoNearer n d m e =
+    (m' : ℕ) (e' : ℤ) → 2 ^ 23 ≤ m' → m' < 2 ^ 24
+    → apart (n * down (e -ℤ pos 24)) (m * (d * up (e -ℤ pos 24))) * down (e' -ℤ pos 24) ≤ apart (n * down (e' -ℤ pos 24)) (m' * (d * up (e' -ℤ pos 24))) * down (e -ℤ pos 24)
