@@ -55,10 +55,10 @@ unfolding decoded
 codes = (refl, refl, refl, refl, refl, refl)
 
 -- a code stands for its command whatever its bit 7
-abbrev coded : Bool → ℕ → ℕ
+abbrev pub coded : Bool → ℕ → ℕ
 coded b code = cond b (code + 128) code
 
-coded-is : (b : Bool) (code : ℕ) {k : Kind} → decoded (code % 128) ≡ k → decoded (coded b code % 128) ≡ k
+pub coded-is : (b : Bool) (code : ℕ) {k : Kind} → decoded (code % 128) ≡ k → decoded (coded b code % 128) ≡ k
 coded-is true code e = either-way code ∙ e
 coded-is false code e = e
 

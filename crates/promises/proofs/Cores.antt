@@ -215,7 +215,7 @@ pushes-sendable : (n w : ℕ) → Sendable (onBus (pushesOf n w))
 pushes-sendable zero w = tt
 pushes-sendable (suc n) w = (mod-lt w (lit< tt), pushes-sendable n (w / 256))
 
-code-sendable : (sr : Bool) (code : ℕ) → code < 128 → cond sr (code + 128) code < 256
+pub code-sendable : (sr : Bool) (code : ℕ) → code < 128 → cond sr (code + 128) code < 256
 code-sendable true code h = omega arith
 code-sendable false code h = omega arith
 
