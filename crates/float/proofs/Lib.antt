@@ -19,6 +19,7 @@ pub mod RulePair
 pub mod NoNearer
 pub mod Steps
 pub mod Kept
+pub mod Close
 pub mod Conversions
 pub mod Moved
 pub mod WholeRoot

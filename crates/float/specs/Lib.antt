@@ -7,6 +7,7 @@ pub mod Convert
 pub mod Root
 pub mod Order
 pub mod Exact
+pub mod Close
 pub mod Jam
 pub mod Addend
 pub mod Traced

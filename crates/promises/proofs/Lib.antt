@@ -29,3 +29,4 @@ pub mod Rules
 pub mod Nearest
 pub mod NearBench
 pub mod Undo
+pub mod CloseReadings

@@ -1,0 +1,38 @@
+-- Close readings: the law of the crate float over the rule, and the table computed under each. Assumes nothing.
+use mathlib.Core.Path.{_≡_, refl}
+use mathlib.Core.Logic.{_⊎_, inl, inr}
+use mathlib.Core.List.{map}
+use Prim.Native.Nat.{ℕ}
+use native.Mathlib.Omega.{arith}
+use lib.Ieee.{size}
+use Rattle.terms.specs.declared.Rule.{Rule}
+use Rattle.terms.specs.declared.Rule.the-variants.{Cut, Nearest}
+use Rattle.float.specs.Word.{value}
+use Rattle.float.specs.Float.{sub}
+use Rattle.float.proofs.Close.{close-difference}
+use Rattle.codes.specs.Codes.{decoded}
+use Rattle.chip.specs.Status.{statusOf}
+use Rattle.chip.specs.Commands.{floats}
+use Rattle.chip.specs.Step.{pushOf, carried, commandUnder}
+use Rattle.promises.specs.Bench.{expected}
+use Rattle.promises.specs.NearBench.{shownBy}
+use Rattle.promises.specs.CloseReadings.{CloseReadings, closeTable, CloseExamples}
+
+-- an error that is 0 or underflow is not overflow
+no-overflow : (e : ℕ) → (e ≡ 0) ⊎ (e ≡ 2) → e ≡ 1 → ⊥
+no-overflow e (inl h) f = omega arith
+no-overflow e (inr h) f = omega arith
+
+pub close-readings : CloseReadings
+close-readings = record {
+  without-loss = close-difference;
+  no-overflow = λ rule b a B A c. no-overflow ((sub rule b a) .error) (close-difference rule b a B A c .no-other);
+}
+
+rows : (rule : Rule) → map (shownBy rule) closeTable ≡ map expected closeTable
+unfolding pushOf commandUnder carried floats statusOf decoded sub size
+rows Cut = refl
+rows Nearest = refl
+
+pub close-examples : CloseExamples
+close-examples = record { rows = rows; beyond = unfold value in refl }
