@@ -1,6 +1,6 @@
 // What the listing program prints: from the replies and the report of a run to the text of
 // document 01, a line for each reply and the last line. The text goes into a lent array.
-mod text;
+pub mod text;
 
 ghost use mathlib.Core.Path.{_≡_};
 ghost use Prim.Native.Nat.{_+_, _*_, _-_, _≤_, _<_, min};
@@ -19,7 +19,7 @@ pub const REPLY_ROOM: usize = 65536;
 pub const TEXT_ROOM: usize = 262190;
 
 // A blank and a number.
-fn add_field(out: &mut [u8], place: usize, n: u64) -> usize
+pub fn add_field(out: &mut [u8], place: usize, n: u64) -> usize
     requires { ⌜ place + length (field n) ≤ length (now out) ⌝ }
     ensures { λ r. ⌜ Adds (field n) (now (out .entry)) (now (out .exit)) place r ⌝ }
 {

@@ -31,7 +31,7 @@ pub fn add_decimal(out: &mut [u8], place: usize, n: u64) -> usize
 }
 
 // The character of a digit below 16.
-fn digit(d: u8) -> u8
+pub fn digit(d: u8) -> u8
     requires { ⌜ d < 16 ⌝ }
     ensures { λ r. ⌜ r ≡ Text·digit d ⌝ }
 {

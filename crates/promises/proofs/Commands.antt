@@ -89,7 +89,7 @@ module _ (w : Width) (f : ℕ → ℕ → Fixed) (b a r e : ℕ) (c : Bool) (cs 
   unfolding keepsA
   keeps = ap (keepsA w (word w a (word w b cs))) found ∙ ap (λ (l : List ℕ). ends w l e c) (over-a w b a r cs)
 
-  loses : losesA w (word w a (word w b cs)) (f (wordB w (word w a (word w b cs))) (wordA w (word w a (word w b cs)))) ≡ ends w (word w r (cs ++ bytesOf (sizeOf w) 0)) e false
+  pub loses : losesA w (word w a (word w b cs)) (f (wordB w (word w a (word w b cs))) (wordA w (word w a (word w b cs)))) ≡ ends w (word w r (cs ++ bytesOf (sizeOf w) 0)) e false
   unfolding losesA
   loses = ap (losesA w (word w a (word w b cs))) found ∙ ap (λ (l : List ℕ). ends w l e false) (over-zero w b a r cs)
 

@@ -31,3 +31,4 @@ pub mod Nearest
 pub mod NearBench
 pub mod Undo
 pub mod CloseReadings
+pub mod Serial
