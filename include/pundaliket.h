@@ -26,26 +26,28 @@ enum {
     PUNDALIKET_UNKNOWN_CODE = 1,   /* unknown command code; the state stays */
     PUNDALIKET_DERIVED_CODE = 2,   /* derived function, codes 02 to 0B hex (82 to 8B); the state stays */
     PUNDALIKET_HALF_WORD = 3,      /* a known command, NOP too, with a half word pending; the state stays */
-    PUNDALIKET_IMPROPER = 4,       /* a float operand, or a word to be made an f32, is not proper; the state stays */
+    PUNDALIKET_IMPROPER = 4,       /* a float operand, or a word to be made an f32 or f64, is not proper; the state stays */
     PUNDALIKET_NO_SUCH_KIND = 5,   /* kind of record or event not 1 to 8 */
     PUNDALIKET_CUT_SHORT = 6,      /* the file ends inside a record */
     PUNDALIKET_BAD_LENGTH = 7,     /* length under 2 or over 242, payload wrong for the kind, pop count not 1 to 240 */
-    PUNDALIKET_NO_ROOM = 8,        /* no room for this record's reply; or a conversion's slice is not 4 bytes */
+    PUNDALIKET_NO_ROOM = 8,        /* no room for this record's reply; or a conversion's slice is not 4 bytes; or no room
+                                      for a buffer's entries */
     PUNDALIKET_INPUT_TOO_LONG = 9, /* input over 12,288 bytes; only the report is written */
-    PUNDALIKET_NOT_FINITE = 10,    /* the f32 is infinite or not a number */
-    PUNDALIKET_TOO_LARGE = 11,     /* finite f32 of magnitude 2^63 or more */
-    PUNDALIKET_TOO_SMALL = 12,     /* f32 not zero, magnitude under 2^-65 */
+    PUNDALIKET_NOT_FINITE = 10,    /* the f32 or f64 is infinite or not a number */
+    PUNDALIKET_TOO_LARGE = 11,     /* finite f32 of magnitude 2^63 or more; finite f64 that is so once it has 24 bits */
+    PUNDALIKET_TOO_SMALL = 12,     /* f32 or f64 not zero, of magnitude under 2^-65 as it is given */
     PUNDALIKET_BAD_STATE = 13,     /* state not 19 or 21 bytes, a flag over 1, busy set, bits of the error memory outside
                                       4 to 1, its code without bits or bits without a code; only a report is written */
     PUNDALIKET_BAD_REPORT = 14,    /* report not 9 bytes; nothing is written at all */
-    PUNDALIKET_MINUS_ZERO = 15,    /* the f32 is minus zero */
+    PUNDALIKET_MINUS_ZERO = 15,    /* the f32 or f64 is minus zero */
     PUNDALIKET_BAD_MODE = 16,      /* mode neither 0 nor 1; only a report is written */
-    PUNDALIKET_BAD_RULE = 17       /* rule neither 0 nor 1; only a report is written */
+    PUNDALIKET_BAD_RULE = 17,      /* rule neither 0 nor 1; only a report, or a number, is written */
+    PUNDALIKET_PART_ENTRY = 18     /* a buffer's length is no whole number of entries */
 };
 
 /*
- * The rules: how the exact result of FADD, FSUB, FMUL, FDIV, FLTD and SQRT is brought to 24 bits. PUPI pushes pi by the same
- * rule; FIXS and FIXD cut under either. The rule is not among the state's bytes.
+ * The rules: how the exact result of FADD, FSUB, FMUL, FDIV, FLTD and SQRT, and an f64 that is to be a word, is brought to 24
+ * bits. PUPI pushes pi by the same rule; FIXS and FIXD cut under either. The rule is not among the state's bytes.
  */
 enum {
     PUNDALIKET_CUT = 0,    /* the bits behind the mantissa are cut off */
@@ -85,6 +87,8 @@ enum {
     PUNDALIKET_LONG_STATE_BYTES = 21, /* the same and the error memory: its bits, its code; 21 zeros: reset */
     PUNDALIKET_REPORT_BYTES = 9,      /* refusal, bytes of whole records taken, bytes of replies written */
     PUNDALIKET_FLOAT_BYTES = 4,       /* what a conversion writes */
+    PUNDALIKET_WORD_BYTES = 4,        /* an entry of a buffer of words */
+    PUNDALIKET_F64_BYTES = 8,         /* an entry of a buffer of f64s */
     PUNDALIKET_MOST_INPUT = 12288,    /* the longest input */
     PUNDALIKET_MOST_REPLIES = 601965, /* replies to the longest input */
     PUNDALIKET_STACK_BYTES = 2048     /* stack of a call */
@@ -212,6 +216,32 @@ uint32_t pundaliket_word_to_f32(uint32_t word, uint8_t *out, size_t out_length);
  * out      4 bytes: the word, little-endian, written on 0 alone.
  */
 uint32_t pundaliket_f32_to_word(uint32_t bits, uint8_t *out, size_t out_length);
+
+/*
+ * Chip words as f64s, always exact. Returns the refusal: 18, then 8, then 4 for the first word that is not proper. The whole
+ * buffer is looked through before the first byte is written, and on a refusal no byte of `out` is.
+ *
+ * words    4 bytes for each word, little-endian. Any number of them, none too.
+ * out      8 bytes for each f64, little-endian, in the same order; what lies past them stays as it was.
+ * number   always written: on 4 the first bad entry, counted from 1, else 0.
+ */
+uint32_t pundaliket_words_to_f64(const uint8_t *words, size_t words_length,
+                                 uint8_t *out, size_t out_length, uint64_t *number);
+
+/*
+ * F64s as chip words: those that have a proper word's value become it, any other is brought to 24 bits by the rule. Returns the
+ * refusal: 17, then 18, then 8, then 10, 15, 12 or 11 of the first f64 that is refused. 12 is judged by the magnitude that is
+ * given, 11 by the one that the rule leaves. As above the whole buffer is looked through first. Words that were turned to f64s
+ * come back bit for bit, under either rule.
+ *
+ * rule     PUNDALIKET_CUT or PUNDALIKET_NEAREST.
+ * floats   8 bytes for each f64, little-endian. Any number of them, none too.
+ * out      4 bytes for each word, little-endian, in the same order; what lies past them stays as it was.
+ * number   always written: on 0 how many entries were brought to 24 bits, that is, changed; on 10, 15, 12 and 11 the first bad
+ *          entry, counted from 1; else 0.
+ */
+uint32_t pundaliket_f64_to_words(uint32_t rule, const uint8_t *floats, size_t floats_length,
+                                 uint8_t *out, size_t out_length, uint64_t *number);
 
 #ifdef __cplusplus
 }

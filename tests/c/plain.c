@@ -1,4 +1,4 @@
-/* Document 01 in plain C, with requests 1 to 6 and 9 of 02. The state is worked on where it lies, as 19 bytes and two of error memory;
+/* Document 01 in plain C, with requests 1 to 6, 9 and 13 of 02. The state is worked on where it lies, as 19 bytes and two of error memory;
  * fixed-point results are formed in 64-bit integers, float results in 64 bits with what falls off kept as one low bit. */
 #include "plain.h"
 
@@ -550,5 +550,87 @@ uint32_t plain_f32_to_word(uint32_t bits, uint8_t *out, size_t out_length)
     if (magnitude != 0 && biased < 127 - 65)
         return 12;
     put_little(out, bits == 0 ? 0 : (bits & 0x807FFFFF) | 0x800000 | ((biased - 126) & 0x7F) << 24);
+    return 0;
+}
+
+/* ---- buffers, request 13 of 02: an f64 is a sign, 11 bits of exponent plus 1023, 52 bits behind the leading one */
+
+static uint32_t get_little(const uint8_t *p) { return p[0] | (uint32_t)p[1] << 8 | (uint32_t)p[2] << 16 | (uint32_t)p[3] << 24; }
+
+uint32_t plain_words_to_f64(const uint8_t *words, size_t words_length, uint8_t *out, size_t out_length, uint64_t *number)
+{
+    size_t n = words_length / 4;
+    *number = 0;
+    if (words_length % 4 != 0)
+        return 18;
+    if (out_length / 8 < n)
+        return 8;
+    for (size_t i = 0; i < n; i++)
+        if (!is_proper(get_little(words + 4 * i))) {
+            *number = i + 1;
+            return 4;
+        }
+    for (size_t i = 0; i < n; i++) {
+        uint32_t w = get_little(words + 4 * i), high = 0;
+        if (w != 0)
+            high = (w & 0x80000000) | (uint32_t)(exponent(w) + 1022) << 20 | (w & 0x7FFFFF) >> 3;
+        put_little(out + 8 * i, w << 29);
+        put_little(out + 8 * i + 4, high);
+    }
+    return 0;
+}
+
+/* the word of an f64 and whether it is another value, or the refusal */
+struct brought {
+    uint32_t refusal, word, rounded;
+};
+
+static struct brought bring(uint32_t rule, uint64_t bits)
+{
+    struct brought b = { 0, 0, 0 };
+    uint32_t field = (uint32_t)(bits >> 52) & 0x7FF, rest = (uint32_t)bits & 0x1FFFFFFF;
+    uint32_t m = 0x800000 | ((uint32_t)(bits >> 29) & 0x7FFFFF);
+    if (field == 0x7FF)
+        b.refusal = 10;
+    else if (bits << 1 == 0)
+        b.refusal = bits == 0 ? 0 : 15;
+    else if (field < 1023 - 65)
+        b.refusal = 12;
+    else {
+        if (rule == 1 && rest + (m & 1) > 0x10000000 && ++m == 0x1000000) {
+            m = 0x800000;
+            field++;
+        }
+        if (field >= 1023 + 63)
+            b.refusal = 11;
+        b.word = (uint32_t)(bits >> 63) << 31 | ((field - 1022) & 0x7F) << 24 | m;
+        b.rounded = rest != 0;
+    }
+    return b;
+}
+
+static uint64_t get_eight(const uint8_t *p) { return get_little(p) | (uint64_t)get_little(p + 4) << 32; }
+
+uint32_t plain_f64_to_words(uint32_t rule, const uint8_t *floats, size_t floats_length, uint8_t *out, size_t out_length, uint64_t *number)
+{
+    size_t n = floats_length / 8, rounded = 0;
+    *number = 0;
+    if (rule > 1)
+        return 17;
+    if (floats_length % 8 != 0)
+        return 18;
+    if (out_length / 4 < n)
+        return 8;
+    for (size_t i = 0; i < n; i++) {
+        struct brought b = bring(rule, get_eight(floats + 8 * i));
+        if (b.refusal != 0) {
+            *number = i + 1;
+            return b.refusal;
+        }
+        rounded += b.rounded;
+    }
+    for (size_t i = 0; i < n; i++)
+        put_little(out + 4 * i, bring(rule, get_eight(floats + 8 * i)).word);
+    *number = rounded;
     return 0;
 }

@@ -1,4 +1,4 @@
-/* The same four calls as include/pundaliket.h, in plain C, written from documents 01 and 02 alone:
+/* The same calls as include/pundaliket.h, in plain C, written from documents 01 and 02 alone:
  * another opinion for the test and something to measure the library against. Proved by nothing. */
 #ifndef PLAIN_H
 #define PLAIN_H
@@ -11,5 +11,7 @@ uint32_t plain_run(uint32_t mode, uint32_t rule, uint8_t *state, size_t state_le
 uint32_t plain_event(uint32_t mode, uint32_t rule, uint8_t *state, size_t state_length, uint32_t kind, uint8_t byte);
 uint32_t plain_word_to_f32(uint32_t word, uint8_t *out, size_t out_length);
 uint32_t plain_f32_to_word(uint32_t bits, uint8_t *out, size_t out_length);
+uint32_t plain_words_to_f64(const uint8_t *words, size_t words_length, uint8_t *out, size_t out_length, uint64_t *number);
+uint32_t plain_f64_to_words(uint32_t rule, const uint8_t *floats, size_t floats_length, uint8_t *out, size_t out_length, uint64_t *number);
 
 #endif

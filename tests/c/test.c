@@ -1,7 +1,7 @@
 /* A C program over include/pundaliket.h, linked with the library. It checks 01's example, each
- * refusal of 01's table, roots, the error memory, that no byte beyond a lent slice is written, the room that replies
- * need, the stack that a call needs, and, against the plain C of plain.c, events over all codes,
- * drawn, damaged and cut files, and conversions.
+ * refusal of 01's table, roots, the error memory, buffers of f64s, that no byte beyond a lent slice is written, the room
+ * that replies need, the stack that a call needs, and, against the plain C of plain.c, events over all codes,
+ * drawn, damaged and cut files, conversions, and buffers.
  * Prints what differs and the stack used, then 'N checks, M failed'; ends with 1 if M is not 0. */
 #include <stdio.h>
 #include <string.h>
@@ -349,6 +349,130 @@ static void refusals_of_conversions(void)
     expect_conversion("the largest", 1, 0x5EFFFFFF, 4, 0, 0x3FFFFFFF);
     expect_conversion("refusal 12", 1, 0x1EFFFFFF, 4, 12, 0);
     expect_conversion("refusal 12, subnormal", 1, 0x80000001, 4, 12, 0);
+}
+
+/* ---- buffers, request 13 of 02: what must come is written out here */
+
+/* the number beside the refusal, with a guard on each side */
+static uint64_t numbers[3];
+
+static void lend_number(void) { numbers[0] = numbers[1] = numbers[2] = 0x5A5A5A5A5A5A5A5A; }
+static int guarded_number(void) { return numbers[0] == 0x5A5A5A5A5A5A5A5A && numbers[2] == 0x5A5A5A5A5A5A5A5A; }
+
+/* entries of so many bytes, little-endian */
+static size_t lay(uint8_t *to, const uint64_t *entries, size_t n, size_t size)
+{
+    for (size_t i = 0; i < n; i++)
+        for (size_t j = 0; j < size; j++)
+            to[i * size + j] = (uint8_t)(entries[i] >> (8 * j));
+    return n * size;
+}
+
+/* n bytes lent of a buffer of entries, and some room: the refusal, the number, the entries that are written and nothing else */
+static void expect_buffer(const char *what, int inward, uint32_t how, const uint64_t *entries, size_t n, size_t room, uint32_t refusal,
+                          uint64_t number, const uint64_t *results, size_t count)
+{
+    uint8_t content[64], left[80];
+    size_t from = inward ? 8 : 4, to = inward ? 4 : 8;
+    lay(content, entries, n / from + (n % from != 0), from);
+    for (unsigned alignment = 0; alignment < 8; alignment++) {
+        lend(&input, 7 - alignment, n, content);
+        lend(&out, alignment, room, NULL);
+        lend_number();
+        uint32_t r = inward ? pundaliket_f64_to_words(how, input.at, n, out.at, room, numbers + 1)
+                            : pundaliket_words_to_f64(input.at, n, out.at, room, numbers + 1);
+        memset(left, UNTOUCHED, sizeof left);
+        lay(left, results, count, to);
+        check(r == refusal && numbers[1] == number && guarded_number(), what, 1);
+        check(holds(&out, left) && guarded(&out), what, 2);
+        check(holds(&input, content) && guarded(&input), what, 3);
+    }
+}
+
+static void expect_out(const char *what, uint64_t word, uint64_t bits) { expect_buffer(what, 0, 0, &word, 4, 9, 0, 0, &bits, 1); }
+
+/* one f64 under a rule: its word and whether it was rounded, or the refusal */
+static void expect_in(const char *what, uint32_t how, uint64_t bits, uint32_t refusal, uint64_t word, uint64_t rounded)
+{
+    expect_buffer(what, 1, how, &bits, 8, 5, refusal, refusal ? 1 : rounded, &word, refusal == 0);
+}
+
+static void expect_both(const char *what, uint64_t bits, uint32_t refusal, uint64_t word, uint64_t rounded)
+{
+    expect_in(what, PUNDALIKET_CUT, bits, refusal, word, rounded);
+    expect_in(what, PUNDALIKET_NEAREST, bits, refusal, word, rounded);
+}
+
+static void entries_of_buffers(void)
+{
+    expect_out("zero outward", 0, 0);
+    expect_out("one outward", 0x01800000, 0x3FF0000000000000);
+    expect_out("minus two and a half outward", 0x82A00000, 0xC004000000000000);
+    expect_out("pi cut, outward", 0x02C90FDA, 0x400921FB40000000);
+    expect_out("the largest outward", 0x3FFFFFFF, 0x43DFFFFFE0000000);
+    expect_out("the least outward", 0x40800000, 0x3BE0000000000000);
+    expect_out("minus the least but one binade, outward", 0xC0FFFFFF, 0xBBEFFFFFE0000000);
+    expect_both("zero inward", 0, 0, 0, 0);
+    expect_both("one inward", 0x3FF0000000000000, 0, 0x01800000, 0);
+    expect_both("minus two and a half inward", 0xC004000000000000, 0, 0x82A00000, 0);
+    expect_both("halfway, the even one below", 0x3FF0000010000000, 0, 0x01800000, 1);
+    expect_in("past halfway, cut", PUNDALIKET_CUT, 0x3FF0000010000001, 0, 0x01800000, 1);
+    expect_in("past halfway", PUNDALIKET_NEAREST, 0x3FF0000010000001, 0, 0x01800001, 1);
+    expect_in("halfway, the even one above, cut", PUNDALIKET_CUT, 0x3FF0000030000000, 0, 0x01800001, 1);
+    expect_in("halfway, the even one above", PUNDALIKET_NEAREST, 0x3FF0000030000000, 0, 0x01800002, 1);
+    expect_both("before halfway", 0x3FF000002FFFFFFF, 0, 0x01800001, 1);
+    expect_in("below two, cut", PUNDALIKET_CUT, 0x3FFFFFFFFFFFFFFF, 0, 0x01FFFFFF, 1);
+    expect_in("below two", PUNDALIKET_NEAREST, 0x3FFFFFFFFFFFFFFF, 0, 0x02800000, 1);
+    expect_in("a third, cut", PUNDALIKET_CUT, 0x3FD5555555555555, 0, 0x7FAAAAAA, 1);
+    expect_in("minus a third", PUNDALIKET_NEAREST, 0xBFD5555555555555, 0, 0xFFAAAAAB, 1);
+    expect_both("the largest inward", 0x43DFFFFFE0000000, 0, 0x3FFFFFFF, 0);
+    expect_both("rounded to the largest", 0x43DFFFFFEFFFFFFF, 0, 0x3FFFFFFF, 1);
+    expect_in("halfway to 2^63, cut", PUNDALIKET_CUT, 0x43DFFFFFF0000000, 0, 0x3FFFFFFF, 1);
+    expect_in("refusal 11 by rounding", PUNDALIKET_NEAREST, 0x43DFFFFFF0000000, 11, 0, 0);
+    expect_both("refusal 11, 2^63", 0xC3E0000000000000, 11, 0, 0);
+    expect_both("refusal 11, the largest f64", 0x7FEFFFFFFFFFFFFF, 11, 0, 0);
+    expect_both("the least inward", 0x3BE0000000000000, 0, 0x40800000, 0);
+    expect_both("refusal 12, though the nearest word is the least", 0x3BDFFFFFFFFFFFFF, 12, 0, 0);
+    expect_both("refusal 12, a field of 0", 0x800FFFFFFFFFFFFF, 12, 0, 0);
+    expect_both("refusal 12, the least f64", 1, 12, 0, 0);
+    expect_both("refusal 15", 0x8000000000000000, 15, 0, 0);
+    expect_both("refusal 10, infinite", 0xFFF0000000000000, 10, 0, 0);
+    expect_both("refusal 10, no number", 0x7FF0000000000001, 10, 0, 0);
+}
+
+static void refusals_of_buffers(void)
+{
+    static const uint64_t words[] = { 0x01800000, 0x82A00000, 0, 0x01400000, 0x00000001 };
+    static const uint64_t bits[] = { 0x3FF0000000000000, 0xC004000000000000, 0 };
+    static const uint64_t floats[] = { 0x3FF0000000000000, 0x3FF0000030000000, 0x3FD5555555555555, 0x43DFFFFFF0000000, 0x8000000000000000, 0x7FF0000000000000, 1 };
+    static const uint64_t cut_to[] = { 0x01800000, 0x01800001, 0x7FAAAAAA, 0x3FFFFFFF }, near_to[] = { 0x01800000, 0x01800002, 0x7FAAAAAB };
+    static const uint32_t none[] = { 2, 3, 255, 256, 257, 0x80000000, 0x80000001, 0xFFFFFFFF };
+    expect_buffer("no words", 0, 0, words, 0, 3, 0, 0, bits, 0);
+    expect_buffer("no words, no room", 0, 0, words, 0, 0, 0, 0, bits, 0);
+    expect_buffer("three words, just their room", 0, 0, words, 12, 24, 0, 0, bits, 3);
+    expect_buffer("three words, more room", 0, 0, words, 12, 31, 0, 0, bits, 3);
+    expect_buffer("refusal 8 of words", 0, 0, words, 12, 23, 8, 0, bits, 0);
+    expect_buffer("refusal 8 before 4", 0, 0, words, 16, 31, 8, 0, bits, 0);
+    expect_buffer("refusal 4, the fourth", 0, 0, words, 20, 40, 4, 4, bits, 0);
+    for (size_t n = 0; n < 20; n++)
+        if (n % 4 != 0)
+            expect_buffer("refusal 18 of words, before 8", 0, 0, words, n, 0, 18, 0, bits, 0);
+    expect_buffer("no f64s", 1, 0, floats, 0, 3, 0, 0, cut_to, 0);
+    expect_buffer("four f64s, cut", 1, PUNDALIKET_CUT, floats, 32, 17, 0, 3, cut_to, 4);
+    expect_buffer("three f64s", 1, PUNDALIKET_NEAREST, floats, 24, 12, 0, 2, near_to, 3);
+    expect_buffer("refusal 11, the fourth", 1, PUNDALIKET_NEAREST, floats, 56, 28, 11, 4, near_to, 0);
+    expect_buffer("refusal 15, the fifth", 1, PUNDALIKET_CUT, floats, 56, 28, 15, 5, near_to, 0);
+    expect_buffer("refusal 10, the first", 1, PUNDALIKET_CUT, floats + 5, 16, 8, 10, 1, near_to, 0);
+    expect_buffer("refusal 12, the first", 1, PUNDALIKET_CUT, floats + 6, 8, 4, 12, 1, near_to, 0);
+    expect_buffer("refusal 8 of f64s, before 11", 1, PUNDALIKET_NEAREST, floats, 32, 15, 8, 0, near_to, 0);
+    for (size_t n = 0; n < 40; n++)
+        if (n % 8 != 0)
+            expect_buffer("refusal 18 of f64s, before 8", 1, PUNDALIKET_CUT, floats, n, 0, 18, 0, near_to, 0);
+    for (unsigned k = 0; k < sizeof none / sizeof none[0]; k++) {
+        expect_buffer("refusal 17", 1, none[k], floats, 24, 12, 17, 0, near_to, 0);
+        expect_buffer("refusal 17 before 18", 1, none[k], floats, 25, 0, 17, 0, near_to, 0);
+        expect_buffer("refusal 17, no f64s", 1, none[k], floats, 0, 0, 17, 0, near_to, 0);
+    }
 }
 
 static void expect_event_on(const char *what, const uint8_t *s, size_t sn, uint32_t kind, uint8_t byte, uint32_t answer, const uint8_t *left)
@@ -821,6 +945,62 @@ static void all_conversions(void)
             check(conversions_agree(k & 7, drawn_word(), n), "conversion, slice of", (unsigned)n);
 }
 
+/* a drawn f64: most often within the words' range, and often near the middle of two words */
+static uint64_t drawn_double(void)
+{
+    uint64_t x = (uint64_t)drawn() << 32 | drawn();
+    uint64_t field = 1023 - 68 + below(134);
+    if (below(16) == 0)
+        return x;
+    if (below(2))
+        x = (x & ~(uint64_t)0x1FFFFFFF) | (0x10000000 + (int)below(3) - 1);
+    else if (below(3) == 0)
+        x &= ~(uint64_t)0x1FFFFFFF;
+    return (x & 0x800FFFFFFFFFFFFF) | field << 52;
+}
+
+static int buffers_agree(unsigned alignment, int inward, uint32_t how, const uint8_t *content, size_t n, size_t room)
+{
+    uint64_t number = 7;
+    lend(&input, alignment & 7, n, content);
+    lend(&out, (alignment * 3) & 7, room, NULL);
+    lend(&plain_out, 0, room, NULL);
+    lend_number();
+    uint32_t a = inward ? pundaliket_f64_to_words(how, input.at, n, out.at, room, numbers + 1) : pundaliket_words_to_f64(input.at, n, out.at, room, numbers + 1);
+    uint32_t b = inward ? plain_f64_to_words(how, input.at, n, plain_out.at, room, &number) : plain_words_to_f64(input.at, n, plain_out.at, room, &number);
+    return a == b && numbers[1] == number && guarded_number() && same(&out, &plain_out) && guarded(&out) && guarded(&input) && holds(&input, content);
+}
+
+static void all_buffers(void)
+{
+    static const uint64_t fractions[] = { 0, 0x20000000, 0x0FFFFFFF, 0x10000000, 0x30000000, 0x30000001, 0xFFFFFF0000000, 0xFFFFFFFFFFFFF };
+    static uint8_t content[4096], there[8192];
+    uint64_t entries[256];
+    for (uint64_t top = 0; top < 4096; top++)
+        for (unsigned how = 0; how < 2; how++)
+            for (unsigned k = 0; k < 8; k++) {
+                entries[0] = top << 52 | fractions[k];
+                check(buffers_agree(k, 1, how, content, lay(content, entries, 1, 8), 4), "f64, top bits", (unsigned)top);
+            }
+    for (unsigned i = 0; i < 20000; i++) {
+        size_t n = i % 100 == 0 ? 256 : below(9), odd = below(8) ? 0 : below(8);
+        int inward = (int)below(2), good = below(4) != 0;
+        for (size_t k = 0; k < n; k++)
+            entries[k] = inward ? drawn_double() : good ? drawn() | 0x00800000 : drawn_word();
+        size_t bytes = lay(content, entries, n, inward ? 8 : 4), room = inward ? 4 * n : 8 * n;
+        check(buffers_agree(i, inward, drawn_choice(), content, bytes - (bytes < odd ? bytes : odd), below(8) ? room + below(3) : below((uint32_t)room + 1)), "drawn buffer", i);
+    }
+    /* a buffer of proper words comes back bit for bit, under either rule */
+    for (unsigned i = 0; i < 512; i++) {
+        for (size_t k = 0; k < 256; k++)
+            entries[k] = k % 16 == 0 ? 0 : drawn() | 0x00800000;
+        lay(content, entries, 256, 4);
+        lend(&out, i & 7, 1024, NULL);
+        check(pundaliket_words_to_f64(content, 1024, there, 2048, numbers + 1) == 0 && numbers[1] == 0, "words out", i);
+        check(pundaliket_f64_to_words(i % 2, there, 2048, out.at, 1024, numbers + 1) == 0 && numbers[1] == 0 && holds(&out, content) && guarded(&out), "words out and back", i);
+    }
+}
+
 /* ---- the room that the header names: with it 8 cannot come, with less it can */
 
 static void room_for_replies(void)
@@ -876,6 +1056,8 @@ static void call_run(void)
 static void call_event(void) { pundaliket_event(lent_mode, lent_rule, lent_state, lent_size, lent_number, lent_byte); }
 static void call_word_to_f32(void) { pundaliket_word_to_f32(lent_number, lent_out, sizeof lent_out); }
 static void call_f32_to_word(void) { pundaliket_f32_to_word(lent_number, lent_out, sizeof lent_out); }
+static void call_words_to_f64(void) { pundaliket_words_to_f64(lent_file, 256, lent_replies, 512, numbers); }
+static void call_f64_to_words(void) { pundaliket_f64_to_words(lent_number % 2, lent_file, 2048, lent_replies, 1024, numbers); }
 
 static void on_painted_stack(void (*call)(void))
 {
@@ -914,6 +1096,14 @@ static void stack_of_a_call(void)
         lent_number = drawn_word();
         on_painted_stack(call_word_to_f32);
         on_painted_stack(call_f32_to_word);
+        for (size_t k = 0; k < 256; k++) {
+            uint64_t entry = (uint64_t)(drawn() & 0x800FFFFF) << 32 | (uint64_t)(1023 - 64 + below(126)) << 52 | drawn();
+            lay(lent_file + 8 * k, &entry, 1, 8);
+        }
+        on_painted_stack(call_f64_to_words);
+        for (size_t k = 0; k < 64; k++)
+            lent_file[4 * k + 2] |= 0x80;
+        on_painted_stack(call_words_to_f64);
     }
     printf("stack: %u of %u bytes\n", (unsigned)deepest, (unsigned)PUNDALIKET_STACK_BYTES);
     check(deepest + deepest / 2 <= PUNDALIKET_STACK_BYTES, "stack of a call, and half as much again", (unsigned)deepest);
@@ -926,6 +1116,8 @@ int main(void)
     longest_blocks();
     refusals_of_the_call();
     refusals_of_conversions();
+    entries_of_buffers();
+    refusals_of_buffers();
     events_of_each_kind();
     older_reset();
     nearest();
@@ -937,6 +1129,7 @@ int main(void)
     all_events();
     drawn_files();
     all_conversions();
+    all_buffers();
     room_for_replies();
     stack_of_a_call();
     printf("%u checks, %u failed\n", checks, failed);

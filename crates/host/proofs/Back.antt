@@ -2,7 +2,7 @@
 use mathlib.Core.Path.{_≡_, refl, sym, ap, ap₂, _∙_, subst}
 use mathlib.Core.Logic.{⊎-elim}
 use mathlib.Core.Bool.{Bool, true, false, cond, true≢false}
-use Prim.Native.Nat.{ℕ, _+_, _%_, _^_, _≤_, _<_}
+use Prim.Native.Nat.{ℕ, _+_, _*_, _%_, _^_, _≤_, _<_}
 use native.Mathlib.Omega.{arith}
 use lib.Dec.{leb, ltb, eqb}
 use borrow.Author.Tests.{ltb-false, leb-false, eqb-true}
@@ -17,10 +17,11 @@ use Rattle.host.specs.declared.Taken.{Taken}
 use Rattle.host.specs.declared.Taken.the-variants.{Word, Refused}
 use Rattle.host.proofs.Signs.{same-value}
 use Rattle.host.proofs.Patterns.{joined, rejoined}
+use Rattle.host.proofs.Sizes.{of-minus}
 use Rattle.host.proofs.Words.{proper-cases, size-some}
 use Rattle.host.proofs.Outward.{bits-some, word-value}
 use Rattle.host.proofs.Apart.{one-word, held-endless, held-large, held-small, endless-large, endless-small, large-small, endless-minus, minus-large, minus-small}
-use Rattle.host.proofs.Inward.{of-minus, parts, Right, held, endless, minus, large, small, right}
+use Rattle.host.proofs.Inward.{parts, Right, held, endless, minus, large, small, right}
 
 -- ---- each answer, given the value
 module _ (x : Float) (r : Taken) where
@@ -88,9 +89,9 @@ word-bits p l h k =
     let M = c .mant in
     let n : w ≡ 0 → ⊥ = λ z. let q : mantissa w ≡ 0 = ap mantissa z in omega arith in
     bits-some w n
-    ∙ (λ i. joined (c .sign i) (c .expo i + 62) (M i % 8388608))
-    ∙ ap₂ (joined (negative p)) (omega arith) (omega arith)
-    ∙ rejoined p k
+    ∙ (λ i. joined binary32 (c .sign i) (c .expo i + 62) (M i % 8388608 * 1))
+    ∙ ap₂ (joined binary32 (negative p)) (omega arith) (omega arith)
+    ∙ rejoined binary32 p k
 
 -- the bits of an f32 that became a word are those of the word's f32
 pub bits-back : (p w : ℕ) → p < 4294967296 → takenOf p ≡ Word w → hostBits w ≡ p

@@ -1,3 +1,4 @@
 -- Chip words as host floats and back.
 pub mod Host
 pub mod Values
+pub mod Double

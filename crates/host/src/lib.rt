@@ -1,5 +1,7 @@
 // Chip words as host floats and back, the value unchanged. An f32 comes in by its bits,
 // so that a pattern that is no number is turned away before a float is made of it.
+pub mod entry;
+
 ghost use mathlib.Core.Path.{_≡_};
 ghost use mathlib.Core.Bool.{cond};
 ghost use Prim.Native.Nat.{_%_, _^_, _≤_, _<_};

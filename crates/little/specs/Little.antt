@@ -1,6 +1,6 @@
 -- Numbers as bytes, little-endian. Definitions only. Assumes nothing.
-use Prim.Native.Nat.{ℕ, _+_, _*_, _/_, _%_}
-use mathlib.Core.List.{List, [], _∷_}
+use Prim.Native.Nat.{ℕ, _+_, _*_, _/_, _%_, _^_}
+use mathlib.Core.List.{List, [], _∷_, _++_}
 use lib.ListN.{getD}
 
 -- the two-byte number at a place
@@ -18,3 +18,15 @@ wordBytes = 4
 -- a number as four bytes
 abbrev pub le4 : ℕ → List ℕ
 le4 n = n % 256 ∷ n / 256 % 256 ∷ n / 65536 % 256 ∷ n / 16777216 % 256 ∷ []
+
+-- the four-byte number at a place
+abbrev pub fourAt : List ℕ → ℕ → ℕ
+fourAt l i = getD l i 0 + getD l (i + 1) 0 * 2 ^ 8 + getD l (i + 2) 0 * 2 ^ 16 + getD l (i + 3) 0 * 2 ^ 24
+
+-- the eight-byte number at a place
+abbrev pub eightAt : List ℕ → ℕ → ℕ
+eightAt l i = fourAt l i + fourAt l (i + 4) * 2 ^ 32
+
+-- a number as eight bytes
+abbrev pub le8 : ℕ → List ℕ
+le8 n = le4 n ++ le4 (n / 2 ^ 32)

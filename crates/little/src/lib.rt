@@ -1,7 +1,8 @@
-// Numbers as bytes, the low one first, as records, the report and the calls have them.
+// Numbers as bytes, the low one first, as records, the report, the calls and buffers have them.
 ghost use mathlib.Core.Path.{_≡_};
+ghost use Prim.Native.Nat.{_+_, _*_, _≤_};
 ghost use lib.ListN.{length};
-ghost use Rattle.little.specs.Little.{wordBytes, le4};
+ghost use Rattle.little.specs.Little.{wordBytes, le4, fourAt, eightAt, le8};
 
 // The bytes of a slice that takes a word or an f32.
 pub const WORD_BYTES: usize = 4;
@@ -15,4 +16,45 @@ pub fn put_word(out: &mut [u8], n: usize)
     out[1] = (n / 256 % 256) as u8;
     out[2] = (n / 65536 % 256) as u8;
     out[3] = (n / 16777216 % 256) as u8;
+}
+
+// The number of four bytes.
+fn four(a: u8, b: u8, c: u8, d: u8) -> u32
+    ensures { λ r. ⌜ r ≡ a + b * 256 + c * 65536 + d * 16777216 ⌝ }
+{
+    a as u32 + b as u32 * 0x100 + c as u32 * 0x1_0000 + d as u32 * 0x100_0000
+}
+
+// The number of four bytes at a place.
+pub fn four_at(bytes: &[u8], at: usize) -> u32
+    requires { ⌜ at + 4 ≤ length (now bytes) ⌝ }
+    ensures { λ r. ⌜ r ≡ fourAt (now (bytes .entry)) at ⌝ }
+{
+    four(bytes[at], bytes[at + 1], bytes[at + 2], bytes[at + 3])
+}
+
+// The number of eight bytes at a place.
+pub fn eight_at(bytes: &[u8], at: usize) -> u64
+    requires { ⌜ at + 8 ≤ length (now bytes) ⌝ }
+    ensures { λ r. ⌜ r ≡ eightAt (now (bytes .entry)) at ⌝ }
+{
+    let low = four_at(bytes, at) as u64;
+    let high = four_at(bytes, at + 4) as u64;
+    low + high * 0x1_0000_0000
+}
+
+// A number of 64 bits, in eight bytes.
+pub fn put_eight(out: &mut [u8], n: u64)
+    requires { ⌜ length (now out) ≡ 8 ⌝ }
+    ensures { λ _. ⌜ now (out .exit) ≡ le8 n ⌝ }
+{
+    let high = n / 0x1_0000_0000;
+    out[0] = (n % 0x100) as u8;
+    out[1] = (n / 0x100 % 0x100) as u8;
+    out[2] = (n / 0x1_0000 % 0x100) as u8;
+    out[3] = (n / 0x100_0000 % 0x100) as u8;
+    out[4] = (high % 0x100) as u8;
+    out[5] = (high / 0x100 % 0x100) as u8;
+    out[6] = (high / 0x1_0000 % 0x100) as u8;
+    out[7] = (high / 0x100_0000 % 0x100) as u8;
 }

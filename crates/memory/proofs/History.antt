@@ -8,7 +8,7 @@ use lib.Bits.{bitOr}
 use lib.Dec.{eqb}
 use borrow.Author.Tests.{ne-eqb, eqb-true, eqb-false}
 use Rattle.terms.specs.declared.Refusal.{Refusal}
-use Rattle.terms.specs.declared.Refusal.the-variants.{Done, UnknownCode, DerivedCode, HalfWord, Improper, NoSuchKind, CutShort, BadLength, NoRoom, InputTooLong, NotFinite, TooLarge, TooSmall, BadState, BadReport, MinusZero, BadMode, BadRule}
+use Rattle.terms.specs.declared.Refusal.the-variants.{Done, UnknownCode, DerivedCode, HalfWord, Improper, NoSuchKind, CutShort, BadLength, NoRoom, InputTooLong, NotFinite, TooLarge, TooSmall, BadState, BadReport, MinusZero, BadMode, BadRule, PartEntry}
 use Rattle.terms.specs.Refusal.{numberOf}
 use Rattle.terms.specs.declared.Rule.{Rule}
 use Rattle.terms.specs.Settings.{Settings}
@@ -51,6 +51,7 @@ done-of BadReport e = let y : ⊥ = omega arith in absurd y
 done-of MinusZero e = let y : ⊥ = omega arith in absurd y
 done-of BadMode e = let y : ⊥ = omega arith in absurd y
 done-of BadRule e = let y : ⊥ = omega arith in absurd y
+done-of PartEntry e = let y : ⊥ = omega arith in absurd y
 
 -- the status that a code's command leaves
 abbrev statusBy : Rule → Kind → List ℕ → ℕ

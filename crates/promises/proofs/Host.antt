@@ -14,7 +14,8 @@ use Rattle.host.specs.declared.Taken.{Taken}
 use Rattle.host.specs.declared.Taken.the-variants.{Word}
 use Rattle.host.proofs.Outward.{word-value, goes, stays, plain}
 use Rattle.host.proofs.Apart.{held-endless, held-large, held-small, endless-minus, endless-large, endless-small, minus-large, minus-small, large-small}
-use Rattle.host.proofs.Inward.{minus-right, minus-bits, zero-right, Right, held, endless, minus, large, small, right}
+use Rattle.host.proofs.Classes.{minus-right, minus-bits, zero-right}
+use Rattle.host.proofs.Inward.{Right, held, endless, minus, large, small, right}
 use Rattle.host.proofs.Back.{answers-word, answers-endless, answers-minus, answers-large, answers-small, word-back, bits-back}
 use Rattle.promises.specs.Host.{outward, inward, number, Gives, ValueKept, AcceptedExactly, OneException, Answered, RefusedExactly, WordBack, FloatBack}
 
@@ -82,7 +83,7 @@ accepted-exactly p l w =
     (λ g. word-given x (takenOf p) w g (right p l), λ a. gives-word x (takenOf p) w a (right p l))
 
 pub one-exception : OneException
-one-exception = (λ p l. (λ t. minus-bits p l t, λ e. minus-right p e), zero-right (2 ^ 31) refl)
+one-exception = (λ p l. (λ t. minus-bits binary32 p l t, λ e. minus-right binary32 p e), zero-right binary32 (2 ^ 31) refl)
 
 pub refused-exactly : RefusedExactly
 refused-exactly p l =

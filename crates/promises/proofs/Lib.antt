@@ -31,3 +31,6 @@ pub mod NearBench
 pub mod Undo
 pub mod CloseReadings
 pub mod Serial
+pub mod Doubles
+pub mod DoubleBench
+pub mod WrongConverters

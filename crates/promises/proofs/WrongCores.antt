@@ -31,11 +31,11 @@ use Rattle.promises.proofs.Host.{float-comes-back}
 use Rattle.promises.proofs.Cores.{cores}
 
 -- ---- the inputs are bytes
-isBytes : List ℕ → Bool
+unfoldable pub isBytes : List ℕ → Bool
 isBytes [] = true
 isBytes (b ∷ l) = ltb b 256 && isBytes l
 
-bytes-in : (l : List ℕ) → isBytes l ≡ true → Bytes l
+pub bytes-in : (l : List ℕ) → isBytes l ≡ true → Bytes l
 unfolding isBytes
 bytes-in [] h = tt
 bytes-in (b ∷ l) h = let p = both-of (ltb b 256) (isBytes l) h in (ltb-true b 256 (p .0), bytes-in l (p .1))

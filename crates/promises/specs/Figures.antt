@@ -6,7 +6,7 @@ use mathlib.Core.Bool.{Bool, true, false, cond}
 use mathlib.Core.List.{List, [], _∷_, _++_, map}
 use lib.IntN.{pos, negℤ}
 use lib.ListN.{replicate}
-use Rattle.terms.specs.declared.Refusal.the-variants.{Done, UnknownCode, DerivedCode, HalfWord, Improper, NoSuchKind, CutShort, BadLength, NoRoom, InputTooLong, NotFinite, TooLarge, TooSmall, BadState, BadReport, MinusZero, BadMode, BadRule}
+use Rattle.terms.specs.declared.Refusal.the-variants.{Done, UnknownCode, DerivedCode, HalfWord, Improper, NoSuchKind, CutShort, BadLength, NoRoom, InputTooLong, NotFinite, TooLarge, TooSmall, BadState, BadReport, MinusZero, BadMode, BadRule, PartEntry}
 use Rattle.terms.specs.declared.Width.the-variants.{Single, Double}
 use Rattle.terms.specs.Refusal.{numberOf}
 use Rattle.terms.specs.Width.{sizeOf, bitsOf}
@@ -70,9 +70,9 @@ pub record Figures : Type 0 where
   -- 16 bytes of stack, 19 of state, 9 of report, 12,288 of input; 1 to 240 pushed or popped, lengths 2 to 242; words of 2 and 4 bytes
   pub limits : (stackBytes ≡ 16) × (stateBytes ≡ 19) × (longStateBytes ≡ 21) × (reportBytes ≡ 9) × (mostInput ≡ 12288) × (mostPayload ≡ 240) × (leastLength ≡ 2) × (mostLength ≡ 242)
   pub widths : (sizeOf Single ≡ 2) × (sizeOf Double ≡ 4) × (bitsOf Single ≡ 16) × (bitsOf Double ≡ 32)
-  -- the column 'no.' of 01's table of refusals, and 02's 15, 16 and 17
-  pub refusals : map numberOf (Done ∷ UnknownCode ∷ DerivedCode ∷ HalfWord ∷ Improper ∷ NoSuchKind ∷ CutShort ∷ BadLength ∷ NoRoom ∷ InputTooLong ∷ NotFinite ∷ TooLarge ∷ TooSmall ∷ BadState ∷ BadReport ∷ MinusZero ∷ BadMode ∷ BadRule ∷ [])
-      ≡ 0 ∷ 1 ∷ 2 ∷ 3 ∷ 4 ∷ 5 ∷ 6 ∷ 7 ∷ 8 ∷ 9 ∷ 10 ∷ 11 ∷ 12 ∷ 13 ∷ 14 ∷ 15 ∷ 16 ∷ 17 ∷ []
+  -- the column 'no.' of 01's table of refusals, and 02's 15 to 18
+  pub refusals : map numberOf (Done ∷ UnknownCode ∷ DerivedCode ∷ HalfWord ∷ Improper ∷ NoSuchKind ∷ CutShort ∷ BadLength ∷ NoRoom ∷ InputTooLong ∷ NotFinite ∷ TooLarge ∷ TooSmall ∷ BadState ∷ BadReport ∷ MinusZero ∷ BadMode ∷ BadRule ∷ PartEntry ∷ [])
+      ≡ 0 ∷ 1 ∷ 2 ∷ 3 ∷ 4 ∷ 5 ∷ 6 ∷ 7 ∷ 8 ∷ 9 ∷ 10 ∷ 11 ∷ 12 ∷ 13 ∷ 14 ∷ 15 ∷ 16 ∷ 17 ∷ 18 ∷ []
   -- every code without its bit 7
   pub codes : map decoded (from 128 0) ≡ chart
   -- a word's most significant byte is nearest the top, and its low byte is pushed first

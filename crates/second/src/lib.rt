@@ -10,6 +10,8 @@ pub mod calls;
 mod chip;
 // Whole numbers, a binary digit at a time.
 mod digits;
+// Buffers of chip words and of f64s.
+pub mod doubles;
 // Fixed point, in 64 bits of two's complement.
 mod fixed_point;
 // Float words: exact values, of which the first 24 digits are kept.

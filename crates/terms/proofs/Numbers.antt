@@ -1,12 +1,12 @@
--- The number of a refusal, found at the arm that names it; each is 17 at most. Assumes nothing.
+-- The number of a refusal, found at the arm that names it; each is 18 at most. Assumes nothing.
 use mathlib.Core.Path.{_≡_, sym, ap}
 use Prim.Native.Nat.{_≤_}
 use lib.Dec.{lit≤}
 use Rattle.terms.specs.declared.Refusal.{Refusal}
-use Rattle.terms.specs.declared.Refusal.the-variants.{Done, UnknownCode, DerivedCode, HalfWord, Improper, NoSuchKind, CutShort, BadLength, NoRoom, InputTooLong, NotFinite, TooLarge, TooSmall, BadState, BadReport, MinusZero, BadMode, BadRule}
+use Rattle.terms.specs.declared.Refusal.the-variants.{Done, UnknownCode, DerivedCode, HalfWord, Improper, NoSuchKind, CutShort, BadLength, NoRoom, InputTooLong, NotFinite, TooLarge, TooSmall, BadState, BadReport, MinusZero, BadMode, BadRule, PartEntry}
 use Rattle.terms.specs.Refusal.{numberOf}
 
-small : (r : Refusal) → numberOf r ≤ 17
+small : (r : Refusal) → numberOf r ≤ 18
 small Done = lit≤ tt
 small UnknownCode = lit≤ tt
 small DerivedCode = lit≤ tt
@@ -25,6 +25,7 @@ small BadReport = lit≤ tt
 small MinusZero = lit≤ tt
 small BadMode = lit≤ tt
 small BadRule = lit≤ tt
+small PartEntry = lit≤ tt
 
-pub numbered : {r : Refusal} (d : Refusal) → r ≡ d → (numberOf d ≡ numberOf r) × (numberOf d ≤ 17)
+pub numbered : {r : Refusal} (d : Refusal) → r ≡ d → (numberOf d ≡ numberOf r) × (numberOf d ≤ 18)
 numbered d h = (sym (ap numberOf h), small d)

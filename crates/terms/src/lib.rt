@@ -57,6 +57,7 @@ pub enum Refusal {
     MinusZero,
     BadMode,
     BadRule,
+    PartEntry,
 }
 
 // A stack word has 16 bits or 32.
@@ -80,7 +81,7 @@ pub enum Mode {
 
 // The number that 01 or 02 gives a refusal.
 pub fn number(refusal: Refusal) -> u8
-    ensures { λ r. ⌜ (r ≡ numberOf refusal) × (r ≤ 17) ⌝ }
+    ensures { λ r. ⌜ (r ≡ numberOf refusal) × (r ≤ 18) ⌝ }
 {
     match refusal {
         Refusal::Done => 0,
@@ -101,6 +102,7 @@ pub fn number(refusal: Refusal) -> u8
         Refusal::MinusZero => 15,
         Refusal::BadMode => 16,
         Refusal::BadRule => 17,
+        Refusal::PartEntry => 18,
     }
 }
 

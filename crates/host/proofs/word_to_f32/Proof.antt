@@ -10,7 +10,7 @@ use Rattle.host.proofs.word_to_f32.Statement.{statement}
 use Rattle.host.proofs.word_to_f32.Tie as tie
 
 float-from-bits : tie.Need-float-from-bits-t5
-float-from-bits c = no-nan _ (c .bits-of .ensures .1)
+float-from-bits c = no-nan binary32 _ (c .bits-of .ensures .1)
 
 returns : tie.Need-returns
 returns c =
