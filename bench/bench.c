@@ -1,6 +1,8 @@
 /* Runs a record file from standard input, or one event, through the library or the plain C of tests/c, so many times.
  * bench library|plain file TURNS RECORDS   the file's first RECORDS records (0: all), each run from reset
- * bench library|plain event TURNS KIND BYTE   one event on a state that holds two float words */
+ * bench library|plain event TURNS KIND BYTE   one event on a state that holds two float words
+ * bench library|plain words TURNS ENTRIES   a buffer of so many words to f64s
+ * bench library|plain doubles TURNS ENTRIES RULE   a buffer of so many f64s, each to be rounded, to words */
 #include "../include/pundaliket.h"
 #include "../tests/c/plain.h"
 
@@ -32,10 +34,31 @@ static size_t front(size_t length, uint32_t records)
     return at ? at : length;
 }
 
+/* entries of drawn mantissas: proper words, or f64s of which every one has more than 24 bits */
+static size_t entries(uint32_t n, size_t size)
+{
+    uint32_t drawn = 1;
+    for (size_t i = 0; i < n; i++)
+        for (size_t k = 0; k < size; k++) {
+            drawn = drawn * 1664525 + 1013904223;
+            input[i * size + k] = (uint8_t)(drawn >> 24);
+            if (size == 4 && k == 2)
+                input[i * size + k] |= 0x80;
+            if (size == 8 && k == 0)
+                input[i * size + k] |= 1;
+            if (size == 8 && k == 6)
+                input[i * size + k] = 0xF0;
+            if (size == 8 && k == 7)
+                input[i * size + k] = 0x3F;
+        }
+    return n * size;
+}
+
 int main(int count, char **words)
 {
     uint8_t state[PUNDALIKET_STATE_BYTES], report[PUNDALIKET_REPORT_BYTES];
     uint32_t result = 0;
+    uint64_t rounded;
     if (count < 5)
         return 2;
     int library = words[1][0] == 'l';
@@ -50,6 +73,16 @@ int main(int count, char **words)
                 ? pundaliket_run(0, 0, state, sizeof state, input, length, replies, ROOM, report, sizeof report)
                 : plain_run(0, 0, state, sizeof state, input, length, replies, ROOM, report, sizeof report);
         }
+    } else if (words[2][0] == 'w') {
+        size_t length = entries(number(words[4]), 4);
+        for (; turns > 0; turns--)
+            result = library ? pundaliket_words_to_f64(input, length, replies, ROOM, &rounded) : plain_words_to_f64(input, length, replies, ROOM, &rounded);
+    } else if (words[2][0] == 'd') {
+        size_t length = entries(number(words[4]), 8);
+        uint32_t rule = count > 5 ? number(words[5]) : 0;
+        for (; turns > 0; turns--)
+            result = library ? pundaliket_f64_to_words(rule, input, length, replies, ROOM, &rounded)
+                             : plain_f64_to_words(rule, input, length, replies, ROOM, &rounded);
     } else {
         uint32_t kind = number(words[4]);
         uint8_t byte = count > 5 ? (uint8_t)number(words[5]) : 0;

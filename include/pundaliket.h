@@ -42,7 +42,11 @@ enum {
     PUNDALIKET_MINUS_ZERO = 15,    /* the f32 or f64 is minus zero */
     PUNDALIKET_BAD_MODE = 16,      /* mode neither 0 nor 1; only a report is written */
     PUNDALIKET_BAD_RULE = 17,      /* rule neither 0 nor 1; only a report, or a number, is written */
-    PUNDALIKET_PART_ENTRY = 18     /* a buffer's length is no whole number of entries */
+    PUNDALIKET_PART_ENTRY = 18,    /* a buffer's length is no whole number of entries */
+    PUNDALIKET_NO_FORMULA = 30,    /* letters not 32 bytes; text empty, over 256 bytes, no formula, or nested over 16 deep */
+    PUNDALIKET_IMPROPER_WORD = 31, /* a constant, or a letter of the text, is not proper */
+    PUNDALIKET_DEEP_FORMULA = 32,  /* the formula needs over four words of the stack */
+    PUNDALIKET_LONG_FORMULA = 33   /* no room for the whole file */
 };
 
 /*
@@ -79,7 +83,7 @@ enum {
  * is answered with at most 245 (a pop of 240), one of 4 with at most 7, so a file of n bytes needs 245 * (n / 5), and 7
  * more where n % 5 is 4. With less room a run that ends with 8 has done the records before: lend the rest of the file,
  * from the report's bytes taken on, and fresh room, and it goes on; with a state of 21 bytes the error memory does so too.
- * PUNDALIKET_STACK_BYTES is the stack that a call needs below its caller's frame: more by half, at least, than the most
+ * PUNDALIKET_STACK_BYTES (and of a formula PUNDALIKET_FORMULA_STACK_BYTES) is the stack that a call needs below its caller's frame: more by half, at least, than the most
  * that was measured, by calls of each kind on a painted stack. tests/c/test.c measures it anew each time it runs.
  */
 enum {
@@ -91,7 +95,10 @@ enum {
     PUNDALIKET_F64_BYTES = 8,         /* an entry of a buffer of f64s */
     PUNDALIKET_MOST_INPUT = 12288,    /* the longest input */
     PUNDALIKET_MOST_REPLIES = 601965, /* replies to the longest input */
-    PUNDALIKET_STACK_BYTES = 2048     /* stack of a call */
+    PUNDALIKET_LETTERS_BYTES = 32,    /* the words of a formula's eight letters */
+    PUNDALIKET_MOST_FORMULA = 1664,   /* the longest file of a formula */
+    PUNDALIKET_STACK_BYTES = 2048,    /* stack of a call, but for a formula's */
+    PUNDALIKET_FORMULA_STACK_BYTES = 20480 /* stack of pundaliket_formula, whose brackets nest */
 };
 
 /* Where each part of a state begins. */
@@ -242,6 +249,23 @@ uint32_t pundaliket_words_to_f64(const uint8_t *words, size_t words_length,
  */
 uint32_t pundaliket_f64_to_words(uint32_t rule, const uint8_t *floats, size_t floats_length,
                                  uint8_t *out, size_t out_length, uint64_t *number);
+
+/*
+ * One formula, as `(a-b)/c*#01800000`, to a record file: each operand a push, each operation and each change of sign a command,
+ * in postfix order. Run from any state with no half word pending, with room for its replies, the file ends with 0, every
+ * record is answered 0, and the formula's value by the chip's operations lies on top. Returns 65,536 times the refusal plus
+ * the bytes of the file, which are 0 in every refusal.
+ *
+ * text     1 to 256 bytes: products joined by + or -, of factors joined by * or /; a factor is a letter a to h, # and eight of
+ *          0-9A-F, - and a factor, or a formula in brackets. No blanks. Brackets and minus signs nested at most 16 deep.
+ * letters  32 bytes: the words of a to h, each word's top byte first.
+ * file     written on 0 alone, from its front; at most 1,664 bytes (PUNDALIKET_MOST_FORMULA); the rest stays as it was.
+ *
+ * Order: 30, 31, 32, 33.
+ */
+uint32_t pundaliket_formula(const uint8_t *text, size_t text_length,
+                            const uint8_t *letters, size_t letters_length,
+                            uint8_t *file, size_t file_length);
 
 #ifdef __cplusplus
 }

@@ -13,5 +13,6 @@ uint32_t plain_word_to_f32(uint32_t word, uint8_t *out, size_t out_length);
 uint32_t plain_f32_to_word(uint32_t bits, uint8_t *out, size_t out_length);
 uint32_t plain_words_to_f64(const uint8_t *words, size_t words_length, uint8_t *out, size_t out_length, uint64_t *number);
 uint32_t plain_f64_to_words(uint32_t rule, const uint8_t *floats, size_t floats_length, uint8_t *out, size_t out_length, uint64_t *number);
+uint32_t plain_formula(const uint8_t *text, size_t text_length, const uint8_t *letters, size_t letters_length, uint8_t *file, size_t file_length);
 
 #endif

@@ -1,7 +1,7 @@
 /* A C program over include/pundaliket.h, linked with the library. It checks 01's example, each
- * refusal of 01's table, roots, the error memory, buffers of f64s, that no byte beyond a lent slice is written, the room
+ * refusal of 01's table, roots, the error memory, buffers of f64s, formulas, that no byte beyond a lent slice is written, the room
  * that replies need, the stack that a call needs, and, against the plain C of plain.c, events over all codes,
- * drawn, damaged and cut files, conversions, and buffers.
+ * drawn, damaged and cut files, conversions, buffers and formulas.
  * Prints what differs and the stack used, then 'N checks, M failed'; ends with 1 if M is not 0. */
 #include <stdio.h>
 #include <string.h>
@@ -1003,6 +1003,115 @@ static void all_buffers(void)
 
 /* ---- the room that the header names: with it 8 cannot come, with less it can */
 
+/* ---- formulas, request 7 of 02 */
+
+/* a is 1, b -1, c 2, d 1.5, e the least word, f the greatest, g minus the greatest, h improper: 01's float word, top byte first */
+static const uint8_t words_of_letters[32] = { 0x01, 0x80, 0, 0, 0x81, 0x80, 0, 0, 0x02, 0x80, 0, 0, 0x01, 0xC0, 0, 0,
+                                              0x40, 0x80, 0, 0, 0x3F, 0xFF, 0xFF, 0xFF, 0xBF, 0xFF, 0xFF, 0xFF, 0x01, 0x40, 0, 0 };
+
+static void expect_formula(const char *text, size_t letters, size_t room, uint32_t answer, const uint8_t *file)
+{
+    uint8_t before[2048];
+    memset(before, UNTOUCHED, sizeof before);
+    if (answer < 65536)
+        memcpy(before, file, answer);
+    for (unsigned alignment = 0; alignment < 4; alignment++) {
+        lend(&input, alignment, strlen(text), (const uint8_t *)text);
+        lend(&state, alignment, letters, letters <= 32 ? words_of_letters : 0);
+        lend(&out, alignment, room, 0);
+        check(pundaliket_formula(input.at, input.length, state.at, letters, out.at, room) == answer, text, alignment);
+        check(holds(&out, before) && guarded(&out) && guarded(&input) && guarded(&state), text, alignment);
+    }
+}
+
+/* a text of n of one byte, then this */
+static const char *many(char c, size_t n, const char *then)
+{
+    static char text[512];
+    memset(text, c, n);
+    memcpy(text + n, then, strlen(then) + 1);
+    return text;
+}
+
+static void examples_of_formulas(void)
+{
+    /* 02's own: a, b, FSUB; c, FDIV; the constant, FMUL */
+    static const uint8_t own[] = { 6, 0, 1, 0, 0, 0, 0x80, 0x01, 6, 0, 1, 0, 0, 0, 0x80, 0x81, 3, 0, 3, 0, 0x11, 6, 0, 1, 0, 0, 0, 0x80, 0x02,
+                                   3, 0, 3, 0, 0x13, 6, 0, 1, 0, 0, 0, 0x80, 0x01, 3, 0, 3, 0, 0x12 };
+    /* the minus binds to its factor: a, CHSF; b, FMUL */
+    static const uint8_t minus[] = { 6, 0, 1, 0, 0, 0, 0x80, 0x01, 3, 0, 3, 0, 0x15, 6, 0, 1, 0, 0, 0, 0x80, 0x81, 3, 0, 3, 0, 0x12 };
+    /* a, b, CHSF; FSUB */
+    static const uint8_t less[] = { 6, 0, 1, 0, 0, 0, 0x80, 0x01, 6, 0, 1, 0, 0, 0, 0x80, 0x81, 3, 0, 3, 0, 0x15, 3, 0, 3, 0, 0x11 };
+    static const uint8_t one[] = { 6, 0, 1, 0, 0, 0, 0x80, 0x01 };
+    static const char *const outside[] = { "", "+a", "()", "#0180000", "a b", "a-", "a)", "(a", "aa", "i", "A", "#0180000a", "a*+b", "a//b", "--", "a\n" };
+    expect_formula("(a-b)/c*#01800000", 32, 47, 47, own);
+    expect_formula("(a-b)/c*#01800000", 32, 60, 47, own);
+    expect_formula("(a-b)/c*#01800000", 32, 46, 33u << 16, 0);
+    expect_formula("-a*b", 32, 26, 26, minus);
+    expect_formula("a--b", 32, 26, 26, less);
+    expect_formula("#01800000", 32, 8, 8, one);
+    for (size_t i = 0; i < sizeof outside / sizeof outside[0]; i++)
+        expect_formula(outside[i], 32, 100, 30u << 16, 0);
+    expect_formula("a", 31, 100, 30u << 16, 0);
+    expect_formula("a", 33, 100, 30u << 16, 0);
+    expect_formula("a", 0, 100, 30u << 16, 0);
+    expect_formula(many('(', 17, "a)))))))))))))))))"), 32, 100, 30u << 16, 0);
+    expect_formula(many('(', 16, "a))))))))))))))))"), 32, 8, 8, one);
+    expect_formula(many('-', 17, "a"), 32, 200, 30u << 16, 0);
+    expect_formula(many('-', 16, "a"), 32, 87, 33u << 16, 0);
+    /* 30 over the whole text before 31, 31 before 32, 32 before 33 */
+    expect_formula("h+", 32, 0, 30u << 16, 0);
+    expect_formula("h", 32, 0, 31u << 16, 0);
+    expect_formula("#01400000", 32, 100, 31u << 16, 0);
+    expect_formula("a-(b-(c-(d-h)))", 32, 0, 31u << 16, 0);
+    expect_formula("a-(b-(c-(d-e)))", 32, 0, 32u << 16, 0);
+    expect_formula("a-(b-(c-d))", 32, 0, 33u << 16, 0);
+    expect_formula("(((a-b)-c)-d)-e", 32, 0, 33u << 16, 0);
+}
+
+/* a formula of at most so many operations, or a text near one */
+static size_t draw_formula(char *text, size_t n, unsigned operations)
+{
+    unsigned way = below(operations ? 8 : 3);
+    if (n > 200 || way < 2)
+        text[n++] = (char)('a' + below(below(8) ? 7 : 8));
+    else if (way == 2) {
+        n += (size_t)sprintf(text + n, "#%08X", (unsigned)drawn_word());
+    } else if (way == 3) {
+        text[n++] = '-';
+        n = draw_formula(text, n, operations - 1);
+    } else if (way == 4) {
+        text[n++] = '(';
+        n = draw_formula(text, n, operations - 1);
+        text[n++] = ')';
+    } else {
+        n = draw_formula(text, n, operations / 2);
+        text[n++] = "+-*/"[below(4)];
+        n = draw_formula(text, n, operations / 2);
+    }
+    return n;
+}
+
+static void all_formulas(void)
+{
+    static char text[1024];
+    for (unsigned i = 0; i < 20000; i++) {
+        size_t n = draw_formula(text, 0, i % 24), letters = below(20) ? 32 : below(40), room = below(4) ? 2048 : below(300);
+        uint32_t answer;
+        if (i % 5 == 0)
+            text[below((uint32_t)n)] = "abh#()+-*/0F i"[below(14)];
+        if (i % 50 == 0)
+            n = below(300);
+        lend(&input, i % 4, n, (const uint8_t *)text);
+        lend(&state, i % 4, letters, letters <= 32 ? words_of_letters : 0);
+        lend(&out, i % 4, room, 0);
+        lend(&plain_out, i % 4, room, 0);
+        answer = pundaliket_formula(input.at, n, state.at, letters, out.at, room);
+        check(answer == plain_formula(input.at, n, state.at, letters, plain_out.at, room), "formula", i);
+        check(same(&out, &plain_out) && guarded(&out), "a formula's file", i);
+    }
+}
+
 static void room_for_replies(void)
 {
     static uint8_t file[PUNDALIKET_MOST_INPUT];
@@ -1037,7 +1146,7 @@ static void room_for_replies(void)
 /* ---- the stack that a call needs: each is made on a stack of its own, painted before; what is no longer paint was used.
  * It runs last, when the loader has found memset, whose own few bytes are counted in. */
 
-enum { STACK = 16384, PAINT = 0x5A };
+enum { STACK = 32768, PAINT = 0x5A };
 
 static uint8_t painted[STACK] __attribute__((aligned(64)));
 static size_t deepest;
@@ -1058,6 +1167,8 @@ static void call_word_to_f32(void) { pundaliket_word_to_f32(lent_number, lent_ou
 static void call_f32_to_word(void) { pundaliket_f32_to_word(lent_number, lent_out, sizeof lent_out); }
 static void call_words_to_f64(void) { pundaliket_words_to_f64(lent_file, 256, lent_replies, 512, numbers); }
 static void call_f64_to_words(void) { pundaliket_f64_to_words(lent_number % 2, lent_file, 2048, lent_replies, 1024, numbers); }
+
+static void call_formula(void) { pundaliket_formula(lent_file, lent_length, words_of_letters, 32, lent_replies, 2048); }
 
 static void on_painted_stack(void (*call)(void))
 {
@@ -1109,6 +1220,23 @@ static void stack_of_a_call(void)
     check(deepest + deepest / 2 <= PUNDALIKET_STACK_BYTES, "stack of a call, and half as much again", (unsigned)deepest);
 }
 
+/* drawn formulas, and the deepest: 16 brackets, each behind a + and a *, round a constant */
+static void stack_of_a_formula(void)
+{
+    deepest = 0;
+    for (unsigned i = 0; i < 512; i++) {
+        lent_length = draw_formula((char *)lent_file, 0, i % 24);
+        on_painted_stack(call_formula);
+    }
+    lent_length = 0;
+    for (unsigned i = 0; i < 16; i++)
+        lent_length += (size_t)sprintf((char *)lent_file + lent_length, "a+a*(");
+    lent_length += (size_t)sprintf((char *)lent_file + lent_length, "#01800000))))))))))))))))");
+    on_painted_stack(call_formula);
+    printf("stack of a formula: %u of %u bytes\n", (unsigned)deepest, (unsigned)PUNDALIKET_FORMULA_STACK_BYTES);
+    check(deepest + deepest / 2 <= PUNDALIKET_FORMULA_STACK_BYTES, "stack of a formula, and half as much again", (unsigned)deepest);
+}
+
 int main(void)
 {
     example_of_01();
@@ -1130,8 +1258,11 @@ int main(void)
     drawn_files();
     all_conversions();
     all_buffers();
+    examples_of_formulas();
+    all_formulas();
     room_for_replies();
     stack_of_a_call();
+    stack_of_a_formula();
     printf("%u checks, %u failed\n", checks, failed);
     return failed != 0;
 }

@@ -35,3 +35,4 @@ pub mod Serial
 pub mod Doubles
 pub mod DoubleBench
 pub mod WrongConverters
+pub mod Formulas

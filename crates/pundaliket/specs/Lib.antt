@@ -1,2 +1,3 @@
 -- The book of the exported calls.
 pub mod Calls
+pub mod FormulaCall

@@ -1,6 +1,7 @@
 // The calls that the rack controller's firmware makes, on byte slices that it lends. Every
 // call refuses by 01's number, asks nothing of its caller, and says what each slice holds after.
 pub mod doubles;
+pub mod formulas;
 
 use chip::place;
 use host::Reply;

@@ -1,0 +1,1 @@
+// No function: what the record file of a formula leaves when it is run.

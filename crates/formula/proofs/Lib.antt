@@ -1,0 +1,12 @@
+-- The laws of formulas.
+pub mod Cases
+pub mod Digits
+pub mod Stores
+pub mod Sound
+pub mod Complete
+pub mod Reading
+pub mod Going
+pub mod Measure
+pub mod Translating
+pub mod Texts
+pub mod Sizes

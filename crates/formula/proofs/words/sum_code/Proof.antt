@@ -1,0 +1,16 @@
+-- `formula::words::sum_code` meets its contract: the two signs, and any other byte. Assumes nothing.
+use borrow.Author.Tests.{ne-eqb}
+use Rattle.formula.proofs.words.sum_code.Statement.{statement}
+use Rattle.formula.proofs.words.sum_code.Tie as tie
+
+returns : tie.Need-returns
+returns c = rw (c .match .keys1)
+
+returns-2 : tie.Need-returns-2
+returns-2 c = rw (c .match .keys2)
+
+returns-3 : tie.Need-returns-3
+returns-3 c = let r = c .match .rest in rw (ne-eqb _ 0x2B (r .0 .1), ne-eqb _ 0x2D (r .1))
+
+pub sum-code-spec : {M : Type 1} → statement M
+sum-code-spec = tie.close (tie.spec returns returns-2 returns-3)
