@@ -3,7 +3,7 @@
 // none promises a result.
 
 // Lent slices, and 32 bytes by value.
-mod bytes;
+pub mod bytes;
 // The single event and the conversions, on slices.
 pub mod calls;
 // The chip: an event on the bytes of its state.
@@ -13,9 +13,9 @@ mod digits;
 // Buffers of chip words and of f64s.
 pub mod doubles;
 // Fixed point, in 64 bits of two's complement.
-mod fixed_point;
+pub mod fixed_point;
 // Float words: exact values, of which the first 24 digits are kept.
-mod float_words;
+pub mod float_words;
 // Chip words and host floats.
 mod host_floats;
 // Files of records.
