@@ -10,6 +10,7 @@ pub mod Inward
 pub mod Back
 pub mod DoubleOut
 pub mod DoubleIn
+pub mod Places
 pub mod Pairs
 pub mod Owned
 pub mod Brought

@@ -3,13 +3,21 @@
 // before a float is made of it.
 ghost use mathlib.Core.Path.{_≡_};
 ghost use mathlib.Core.Bool.{cond};
-ghost use Prim.Native.Nat.{_^_, _≤_, _<_};
+ghost use Prim.Native.Nat.{_+_, _-_, _*_, _/_, _%_, _^_, _≤_, _<_};
 ghost use Rattle.float.specs.Word.{negative};
-ghost use Rattle.host.specs.Double.{doubleField, doubleBits, outwardOf, judgedOf, inwardOf};
-use float::Flagged;
-use float::cut::cut_word;
+ghost use Rattle.float.specs.Cut.{whole, packed};
+ghost use Rattle.host.specs.Double.{doubleSign, doubleField, doubleBits, outwardOf, judgedOf, inwardOf};
 use terms::Refusal;
 use terms::Rule;
+
+// The bits that an f64's fraction has below a word's 23, a step there, half of it, and 2^63 in such steps.
+const BELOW: u32 = 29;
+
+const STEP: u64 = 0x2000_0000;
+
+const HALF: u64 = 0x1000_0000;
+
+const LARGE: u64 = 0x2_1F00_0000;
 
 // A word as an f64: a case that carries the float, or one that carries the refusal.
 pub enum Outward {
@@ -59,26 +67,58 @@ pub fn word_to_f64(word: u32) -> Outward
     }
 }
 
-// What an f64 is answered whose value was brought to 24 bits.
-fn judge(bits: u64, brought: Flagged) -> Inward
-    ensures { λ r. ⌜ r ≡ judgedOf bits brought ⌝ }
+// The bits of a magnitude in steps of a word's last digit, under a rule: what is carried past the fraction goes to the field.
+fn steps(rule: Rule, magnitude: u64) -> u64
+    ensures { λ r. ⌜ r ≡ whole rule magnitude (2 ^ 29) ⌝ }
 {
-    let word = brought.word;
-    if brought.error != 0 {
-        return Inward::Refused(Refusal::TooLarge);
+    let q = magnitude >> BELOW;
+    match rule {
+        Rule::Cut => q,
+        Rule::Nearest => if HALF < magnitude % STEP + q % 2 {
+            q + 1
+        } else {
+            q
+        },
     }
-    let own = double_bits(word);
+}
+
+// Bit 63 of an f64, in the place of a word's sign.
+fn word_sign(bits: u64) -> u32
+    ensures { λ r. ⌜ (r ≡ cond (doubleSign bits) (2 ^ 31) 0) × (r ≤ 2 ^ 31) ⌝ }
+{
+    if 0x8000_0000_0000_0000 <= bits {
+        0x8000_0000
+    } else {
+        0
+    }
+}
+
+// The word of an f64's sign and of a magnitude in such steps: the f64's field, less 846, is the place of the mantissa.
+fn word_at(bits: u64, place: u64) -> u32
+    requires { ⌜ (958 * 2 ^ 23 ≤ place) × (place < 1086 * 2 ^ 23) ⌝ }
+    ensures { λ r. ⌜ r ≡ packed (doubleSign bits) (2 ^ 23 + place % 2 ^ 23) (place / 2 ^ 23 - 846) ⌝ }
+{
+    let exponent = (place / 0x80_0000 + 2) % 128;
+    word_sign(bits) + exponent as u32 * 0x100_0000 + 0x80_0000 + (place % 0x80_0000) as u32
+}
+
+// What an f64 is answered whose value was brought to 24 bits without an error, with the bits of that word's f64.
+fn judge(bits: u64, word: u32, own: u64) -> Inward
+    requires { ⌜ (own ≡ doubleBits word) × (doubleField own < 2047) ⌝ }
+    ensures { λ r. ⌜ r ≡ judgedOf bits (record { word = word; error = 0 }) ⌝ }
+{
     if own == bits {
         return Inward::Exact(word);
     }
     Inward::Rounded(word, f64::from_bits(own))
 }
 
-// The word of an f64, given by its bits, under a rule. From 2^63 on every f64 is too large as it is given.
+// The word of an f64, given by its bits, under a rule.
 pub fn f64_to_word(rule: Rule, bits: u64) -> Inward
     ensures { λ r. ⌜ r ≡ inwardOf rule bits ⌝ }
 {
-    let field = bits % 0x8000_0000_0000_0000 / 0x10_0000_0000_0000;
+    let magnitude = bits % 0x8000_0000_0000_0000;
+    let field = magnitude / 0x10_0000_0000_0000;
     if field == 2047 {
         return Inward::Refused(Refusal::NotFinite);
     }
@@ -91,10 +131,10 @@ pub fn f64_to_word(rule: Rule, bits: u64) -> Inward
     if field < 958 {
         return Inward::Refused(Refusal::TooSmall);
     }
-    if 1086 <= field {
+    let place = steps(rule, magnitude);
+    if LARGE <= place {
         return Inward::Refused(Refusal::TooLarge);
     }
-    let neg = 0x8000_0000_0000_0000 <= bits;
-    let digits = 0x10_0000_0000_0000 + bits % 0x10_0000_0000_0000;
-    judge(bits, cut_word(rule, neg, digits, (field - 875) as u32))
+    let own = bits - magnitude + place * STEP;
+    judge(bits, word_at(bits, place), own)
 }
