@@ -127,6 +127,18 @@ module _ (r : Rule) (p : ℕ) (some : 958 ≤ doubleField p) (y : ℕ) (steps : 
           let e : (2 ^ 52 + f) * 2 ^ 11 % 2 ^ 64 ≡ (2 ^ 52 + f) * 2 ^ 11 = mod-eq-of-lt (omega arith) in
           whole-same r (2 ^ 52 + f) (2 ^ 29) ((2 ^ 52 + f) * 2 ^ 11 % 2 ^ 64) (2 ^ 40) (pow-pos 29) (pow-pos 40) (omega arith)
 
+  -- not a zero of either sign, and below 2 ^ 63 no infinity and no NaN
+  pub not-minus : p ≡ 2 ^ 63 → ⊥
+  not-minus e = let h = some in absurd (omega arith)
+
+  pub not-plus : p ≡ 0 → ⊥
+  not-plus e = let h = some in absurd (omega arith)
+
+  pub not-endless : y < 1086 * 2 ^ 23 → doubleField p ≡ 2047 → ⊥
+  not-endless h e =
+      let g = y-is in
+      absurd (omega arith)
+
   pub over-at : 1086 * 2 ^ 23 ≤ y → broughtOf r p .error ≡ 0 → ⊥
   over-at h e = let x : _≡_ {A = ℕ} 1 0 = sym (error-over (y / 2 ^ 23 - 846) (omega arith)) ∙ sym (ap (λ (z : Flagged). z .error) brought-at) ∙ e in absurd (omega arith)
 

@@ -113,26 +113,34 @@ fn judge(bits: u64, word: u32, own: u64) -> Inward
     Inward::Rounded(word, f64::from_bits(own))
 }
 
-// The word of an f64, given by its bits, under a rule.
-pub fn f64_to_word(rule: Rule, bits: u64) -> Inward
+// What an f64 under 2^-65 is answered, a zero among them, under either rule.
+fn small(rule: Rule, bits: u64) -> Inward
+    requires { ⌜ doubleField bits < 958 ⌝ }
     ensures { λ r. ⌜ r ≡ inwardOf rule bits ⌝ }
 {
-    let magnitude = bits % 0x8000_0000_0000_0000;
-    let field = magnitude / 0x10_0000_0000_0000;
-    if field == 2047 {
-        return Inward::Refused(Refusal::NotFinite);
-    }
     if bits == 0x8000_0000_0000_0000 {
         return Inward::Refused(Refusal::MinusZero);
     }
     if bits == 0 {
         return Inward::Exact(0);
     }
+    Inward::Refused(Refusal::TooSmall)
+}
+
+// The word of an f64, given by its bits, under a rule. The tests that most f64s need not meet stand behind the others.
+pub fn f64_to_word(rule: Rule, bits: u64) -> Inward
+    ensures { λ r. ⌜ r ≡ inwardOf rule bits ⌝ }
+{
+    let magnitude = bits % 0x8000_0000_0000_0000;
+    let field = magnitude / 0x10_0000_0000_0000;
     if field < 958 {
-        return Inward::Refused(Refusal::TooSmall);
+        return small(rule, bits);
     }
     let place = steps(rule, magnitude);
     if LARGE <= place {
+        if field == 2047 {
+            return Inward::Refused(Refusal::NotFinite);
+        }
         return Inward::Refused(Refusal::TooLarge);
     }
     let own = bits - magnitude + place * STEP;
