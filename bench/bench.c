@@ -1,18 +1,22 @@
 /* Runs a record file from standard input, or one event, through the library or the plain C of tests/c, so many times.
  * bench library|plain file TURNS RECORDS   the file's first RECORDS records (0: all), each run from reset
+ * bench library|plain sheets TURNS RECORDS   the same of a file with module sheets, each run on an empty list
  * bench library|plain event TURNS KIND BYTE   one event on a state that holds two float words
  * bench library|plain words TURNS ENTRIES   a buffer of so many words to f64s
  * bench library|plain doubles TURNS ENTRIES RULE   a buffer of so many f64s, each to be rounded, to words */
 #include "../include/pundaliket.h"
+#include "../include/sheets.h"
 #include "../tests/c/plain.h"
+#include "../tests/c/plain_sheets.h"
 
 int printf(const char *format, ...);
 long read(int file, void *to, size_t n);
 void *memcpy(void *to, const void *from, size_t n);
+void *memset(void *to, int byte, size_t n);
 
 enum { ROOM = 65536, MOST = 12288 };
 
-static uint8_t input[MOST], replies[ROOM];
+static uint8_t input[MOST], replies[ROOM], list[SHEETS_BYTES];
 static const uint8_t filled[PUNDALIKET_STATE_BYTES] = { 0x01, 0xA0, 0, 0, 0x02, 0xC0, 0, 0, 0x03, 0x80 };
 
 static uint32_t number(const char *p)
@@ -72,6 +76,16 @@ int main(int count, char **words)
             result = library
                 ? pundaliket_run(0, 0, state, sizeof state, input, length, replies, ROOM, report, sizeof report)
                 : plain_run(0, 0, state, sizeof state, input, length, replies, ROOM, report, sizeof report);
+        }
+    } else if (words[2][0] == 's') {
+        long n = read(0, input, sizeof input);
+        size_t length = front(n > 0 ? (size_t)n : 0, number(words[4]));
+        for (; turns > 0; turns--) {
+            memset(state, 0, sizeof state);
+            memset(list, 0, sizeof list);
+            result = library
+                ? sheets_run(0, 0, state, sizeof state, list, sizeof list, input, length, replies, ROOM, report, sizeof report)
+                : plain_sheets_run(0, 0, state, sizeof state, list, sizeof list, input, length, replies, ROOM, report, sizeof report);
         }
     } else if (words[2][0] == 'w') {
         size_t length = entries(number(words[4]), 4);

@@ -1,4 +1,4 @@
--- 01's example, from the replies that it yields to the text, computed from the definition. Assumes nothing.
+-- 01's example, from the replies that it yields to the text, and replies of module sheets, computed from the definition. Assumes nothing.
 use mathlib.Core.Path.{_≡_, refl}
 use mathlib.Core.List.{List, [], _∷_}
 use Prim.Native.Nat.{ℕ}
@@ -27,3 +27,11 @@ exampleText =
 pub example-of-01 : listingOf exampleReplies (numberOf Done) 22 ≡ exampleText
 unfolding linesUpTo hasReply spelled
 example-of-01 = refl
+
+-- the replies of kinds 256 and 258, the second refused with 21: `1 256 0`, `2 258 21`, `end 0 12`
+pub sheet-kinds : listingOf (3 ∷ 0 ∷ 0 ∷ 129 ∷ 0 ∷ 3 ∷ 0 ∷ 2 ∷ 129 ∷ 21 ∷ []) 0 12
+    ≡ 49 ∷ 32 ∷ 50 ∷ 53 ∷ 54 ∷ 32 ∷ 48 ∷ 10
+    ∷ 50 ∷ 32 ∷ 50 ∷ 53 ∷ 56 ∷ 32 ∷ 50 ∷ 49 ∷ 10
+    ∷ 101 ∷ 110 ∷ 100 ∷ 32 ∷ 48 ∷ 32 ∷ 49 ∷ 50 ∷ 10 ∷ []
+unfolding linesUpTo hasReply spelled
+sheet-kinds = refl

@@ -6,11 +6,13 @@ use Prim.Native.Nat.{ℕ, zero, suc, _+_, _*_, _-_, _≤_, _<_, min}
 use native.Mathlib.Omega.{arith}
 use native.Mathlib.Nat.{not-suc-le-zero}
 use lib.ListN.{length, take, drop, getD, length-append, length-take, length-drop, drop-of-length-le}
+use lib.Dec.{ltb}
+use borrow.Author.Tests.{lt-ltb}
 use lib.Seq.{length-take-le, drop-drop, take-all, getD-drop, take-append-seam, drop-append-seam}
 use Rattle.little.specs.Little.{wordAt}
 use Rattle.little.proofs.Exact.{two-bytes}
 use Rattle.listing.specs.Text.{Adds}
-use Rattle.listing.specs.Listing.{lineOf, replyBytes, replyKind, replyRefusal, replyData, replySize, replyLine, hasReply, wholeSize, Front, linesUpTo, linesOf, listingOf, countAt, printedOf}
+use Rattle.listing.specs.Listing.{lineOf, replyBytes, kindFrom, replyKind, replyRefusal, replyData, replySize, replyLine, hasReply, wholeSize, Front, linesUpTo, linesOf, listingOf, countAt, printedOf}
 use Rattle.listing.proofs.Adding.{take-least}
 use Rattle.listing.proofs.Decimal.{short}
 use Rattle.listing.proofs.Lines.{line-length, data-length}
@@ -54,6 +56,14 @@ one-more number (x ∷ l) e =
     let d = length-drop (replySize (x ∷ l)) (x ∷ l) in
     rw (e, enough (length l) (length r) (number + 1) r (omega arith) (omega arith))
 
+-- a record's kind is no more than the word of its reply
+kind-low : (word : ℕ) → kindFrom word ≤ word
+kind-low word = pick (ltb word 32768)
+  where
+    pick : (b : Bool) → cond b (word - 128) (word - 32768) ≤ word
+    pick true = omega arith
+    pick false = omega arith
+
 -- a line has at most four characters for each byte of its reply
 pub line-short : (number : ℕ) (l : List ℕ) (size : ℕ) → Front l size → number < 100000 → getD l 2 0 < 256 → getD l 3 0 < 256 → getD l 4 0 < 256
     → length (replyLine number l) ≤ 4 * size
@@ -64,7 +74,7 @@ line-short number l size f n a b c =
       f .at-least,
       line-length number (replyKind l) (replyRefusal l) (replyData l),
       short 20 5 number (omega arith) (omega arith),
-      short 20 5 (replyKind l) (omega arith) (omega arith),
+      short 20 5 (replyKind l) (omega arith) (omega (arith, kind-low (wordAt l 2))),
       short 20 3 (replyRefusal l) (omega arith) (omega arith),
       data-length (replyData l),
       length-take (replySize l - 5) (drop 5 l),
@@ -87,9 +97,9 @@ sized l size e h =
     (w, rw k (front l w))
 
 -- the line made of what the code reads
-pub as-line : (number : ℕ) (l : List ℕ) (size word : ℕ) → size ≡ replySize l → word ≡ wordAt l 2
-    → lineOf number (word - 128) (getD l 4 0) (take (size - 5) (drop 5 l)) ≡ replyLine number l
-as-line number l size word e f = rw (e, f)
+pub as-line : (number : ℕ) (l : List ℕ) (size kind word : ℕ) → size ≡ replySize l → kind ≡ kindFrom word → word ≡ wordAt l 2
+    → lineOf number kind (getD l 4 0) (take (size - 5) (drop 5 l)) ≡ replyLine number l
+as-line number l size kind word e k f = rw (e, k, f)
 
 -- a part up to the end is all that is left
 pub all-rest : (l : List ℕ) (at : ℕ) → take (length l - at) (drop at l) ≡ drop at l
@@ -154,11 +164,14 @@ as-printed replies report n written refusal taken h a w r t =
     ∙ ap (λ (k : ℕ). listingOf (take (countAt report 5) replies) k taken) r
     ∙ ap (λ (k : ℕ). listingOf (take (countAt report 5) replies) (getD report 0 0) k) t
 
--- the two bytes of a number, read back
+-- the word of a core's reply is read back
+pub core-kind : (kind word : ℕ) → kind < 32640 → word ≡ kind + 128 → kindFrom word ≡ kind
+core-kind kind word low e = rw (lt-ltb word 32768 (omega arith)) (omega arith)
+
 -- a reply as 01 lays it out has its own line, with the record's kind, and the lines go on after it
-pub reply-listed : (number kind refusal : ℕ) (bytes rest : List ℕ)
+pub reply-listed : (number kind refusal : ℕ) (bytes rest : List ℕ) → kind < 32640
     → linesOf number (replyBytes kind refusal bytes ++ rest) ≡ lineOf number kind refusal bytes ++ linesOf (number + 1) rest
-reply-listed number kind refusal bytes rest =
+reply-listed number kind refusal bytes rest low =
     let l = replyBytes kind refusal bytes ++ rest in
     let size : replySize l ≡ 5 + length bytes = omega (arith, two-bytes (3 + length bytes)) in
     let word : wordAt l 2 ≡ kind + 128 = two-bytes (kind + 128) in
@@ -168,7 +181,7 @@ reply-listed number kind refusal bytes rest =
     let data-is : replyData l ≡ bytes = ap (λ (k : ℕ). take k (bytes ++ rest)) long ∙ take-append-seam bytes rest in
     let whole-is : replySize l ≡ length (replyBytes kind refusal bytes) = omega arith in
     let rest-is : drop (replySize l) l ≡ rest = ap (λ (k : ℕ). drop k l) whole-is ∙ drop-append-seam (replyBytes kind refusal bytes) rest in
-    let kind-is : replyKind l ≡ kind = omega arith in
+    let kind-is : replyKind l ≡ kind = core-kind kind (wordAt l 2) low word in
     one-more number l w
     ∙ ap (λ (k : ℕ). lineOf number k refusal (replyData l) ++ linesOf (number + 1) (drop (replySize l) l)) kind-is
     ∙ ap (λ (b : List ℕ). lineOf number kind refusal b ++ linesOf (number + 1) (drop (replySize l) l)) data-is

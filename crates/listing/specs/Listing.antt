@@ -3,7 +3,7 @@ use Prim.Native.Nat.{ℕ, zero, suc, _+_, _*_, _-_, _≤_}
 use mathlib.Core.Path.{_≡_}
 use mathlib.Core.Bool.{Bool, false, cond}
 use mathlib.Core.List.{List, [], _∷_, _++_}
-use lib.Dec.{leb}
+use lib.Dec.{leb, ltb}
 use lib.ListN.{length, take, drop, getD}
 use Rattle.little.specs.Little.{wordAt, le2}
 use Rattle.listing.specs.Text.{decimal, hex}
@@ -11,6 +11,10 @@ use Rattle.listing.specs.Text.{decimal, hex}
 -- the bytes of replies that the program lends
 abbrev pub replyRoom : ℕ
 replyRoom = 65536
+
+-- room for the text of any such replies: four characters for each byte of them, and the last line
+abbrev pub textRoom : ℕ
+textRoom = 262190
 
 -- the characters that part and end what is printed, and the word of the last line
 abbrev pub blank : ℕ
@@ -43,9 +47,12 @@ endOf refusal taken = endWord ++ (field refusal ++ (field taken ++ (newline ∷ 
 abbrev pub replyBytes : ℕ → ℕ → List ℕ → List ℕ
 replyBytes kind refusal bytes = le2 (3 + length bytes) ++ (le2 (kind + 128) ++ (refusal ∷ bytes))
 
--- and what is read of one at the front
+-- and what is read of one at the front: the kinds of module sheets carry bit 15 in place of the 128
+abbrev pub kindFrom : ℕ → ℕ
+kindFrom word = cond (ltb word 32768) (word - 128) (word - 32768)
+
 abbrev pub replyKind : List ℕ → ℕ
-replyKind l = wordAt l 2 - 128
+replyKind l = kindFrom (wordAt l 2)
 
 abbrev pub replyRefusal : List ℕ → ℕ
 replyRefusal l = getD l 4 0

@@ -7,7 +7,7 @@ ghost use Prim.Native.Nat.{_+_, _*_, _-_, _≤_, _<_, min};
 ghost use lib.ListN.{length, take};
 ghost use Rattle.io.specs.Counts.{Counts};
 ghost use Rattle.listing.specs.Text.{Adds};
-ghost use Rattle.listing.specs.Listing.{replyRoom, field, dataText, lineOf, endOf, wholeSize, Front, replyLine, linesOf, listingOf, printedOf};
+ghost use Rattle.listing.specs.Listing.{replyRoom, textRoom, field, dataText, lineOf, endOf, wholeSize, kindFrom, Front, replyLine, linesOf, listingOf, printedOf};
 use crate::text::add;
 use crate::text::add_decimal;
 use crate::text::add_hex;
@@ -98,13 +98,25 @@ fn whole_size(rest: &[u8]) -> usize
     size
 }
 
+// The record's own kind, by the word of its reply.
+fn own_kind(word: usize) -> usize
+    requires { ⌜ 128 ≤ word ⌝ }
+    ensures { λ r. ⌜ r ≡ kindFrom word ⌝ }
+{
+    if word < 32768 {
+        word - 128
+    } else {
+        word - 32768
+    }
+}
+
 // The line of the reply of this size at the front of the rest.
 fn add_reply(out: &mut [u8], place: usize, number: u64, rest: &[u8], size: usize) -> usize
     requires { ⌜ Front (now rest) size ⌝ }
     requires { ⌜ place + length (replyLine number (now rest)) ≤ length (now out) ⌝ }
     ensures { λ r. ⌜ Adds (replyLine number (now (rest .entry))) (now (out .entry)) (now (out .exit)) place r ⌝ }
 {
-    let kind = word(rest[2], rest[3]) - 128;
+    let kind = own_kind(word(rest[2], rest[3]));
     add_line(
         out,
         place,
@@ -140,6 +152,7 @@ fn add_lines(out: &mut [u8], replies: &[u8]) -> usize
 fn add_listing(out: &mut [u8], replies: &[u8], refusal: u64, taken: u64) -> usize
     requires { ⌜ (length (now replies) ≤ replyRoom) × (4 * length (now replies) + 46 ≤ length (now out)) ⌝ }
     ensures { λ r. ⌜ Adds (listingOf (now (replies .entry)) refusal taken) (now (out .entry)) (now (out .exit)) 0 r ⌝ }
+    ensures { λ r. ⌜ r ≤ 4 * length (now (replies .entry)) + 46 ⌝ }
 {
     let place = add_lines(out, replies);
     add_end(out, place, refusal, taken)
@@ -166,15 +179,24 @@ fn lesser(a: usize, b: usize) -> usize
     if a < b { a } else { b }
 }
 
-// What is printed for a run that left these replies and this report, at the front of the text: the
-// answer says how many bytes. Of the replies it lists those that the report counts as written.
-pub fn list(replies: &[u8; REPLY_ROOM], report: &[u8; 9], text: &mut [u8; TEXT_ROOM]) -> usize
-    ensures { λ r. ⌜ Counts r (now (text .exit)) ⌝ }
-    ensures { λ r. ⌜ take r (now (text .exit)) ≡ printedOf (now (replies .entry)) (now (report .entry)) ⌝ }
+// What is printed for a run that left these replies and this report, added at the front of a longer text.
+// Of the replies it lists those that the report counts as written.
+pub fn add_printed(out: &mut [u8], replies: &[u8; REPLY_ROOM], report: &[u8; 9]) -> usize
+    requires { ⌜ textRoom ≤ length (now out) ⌝ }
+    ensures { λ r. ⌜ Adds (printedOf (now (replies .entry)) (now (report .entry))) (now (out .entry)) (now (out .exit)) 0 r ⌝ }
+    ensures { λ r. ⌜ r ≤ textRoom ⌝ }
 {
     let taken = count(report[1], report[2], report[3], report[4]);
     let written = count(report[5], report[6], report[7], report[8]);
     let n = lesser(written as usize, REPLY_ROOM);
     let all: &[u8] = replies;
-    add_listing(text, &all[..n], wide(report[0]), taken)
+    add_listing(out, &all[..n], wide(report[0]), taken)
+}
+
+// The same at the front of a text that has just the room: the answer says how many bytes.
+pub fn list(replies: &[u8; REPLY_ROOM], report: &[u8; 9], text: &mut [u8; TEXT_ROOM]) -> usize
+    ensures { λ r. ⌜ Counts r (now (text .exit)) ⌝ }
+    ensures { λ r. ⌜ take r (now (text .exit)) ≡ printedOf (now (replies .entry)) (now (report .entry)) ⌝ }
+{
+    add_printed(text, replies, report)
 }

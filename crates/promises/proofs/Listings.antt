@@ -12,7 +12,9 @@ use lib.ListN.{length, take, drop, getD, replicate, length-replicate}
 use lib.Seq.{take-append-seam}
 use Rattle.terms.specs.Refusal.{numberOf}
 use Rattle.memory.specs.Memory.{Card}
-use Rattle.records.specs.Record.{kindOf, answerOf, dataOf, replyOf}
+use Rattle.records.specs.declared.head.Event.{Event}
+use Rattle.records.specs.declared.head.Event.the-variants.{Push, Pop, Command, Status, Reset, Acknowledge, Recall, Forget}
+use Rattle.records.specs.Record.{wordAt, kindOf, answerOf, dataOf, replyOf}
 use Rattle.records.specs.Run.{Outcome, runOf}
 use Rattle.files.proofs.Through.{tally}
 use Rattle.stored.specs.Bytes.{isState}
@@ -21,7 +23,7 @@ use Rattle.pundaliket.proofs.Calling.{too-long, good}
 use Rattle.listing.specs.Text.{digit, spelled, decimal}
 use Rattle.listing.specs.Listing.{dataText, lineOf, endOf, replyKind, replyRefusal, replySize, replyData, linesUpTo, hasReply, linesOf, listingOf, printedOf}
 use Rattle.little.proofs.Exact.{two-bytes}
-use Rattle.listing.proofs.Listed.{reply-listed}
+use Rattle.listing.proofs.Listed.{reply-listed, core-kind}
 use Rattle.printout.specs.Printout.{callFor, printoutOf}
 use Rattle.promises.specs.Records.{joined, EachTaken, repliesOf, total, lengths}
 use Rattle.promises.specs.Listings.{valueOf, Digits, Decimal, hexText, recordLine, linesFor, lastLine, fresh, Listings}
@@ -34,6 +36,17 @@ data-same : (bytes : List ℕ) → dataText bytes ≡ hexText bytes
 data-same [] = refl
 data-same (b ∷ bs) = ap (λ (t : List ℕ). 32 ∷ digit (b / 16) ∷ digit (b % 16) ∷ t) (data-same bs)
 
+-- no kind of the core reaches bit 15 in its reply
+low : (e : Event) → kindOf e < 32640
+low (Push n) = lit< tt
+low (Pop n) = lit< tt
+low (Command code) = lit< tt
+low Status = lit< tt
+low Reset = lit< tt
+low Acknowledge = lit< tt
+low Recall = lit< tt
+low Forget = lit< tt
+
 lines-are : (rs : List (List ℕ)) (s : Card) (room number : ℕ) → EachTaken s rs room → linesOf number (joined (repliesOf s rs room)) ≡ linesFor number s rs room
 unfolding linesUpTo
 lines-are [] s room number h = refl
@@ -45,7 +58,7 @@ lines-are (r ∷ rs) s room number h =
     let w : o .written ≡ replyOf (kindOf e) n (dataOf s e) = ap (λ (p : Outcome). p .written) (record-run s r room one (h .1)) in
     let more = joined (repliesOf (o .state) rs (room - length (o .written))) in
     ap (λ (l : List ℕ). linesOf number (l ++ more)) w
-    ∙ reply-listed number (kindOf e) n (dataOf s e) more
+    ∙ reply-listed number (kindOf e) n (dataOf s e) more (low e)
     ∙ ap₂ (λ (x y : List ℕ). x ++ y) (line r (kindOf e) n (dataOf s e) (o .written) (one .held .kind-is) w) (lines-are rs (o .state) (room - length (o .written)) (number + 1) (h .2))
   where
     line : (r : List ℕ) (kind n : ℕ) (bytes reply : List ℕ) → getD r 2 0 + getD r 3 0 * 256 ≡ kind → reply ≡ replyOf kind n bytes → lineOf number kind n bytes ≡ recordLine number r reply
@@ -124,13 +137,13 @@ spells (suc most) n h = pick (spells most (n / 10) (div-lt-iff-lt-mul {k = 10} {
     pick p false e = digit-more n (spelled most (n / 10)) (ltb-false n 10 e) p
 
 -- ---- the statement
-read-back : (kind refusal : ℕ) (bytes rest : List ℕ)
+read-back : (kind refusal : ℕ) (bytes rest : List ℕ) → kind + 128 < 32768
     → (replyKind (replyOf kind refusal bytes ++ rest) ≡ kind) × (replyRefusal (replyOf kind refusal bytes ++ rest) ≡ refusal)
     × (replySize (replyOf kind refusal bytes ++ rest) ≡ 5 + length bytes) × (replyData (replyOf kind refusal bytes ++ rest) ≡ bytes)
-read-back kind refusal bytes rest =
+read-back kind refusal bytes rest h =
     let l = replyOf kind refusal bytes ++ rest in
     let size : replySize l ≡ 5 + length bytes = omega (arith, two-bytes (3 + length bytes)) in
-    let k : replyKind l ≡ kind = omega (arith, two-bytes (kind + 128)) in
+    let k : replyKind l ≡ kind = core-kind kind (wordAt l 2) (omega arith) (two-bytes (kind + 128)) in
     let n : replySize l - 5 ≡ length bytes = omega arith in
     (k, refl, size, ap (λ (i : ℕ). take i (bytes ++ rest)) n ∙ take-append-seam bytes rest)
 
@@ -141,6 +154,6 @@ listings = record {
       ∙ ap₂ (λ (l : List ℕ) (n : ℕ). linesOf 1 l ++ endOf (runOf fresh input 65536 .refusal) n) (p .replies) (p .taken)
       ∙ ap (λ (l : List ℕ). l ++ lastLine (runOf fresh input 65536 .refusal) (total (lengths (p .records)))) (lines-are (p .records) fresh 65536 1 (p .each));
   long = λ input h. long-is input h;
-  read-back = λ kind refusal bytes rest. read-back kind refusal bytes rest;
+  read-back = λ kind refusal bytes rest h. read-back kind refusal bytes rest h;
   characters = record { decimals = λ n h. spells 20 n h; hex-digits = refl };
 }

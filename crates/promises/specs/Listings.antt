@@ -73,8 +73,8 @@ pub record Listings : Type 0 where
       → printoutOf input ≡ linesFor 1 fresh (split .records) 65536 ++ lastLine (runOf fresh input 65536 .refusal) (total (lengths (split .records)))
   -- a longer one prints only `end 9 0`
   pub long : (input : List ℕ) → 12288 < length input → printoutOf input ≡ 101 ∷ 110 ∷ 100 ∷ 32 ∷ 57 ∷ 32 ∷ 48 ∷ 10 ∷ []
-  -- a reply that the run writes is the reply that the listing reads, whatever follows it
-  pub read-back : (kind refusal : ℕ) (bytes rest : List ℕ)
+  -- a reply that the run writes is the reply that the listing reads, whatever follows it; its word has no bit 15, which marks the kinds of module sheets
+  pub read-back : (kind refusal : ℕ) (bytes rest : List ℕ) → kind + 128 < 32768
       → (replyKind (replyOf kind refusal bytes ++ rest) ≡ kind) × (replyRefusal (replyOf kind refusal bytes ++ rest) ≡ refusal)
       × (replySize (replyOf kind refusal bytes ++ rest) ≡ 5 + length bytes) × (replyData (replyOf kind refusal bytes ++ rest) ≡ bytes)
   pub characters : Characters

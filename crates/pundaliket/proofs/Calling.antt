@@ -6,8 +6,8 @@ use mathlib.Core.List.{List, _++_}
 use Prim.Native.Nat.{ℕ, _+_, _≤_, _<_}
 use native.Mathlib.Omega.{arith}
 use lib.Dec.{eqb}
-use lib.ListN.{length, take, drop, getD, length-append, length-drop, take-append-drop}
-use lib.Seq.{length-take-le, getD-append-add, getD-drop, take-at}
+use lib.ListN.{length, take, drop, getD, take-append-drop}
+use lib.Seq.{getD-append-add, getD-drop, take-at}
 use borrow.Author.Tests.{lt-ltb, le-ltb, lt-leb, le-leb, eq-eqb, ne-eqb}
 use Rattle.little.specs.Little.{le4}
 use Rattle.terms.specs.declared.Refusal.{Refusal}
@@ -22,9 +22,7 @@ use Rattle.chip.specs.Place.{held, answerBy}
 use Rattle.memory.specs.declared.Memory.{Memory}
 use Rattle.memory.specs.declared.Event.{Event}
 use Rattle.memory.specs.declared.Event.the-variants.{Chip, Recall, Forget}
-use Rattle.memory.specs.declared.place.Rest.{Rest}
 use Rattle.memory.specs.Memory.{emptyMemory, Card, CardAnswer, cardWith, keptBy, answerWith, eventIn}
-use Rattle.memory.specs.Held.{cardAt}
 use Rattle.memory.proofs.Kept.{refused-leaves}
 use Rattle.memory.proofs.Good.{recalled, forgotten}
 use Rattle.host.specs.declared.Reply.{Reply}
@@ -32,8 +30,9 @@ use Rattle.files.specs.Run.{Runs}
 use Rattle.records.specs.Run.{Outcome, runOf}
 use Rattle.stored.specs.Bytes.{Sized, isState, stateOf, memoryIn, cardIn, memoryBytesOf, laid, laidOut, reportOf}
 use Rattle.stored.proofs.Laid.{other-memory}
-use Rattle.stored.proofs.States.{least, sized-as, state-sized, state-ready, short-memory, long-memory}
+use Rattle.stored.proofs.States.{state-sized, state-ready, short-memory, long-memory}
 use Rattle.stored.proofs.Cards.{card-returns, long-back}
+use Rattle.stored.proofs.Worked.{stack-size, same-size}
 use Rattle.pundaliket.specs.declared.Named.{Named}
 use Rattle.pundaliket.specs.declared.Named.the-variants.{Unknown}
 use Rattle.pundaliket.specs.Calls.{settingsOf, ranOf, away, callUnder, signalUnder, callOf, Calls, answeredBy, Names, Signal, joinedOf, signalBy, signalOf, Signals, sentOf, Sends}
@@ -50,26 +49,13 @@ pub passed : (x y : Bool) → x ≡ y → not x ≡ false → y ≡ true
 passed true y e n = sym e
 passed false y e n = absurd (false-true (sym n))
 
--- the stack of a state
-pub stack-size : (l : List ℕ) → Sized l → length (take 16 l) ≡ 16
-stack-size l h = length-take-le 16 l (omega (arith, least l h))
-
--- a state whose stack was worked where it lies: its length, and what is then written behind the stack
+-- a state whose stack was worked where it lies
 module _ (l x : List ℕ) (h : Sized l) (n : length x ≡ 16) where
-  pub same-size : length (x ++ drop 16 l) ≡ length l
-  same-size = length-append x (drop 16 l) ∙ omega (arith, least l h, length-drop 16 l)
-
-  pub still-sized : Sized (x ++ drop 16 l)
-  still-sized = sized-as l (x ++ drop 16 l) same-size h
-
-  pub put-back : (f : Rest) {left : List ℕ} → left ≡ laidOut (length (x ++ drop 16 l)) (cardAt (take 16 (x ++ drop 16 l)) f) → left ≡ laidOut (length l) (cardAt x f)
-  put-back f e = e ∙ rw (same-size, take-at x (drop 16 l) 16 n)
-
   -- its memory is the one that it had
   memory-stays : memoryIn (x ++ drop 16 l) ≡ memoryIn l
   memory-stays =
-      ⊎-elim (λ a. short-memory (x ++ drop 16 l) (same-size ∙ a) ∙ sym (short-memory l a))
-      (λ b. long-memory (x ++ drop 16 l) (same-size ∙ b) ∙ ap₂ (λ (i k : ℕ). record { bits = i; code = k }) (there 3) (there 4) ∙ sym (long-memory l b)) h
+      ⊎-elim (λ a. short-memory (x ++ drop 16 l) (same-size l x h n ∙ a) ∙ sym (short-memory l a))
+      (λ b. long-memory (x ++ drop 16 l) (same-size l x h n ∙ b) ∙ ap₂ (λ (i k : ℕ). record { bits = i; code = k }) (there 3) (there 4) ∙ sym (long-memory l b)) h
     where
       there : (i : ℕ) → getD (x ++ drop 16 l) (16 + i) 0 ≡ getD l (16 + i) 0
       there i = ap (λ (k : ℕ). getD (x ++ drop 16 l) (k + i) 0) (sym n) ∙ getD-append-add x (drop 16 l) i 0 ∙ getD-drop 16 l i 0
@@ -82,17 +68,17 @@ module _ (l x : List ℕ) (h : Sized l) (n : length x ≡ 16) where
     flags-back =
         put
         ∙ ap (laid (length (x ++ drop 16 l)) (held (take 16 (x ++ drop 16 l)) pending status service)) memory-stays
-        ∙ rw (same-size, take-at x (drop 16 l) 16 n)
+        ∙ rw (same-size l x h n, take-at x (drop 16 l) 16 n)
 
     memory-back : memoryIn y ≡ memoryIn l
     memory-back =
-        ⊎-elim (λ a. short-memory y (same ∙ same-size ∙ a) ∙ sym (short-memory l a))
+        ⊎-elim (λ a. short-memory y (same ∙ same-size l x h n ∙ a) ∙ sym (short-memory l a))
         (λ b. ap memoryIn flags-back ∙ long-back (held x pending status service) (memoryIn l) n (length l) b) h
 
     pub kept-back : {left : List ℕ} → left ≡ take 19 y ++ memoryBytesOf (length y) (keptBy (memoryIn y) e 0 status)
         → left ≡ laid (length l) (held x pending status service) (keptBy (memoryIn l) e 0 status)
     kept-back k =
-        other-memory (length l) (held x pending status service) (memoryIn l) (keptBy (memoryIn y) e 0 status) n flags-back (same ∙ same-size) k
+        other-memory (length l) (held x pending status service) (memoryIn l) (keptBy (memoryIn y) e 0 status) n flags-back (same ∙ same-size l x h n) k
         ∙ ap (λ (m : Memory). laid (length l) (held x pending status service) (keptBy m e 0 status)) memory-back
 
 -- the memory's bytes after an event of the chip, by which event it is

@@ -2,3 +2,4 @@
 pub mod Laid
 pub mod States
 pub mod Cards
+pub mod Worked

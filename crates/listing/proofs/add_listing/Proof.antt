@@ -13,7 +13,11 @@ add-end-requires c κs =
     omega (arith, end-length (a .refusal) (a .taken), at-most 20 (a .refusal), at-most 20 (a .taken))
 
 returns : tie.Need-returns
-returns c = both (c .before .before .before .before .before .before .add-lines .ensures .0) (c .before .before .add-end .ensures)
+returns c =
+    let a = c .before .before .before .before .before .before .before .before .before .before .args in
+    let l = c .before .before .before .before .before .before .add-lines in
+    let e = c .before .before .add-end in
+    (both (l .ensures .0) (e .ensures), omega (arith, l .ensures .1, e .ensures .moved, end-length (a .refusal) (a .taken), at-most 20 (a .refusal), at-most 20 (a .taken)))
 
 pub add-listing-spec : {M : Type 1} → statement M
 add-listing-spec = tie.close (tie.spec (λ c κs. search needs) add-end-requires (λ c. search needs) returns)

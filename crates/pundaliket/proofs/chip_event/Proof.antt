@@ -5,7 +5,8 @@ use denote.Ref.{now}
 use Rattle.chip.specs.declared.State.{State}
 use Rattle.chip.specs.Step.{given}
 use Rattle.stored.proofs.States.{least, sized-as, state-sized, state-ready}
-use Rattle.pundaliket.proofs.Calling.{stack-size, same-size, still-sized, no-chip-event, a-chip-event}
+use Rattle.stored.proofs.Worked.{stack-size, same-size, still-sized}
+use Rattle.pundaliket.proofs.Calling.{no-chip-event, a-chip-event}
 use borrow.Author.Needs.{needs}
 use Rattle.pundaliket.proofs.chip_event.Statement.{statement}
 use Rattle.pundaliket.proofs.chip_event.Tie as tie

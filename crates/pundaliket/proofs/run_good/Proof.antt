@@ -4,7 +4,8 @@ use native.Mathlib.Omega.{arith}
 use lib.ListN.{length}
 use denote.Ref.{now}
 use Rattle.stored.proofs.States.{least}
-use Rattle.pundaliket.proofs.Calling.{stack-size, same-size, still-sized, put-back, called}
+use Rattle.stored.proofs.Worked.{stack-size, same-size, still-sized, put-back}
+use Rattle.pundaliket.proofs.Calling.{called}
 use borrow.Author.Needs.{needs}
 use Rattle.pundaliket.proofs.run_good.Statement.{statement}
 use Rattle.pundaliket.proofs.run_good.Tie as tie

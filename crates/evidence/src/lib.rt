@@ -1,0 +1,1 @@
+// The statements of module sheets: definitions and proofs, no function.

@@ -1,0 +1,2 @@
+-- What the program of the sheets prints for an input.
+pub mod Printout

@@ -1,0 +1,65 @@
+-- Document 02, ask 11, the program `./sheets`: what is printed for an input, part by part. Definitions only. Assumes nothing.
+use Prim.Native.Nat.{ℕ, _+_}
+use mathlib.Core.Bool.{cond}
+use mathlib.Core.List.{List, [], _∷_, _++_}
+use lib.ListN.{getD, replicate}
+use Rattle.terms.specs.Limits.{stateBytes, reportBytes}
+use Rattle.little.specs.Little.{fourAt}
+use Rattle.ledger.specs.Ledger.{sheetsBytes, serialAt, linesOf, isOpen}
+use Rattle.sheets.specs.Calls.{Called, callOf}
+use Rattle.listing.specs.Text.{hex}
+use Rattle.listing.specs.Listing.{blank, newline, field, replyRoom, printedOf}
+
+-- ---- how much room the parts have behind the listing
+
+-- a line of a sheet, and the line of the open one
+abbrev pub lineRoom : ℕ
+lineRoom = 64
+
+abbrev pub openRoom : ℕ
+openRoom = 32
+
+-- ---- the lines
+
+-- the words that begin them, `sheet` and `open`
+abbrev pub sheetWord : List ℕ
+sheetWord = 115 ∷ 104 ∷ 101 ∷ 101 ∷ 116 ∷ []
+
+abbrev pub openWord : List ℕ
+openWord = 111 ∷ 112 ∷ 101 ∷ 110 ∷ []
+
+-- a word of four bytes, the low one first, as eight upper-case hex digits, the most significant first, parted by a blank from what stands before
+abbrev pub wordText : ℕ → ℕ → ℕ → ℕ → List ℕ
+wordText a b c d = blank ∷ (hex d ++ (hex c ++ (hex b ++ hex a)))
+
+-- the word at a place
+abbrev pub wordFrom : List ℕ → ℕ → List ℕ
+wordFrom l i = wordText (getD l i 0) (getD l (i + 1) 0) (getD l (i + 2) 0) (getD l (i + 3) 0)
+
+-- the four words of a closed sheet, slot 0 first
+abbrev pub wordsText : List ℕ → List ℕ
+wordsText l = wordFrom l 4 ++ (wordFrom l 8 ++ (wordFrom l 12 ++ wordFrom l 16))
+
+-- the line of a closed sheet, which has 20 bytes: the serial in decimal, then its words
+abbrev pub sheetText : List ℕ → List ℕ
+sheetText l = sheetWord ++ (field (fourAt l 0) ++ (wordsText l ++ (newline ∷ [])))
+
+-- a line for each, in order
+abbrev pub sheetsText : List (List ℕ) → List ℕ
+sheetsText [] = []
+sheetsText (l ∷ ls) = sheetText l ++ sheetsText ls
+
+-- the serial of the open sheet, if one is
+abbrev pub openText : List ℕ → List ℕ
+openText sheets = cond (isOpen sheets) (openWord ++ (field (fourAt sheets serialAt) ++ (newline ∷ []))) []
+
+-- ---- what is printed
+
+-- the run that the program makes: the input on the state of a reset and on no sheets, mode and rule 0
+abbrev pub callFor : List ℕ → Called
+callFor input = callOf 0 0 (replicate stateBytes 0) (replicate sheetsBytes 0) input (replicate replyRoom 0) (replicate reportBytes 0)
+
+-- the listing of the replies and the report that this run leaves, then the closed sheets, then the open one
+abbrev pub printoutOf : List ℕ → List ℕ
+printoutOf input =
+    printedOf (callFor input .replies) (callFor input .report) ++ (sheetsText (linesOf (callFor input .sheets)) ++ openText (callFor input .sheets))

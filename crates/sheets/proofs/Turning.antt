@@ -1,0 +1,104 @@
+-- A turn of the code beside its definition: a record of this library, refused or answered; one of the core, with the sheets beside it. Assumes nothing.
+use mathlib.Core.Path.{_≡_, refl, sym, ap, subst, _∙_}
+use mathlib.Core.Bool.{Bool, true, false, cond}
+use mathlib.Core.List.{List, _++_}
+use Prim.Native.Nat.{ℕ, _+_, _≤_, _<_, zero-le}
+use native.Mathlib.Omega.{arith}
+use lib.Dec.{eqb, lit<}
+use lib.ListN.{length, drop}
+use borrow.Author.Tests.{lt-ltb, le-ltb, eq-eqb, ne-eqb}
+use Rattle.little.specs.Little.{wordAt}
+use Rattle.terms.specs.declared.Refusal.{Refusal}
+use Rattle.terms.specs.declared.Refusal.the-variants.{BadLength, NoRoom}
+use Rattle.terms.specs.Refusal.{numberOf as coreNumber}
+use Rattle.terms.specs.Limits.{mostPayload}
+use Rattle.memory.specs.declared.place.Rest.{Rest}
+use Rattle.memory.specs.Memory.{Card}
+use Rattle.memory.specs.Held.{cardAt}
+use Rattle.files.specs.Run.{Turned, Turns, idle}
+use Rattle.records.specs.declared.head.Frame.{Frame}
+use Rattle.records.specs.declared.step.Pass.{Pass}
+use Rattle.records.specs.Record.{frameUnder}
+use Rattle.records.specs.Pass.{unchanged}
+use Rattle.ledger.specs.declared.Refusal.{Refusal as SheetRefusal}
+use Rattle.ledger.specs.Ledger.{bytesAt, dropped}
+use Rattle.ledger.specs.Entering.{numberOf, payloadFor}
+use Rattle.ledger.proofs.Entering.{Enters}
+use Rattle.sheets.specs.Step.{Held, held, isFramed, isOwn, entryOf, ownReply, ownTurn, sheetsAfter, coreBy}
+use Rattle.sheets.specs.Held.{Passed}
+use Rattle.sheets.proofs.Lines.{Owns, own-kind}
+
+-- a record of a kind of this library is its own where the frame holds
+pub own-frame : (l : List ℕ) → 256 ≤ wordAt l 2 → wordAt l 2 ≤ 258 → {f : Frame} → frameUnder mostPayload l ≡ f → isFramed f ≡ isOwn l
+unfolding isOwn
+own-frame l a b e = rw (own-kind (wordAt l 2) a b, e)
+
+-- ---- a record of this library
+
+module _ (stack : List ℕ) (f : Rest) (sheets l room : List ℕ) {r : Pass} where
+  -- nothing of it is done
+  stays : (q : Refusal) → r ≡ unchanged q f → 0 < coreNumber q → Passed f (idle (coreNumber q) (held (cardAt stack f) sheets)) r stack sheets l room room
+  stays q e h = subst (λ (x : Pass). Passed f (idle (coreNumber q) (held (cardAt stack f) sheets)) x stack sheets l room room) (sym e) (record {
+    refusal-is = refl;
+    state-is = refl;
+    size-is = refl;
+    reply-is = refl;
+    left-is = refl;
+    within = zero-le;
+    fits = zero-le;
+    moves = λ z. omega arith;
+  })
+
+  pub own-bad : r ≡ unchanged BadLength f → (wordAt l 0 ≡ 2 + payloadFor (wordAt l 2) → ⊥) → Passed f (ownTurn (held (cardAt stack f) sheets) l (length room)) r stack sheets l room room
+  own-bad e z = rw (ne-eqb _ _ z) (stays BadLength e (lit< tt))
+
+  pub own-full : r ≡ unchanged NoRoom f → wordAt l 0 ≡ 2 + payloadFor (wordAt l 2) → length room < 5 → Passed f (ownTurn (held (cardAt stack f) sheets) l (length room)) r stack sheets l room room
+  own-full e q z = rw (eq-eqb _ _ q, lt-ltb _ _ z) (stays NoRoom e (lit< tt))
+
+-- answered
+pub own-done : (h : Held) (l room sheets left : List ℕ) (r : SheetRefusal) (end : ℕ) → Owns l → wordAt l 0 ≡ 2 + payloadFor (wordAt l 2) → 5 ≤ length room
+    → Enters (entryOf h (wordAt l 2) (bytesAt l 4 (payloadFor (wordAt l 2)))) r sheets
+    → left ≡ ownReply (wordAt l 2) (numberOf r) ++ drop 5 room → end ≡ 4 + payloadFor (wordAt l 2)
+    → Turns (ownTurn h l (length room)) 0 (held (h .card) sheets) end 5 l room left
+own-done h l room sheets left r end o e z n k f = rw (eq-eqb _ _ e, le-ltb _ _ z) record {
+  refusal-is = refl;
+  state-is = ap (held (h .card)) (n .1);
+  size-is = f;
+  reply-is = refl;
+  left-is = k ∙ ap (λ (q : SheetRefusal). ownReply (wordAt l 2) (numberOf q) ++ drop 5 room) (n .0);
+  within = omega (arith, o .there);
+  fits = z;
+  moves = λ z. omega arith;
+}
+
+-- ---- a record of the core
+
+pub core-turns : (h : Held) (kind : ℕ) (t : Turned Card) (refusal : ℕ) (c : Card) (size reply : ℕ) (file room left sheets : List ℕ)
+    → Turns t refusal c size reply file room left
+    → sheets ≡ sheetsAfter (h .sheets) kind (t .refusal)
+    → Turns (coreBy h kind t) refusal (held c sheets) size reply file room left
+core-turns h kind t refusal c size reply file room left sheets d e = record {
+  refusal-is = d .refusal-is;
+  state-is = ap (λ (k : Card). held k sheets) (d .state-is) ∙ ap (held (t .state)) e;
+  size-is = d .size-is;
+  reply-is = d .reply-is;
+  left-is = d .left-is;
+  within = d .within;
+  fits = d .fits;
+  moves = d .moves;
+}
+
+-- the sheets after it: as they were where it is refused or no reset, else with none open
+module _ (sheets : List ℕ) (kind refusal : ℕ) where
+  pub refused-keeps : (refusal ≡ 0 → ⊥) → sheets ≡ sheetsAfter sheets kind refusal
+  refused-keeps z = rw (ne-eqb refusal 0 z)
+
+  pub other-keeps : (kind ≡ 5 → ⊥) → sheets ≡ sheetsAfter sheets kind refusal
+  other-keeps z = rw (ne-eqb kind 5 z) (same (eqb refusal 0))
+    where
+      same : (b : Bool) → sheets ≡ cond b sheets sheets
+      same true = refl
+      same false = refl
+
+  pub reset-drops : refusal ≡ 0 → kind ≡ 5 → dropped sheets ≡ sheetsAfter sheets kind refusal
+  reset-drops z k = rw (eq-eqb refusal 0 z, eq-eqb kind 5 k)

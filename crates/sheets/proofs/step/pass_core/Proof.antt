@@ -1,0 +1,74 @@
+-- `sheets::step::pass_core` meets its contract: the core's turn, then the open sheet dropped or not. Assumes nothing.
+use mathlib.Core.Path.{sym, _∙_}
+use native.Mathlib.Omega.{arith}
+use lib.ListN.{length}
+use denote.Ref.{now}
+use Rattle.little.specs.Little.{wordAt}
+use Rattle.memory.specs.Held.{cardAt}
+use Rattle.records.specs.Record.{turnOf}
+use Rattle.sheets.specs.Step.{held}
+use Rattle.sheets.proofs.Lines.{core-took}
+use Rattle.sheets.proofs.Turning.{core-turns, refused-keeps, other-keeps, reset-drops}
+use borrow.Author.Needs.{needs}
+use Rattle.sheets.proofs.step.pass_core.Statement.{statement}
+use Rattle.sheets.proofs.step.pass_core.Tie as tie
+
+returns : tie.Need-returns
+returns c =
+    let a = c .before .before .before .before .before .before .before .before .before .before .before .before .args in
+    let k = cardAt (now (a .stack)) (a .f) in
+    let r = c .before .before .before .before .before .pass-record in
+    let t = turnOf k (now (a .rest)) (length (now (a .room))) in
+    core-turns (held k (now (a .sheets))) (wordAt (now (a .rest)) 2) t _ _ _ _ _ _ _ _ (r .ensures)
+    (refused-keeps (now (a .sheets)) (wordAt (now (a .rest)) 2) (t .refusal) (λ z. c .if1 .taken (r .ensures .refusal-is ∙ z)))
+
+returns-2 : tie.Need-returns-2
+returns-2 c =
+    let a = c .before .before .before .before .before .before .before .before .before .before .before .before .before .args in
+    let r = c .before .before .before .before .before .before .pass-record in
+    let z = sym (r .ensures .refusal-is) ∙ c .before .if1 .left in
+    let k = core-took (cardAt (now (a .stack)) (a .f)) (now (a .rest)) (length (now (a .room))) z .four in
+    let y : ⊥ = omega (arith, r .ensures .within, r .ensures .size-is) in
+    absurd y
+
+returns-3 : tie.Need-returns-3
+returns-3 c =
+    let a = c .before .before .before .before .before .before .before .before .before .before .before .before .before .before .before .before .before .args in
+    let k = cardAt (now (a .stack)) (a .f) in
+    let r = c .before .before .before .before .before .before .before .before .before .before .pass-record in
+    let t = turnOf k (now (a .rest)) (length (now (a .room))) in
+    core-turns (held k (now (a .sheets))) (wordAt (now (a .rest)) 2) t _ _ _ _ _ _ _ _ (r .ensures)
+    (other-keeps (now (a .sheets)) (wordAt (now (a .rest)) 2) (t .refusal) (λ z. c .if3 .taken (c .before .word .ensures ∙ z)))
+
+returns-4 : tie.Need-returns-4
+returns-4 c =
+    let a = c .before .before .before .before .before .before .before .before .before .before .before .before .before .before .before .before .before .before .before .before .before .args in
+    let k = cardAt (now (a .stack)) (a .f) in
+    let r = c .before .before .before .before .before .before .before .before .before .before .before .before .before .before .pass-record in
+    let t = turnOf k (now (a .rest)) (length (now (a .room))) in
+    core-turns (held k (now (a .sheets))) (wordAt (now (a .rest)) 2) t _ _ _ _ _ _ _ _ (r .ensures)
+    (c .before .before .drop-open .ensures
+    ∙ reset-drops (now (a .sheets)) (wordAt (now (a .rest)) 2) (t .refusal) (sym (r .ensures .refusal-is) ∙ c .before .before .before .before .before .before .before .before .before .if1 .left) (sym (c .before .before .before .before .before .word .ensures) ∙ c .before .before .before .before .if3 .left))
+
+pub pass-core-spec : {M : Type 1} → statement M
+pass-core-spec =
+    tie.close
+    (tie.spec
+    (λ c κs. search needs)
+    (λ c. search needs)
+    (λ c. search needs)
+    returns
+    (λ c. search needs)
+    (λ c. search needs)
+    returns-2
+    (λ c. search needs)
+    (λ c. search needs)
+    (λ c κs. search needs)
+    (λ c. search needs)
+    (λ c. search needs)
+    returns-3
+    (λ c κs. search needs)
+    (λ c. search needs)
+    (λ c. search needs)
+    (λ c. search needs)
+    returns-4)

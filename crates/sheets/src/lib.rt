@@ -1,0 +1,110 @@
+// Module sheets, a second library above the core: files of records with kinds 256 to 258 among the core's, run on a state
+// and on a ledger of sheets that the caller lends. The core's crates know nothing of it.
+pub mod run;
+pub mod step;
+
+use crate::run::run_lines;
+use ledger::bytes::is_sheets;
+use memory::place::Rest;
+use stored::fill_report;
+use stored::is_state;
+use stored::put_rest;
+use stored::rest;
+use terms::Mode;
+use terms::Refusal;
+use terms::Rule;
+use terms::is_mode;
+use terms::is_rule;
+use terms::mode_of;
+use terms::number;
+use terms::rule_of;
+ghost use mathlib.Core.Path.{_≡_};
+ghost use lib.ListN.{length};
+ghost use Rattle.terms.specs.Limits.{reportBytes};
+ghost use Rattle.terms.specs.Refusal.{numberOf};
+ghost use Rattle.chip.specs.Step.{given};
+ghost use Rattle.stored.specs.Bytes.{Sized, cardIn, reportOf};
+ghost use Rattle.ledger.specs.Ledger.{sheetsBytes};
+ghost use Rattle.sheets.specs.Step.{held, runOf};
+ghost use Rattle.sheets.specs.Calls.{Calls, callOf, ranOf};
+
+// The report of a call that is turned away: the refusal and two counts of 0.
+fn turn_away(report: &mut [u8], refusal: Refusal) -> u32
+    requires { ⌜ length (now report) ≡ reportBytes ⌝ }
+    ensures { λ r. ⌜ (r ≡ numberOf refusal) × (now (report .exit) ≡ reportOf (numberOf refusal) 0 0) ⌝ }
+{
+    let n = number(refusal);
+    fill_report(report, n, 0, 0);
+    n as u32
+}
+
+// The run on a good state and good sheets, both worked where they lie; reported.
+fn run_good(
+    mode: Mode,
+    rule: Rule,
+    state: &mut [u8],
+    sheets: &mut [u8],
+    input: &[u8],
+    replies: &mut [u8],
+    report: &mut [u8],
+) -> u32
+    requires { ⌜ Sized (now state) × (length (now sheets) ≡ sheetsBytes) × (length (now report) ≡ reportBytes) ⌝ }
+    ensures { λ r. ⌜ Calls (ranOf (length (now (state .entry))) (runOf (held (cardIn (given mode rule) (now (state .entry))) (now (sheets .entry))) (now (input .entry)) (length (now (replies .entry)))) (now (replies .entry))) r (now (state .exit)) (now (sheets .exit)) (now (replies .exit)) (now (report .exit)) ⌝ }
+{
+    let f = rest(mode, rule, state);
+    let r = run_lines(&mut state[..16], f, sheets, input, replies);
+    let after = Rest {
+        mode,
+        rule,
+        pending: r.pending,
+        status: r.status,
+        service: r.service,
+        bits: r.bits,
+        code: r.code,
+    };
+    put_rest(state, after);
+    fill_report(report, r.refusal, r.taken, r.written);
+    r.refusal as u32
+}
+
+// A file of records run on a state and on sheets. Returns the refusal; 14, then 16, 17, 13, 9 before any record.
+#[no_mangle]
+pub extern "C" fn sheets_run(
+    mode: u32,
+    rule: u32,
+    state: &mut [u8],
+    sheets: &mut [u8],
+    input: &[u8],
+    replies: &mut [u8],
+    report: &mut [u8],
+) -> u32
+    ensures { λ r. ⌜ Calls (callOf mode rule (now (state .entry)) (now (sheets .entry)) (now (input .entry)) (now (replies .entry)) (now (report .entry))) r (now (state .exit)) (now (sheets .exit)) (now (replies .exit)) (now (report .exit)) ⌝ }
+{
+    if report.len() != terms::REPORT_BYTES {
+        return number(Refusal::BadReport) as u32;
+    }
+    if !is_mode(mode) {
+        return turn_away(report, Refusal::BadMode);
+    }
+    if !is_rule(rule) {
+        return turn_away(report, Refusal::BadRule);
+    }
+    if !is_state(state) {
+        return turn_away(report, Refusal::BadState);
+    }
+    if !is_sheets(sheets) {
+        return turn_away(report, Refusal::BadState);
+    }
+    if terms::MOST_INPUT < input.len() {
+        return turn_away(report, Refusal::InputTooLong);
+    }
+    run_good(
+        mode_of(mode),
+        rule_of(rule),
+        state,
+        sheets,
+        input,
+        replies,
+        report,
+    )
+}

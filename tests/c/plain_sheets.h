@@ -1,0 +1,11 @@
+/* The same call as include/sheets.h, in plain C over plain.h's core, written from document 02 alone. Proved by nothing. */
+#ifndef PLAIN_SHEETS_H
+#define PLAIN_SHEETS_H
+
+#include <stddef.h>
+#include <stdint.h>
+
+uint32_t plain_sheets_run(uint32_t mode, uint32_t rule, uint8_t *state, size_t state_length, uint8_t *sheets, size_t sheets_length,
+                          const uint8_t *input, size_t input_length, uint8_t *replies, size_t replies_length, uint8_t *report, size_t report_length);
+
+#endif
