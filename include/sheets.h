@@ -1,9 +1,9 @@
 /*
- * Module sheets: a second library above Pundaliket's core (request 11 of document 02). C99 and C++17.
+ * Module sheets: a second library above Pundaliket's core (requests 11 and 14 of document 02). C99 and C++17.
  *
  * `rt staticlib sheets` writes target/staticlib/libsheets.a. The archive links into x86-64 programs. It holds what it needs of the
  * core, so that a program needs libpundaliket.a beside it only for the calls of pundaliket.h; both link into one program, in
- * either order. It keeps no state between calls, takes no memory and exports the function declared here and nothing else.
+ * either order. It keeps no state between calls, takes no memory and exports the functions declared here and nothing else.
  * It asks of the program: memset.
  *
  * A slice is lent as a pointer and the number of bytes behind it. The caller's duties are C's own: that many bytes are
@@ -53,6 +53,8 @@ enum {
     SHEETS_LINE_BYTES = 20,   /* a closed sheet: its serial, four words, slot 0 first, each four bytes little-endian */
     SHEETS_MOST_LINES = 64,   /* closed sheets that the list holds */
     SHEETS_REPLY_BYTES = 5,   /* a reply to one of these kinds */
+    SHEETS_FIGURES_BYTES = 53, /* the figures of a list */
+    SHEETS_SUM_DIGITS = 48,   /* the hex digits of their sum */
     SHEETS_STACK_BYTES = 2048 /* stack of a call */
 };
 
@@ -64,6 +66,16 @@ enum {
     SHEETS_AT_SERIAL = 1282, /* 4 bytes: the open sheet's serial, little-endian */
     SHEETS_AT_KEPT = 1286,   /* which of its slots were kept: bit k for slot k */
     SHEETS_AT_WORDS = 1287   /* 16 bytes: its words, slot 0 first, little-endian */
+};
+
+/* Where each of a list's figures stands. */
+enum {
+    SHEETS_AT_LINE_COUNT = 0, /* a byte: lines, that is, closed sheets */
+    SHEETS_AT_SERIALS = 1,    /* a byte: different serials */
+    SHEETS_AT_REPEATED = 2,   /* a byte: serials that stand on more than one line, each counted once */
+    SHEETS_AT_IMPROPER = 3,   /* a byte: words of slot 0 that are not proper */
+    SHEETS_AT_SIGN = 4,       /* + or -, plus for zero: the sign of the sum of the proper values of slot 0 */
+    SHEETS_AT_DIGITS = 5      /* 48 digits, 0-9A-F, the highest first: the sum's magnitude times 2^88, exact */
 };
 
 /*
@@ -93,6 +105,15 @@ uint32_t sheets_run(uint32_t mode, uint32_t rule, uint8_t *state, size_t state_l
                     const uint8_t *input, size_t input_length,
                     uint8_t *replies, size_t replies_length,
                     uint8_t *report, size_t report_length);
+
+/*
+ * The figures of a list's closed sheets. Returns the refusal: 8 for `out` not 53 bytes, then 13 for bad `sheets`, as for
+ * sheets_run. The order of the sheets makes no difference; 64 sheets always fit.
+ *
+ * sheets   1,303 bytes. Read only.
+ * out      53 bytes, written on 0 alone: lines, serials, repeated and improper, a byte each, then the sum's sign and 48 hex digits.
+ */
+uint32_t sheets_figures(const uint8_t *sheets, size_t sheets_length, uint8_t *out, size_t out_length);
 
 #ifdef __cplusplus
 }

@@ -165,7 +165,7 @@ in_words() {
             if (l % 2) said = said ", carry"
             return said == "" ? "no bit set" : substr(said, 3)
         }
-        $1 == "sheet" || $1 == "open" { print; next }
+        $1 !~ /^[0-9]+$/ && $1 != "end" { print; next }
         $1 == "end" && $2 == 0 { print $0 "  # the whole file"; next }
         $1 == "end" { print $0 "  # stopped: " why[$2]; next }
         $3 != 0 { print $0 "  # refused: " why[$3]; next }

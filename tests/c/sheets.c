@@ -1,7 +1,8 @@
 /* A C program over include/sheets.h, linked with both libraries. It checks two units' sheets, each refusal of request 11 of document
  * 02 and their order, what a reset leaves, a file cut after each byte, that no byte beyond a lent slice is written, the stack that a
  * call needs; that the core's replies and state are those of pundaliket_run with the sheets' kinds struck out; and, against the
- * plain C of plain_sheets.c, drawn, damaged and cut files on lists and states good and bad.
+ * plain C of plain_sheets.c, drawn, damaged and cut files on lists and states good and bad, and the figures of drawn lists
+ * (request 14), also with their lines in another order.
  * Prints what differs and the stack used, then 'N checks, M failed'; ends with 1 if M is not 0. */
 #include <stdio.h>
 #include <string.h>
@@ -11,8 +12,8 @@
 #include "lent.h"
 #include "plain_sheets.h"
 
-static struct slice state, sheets, input, replies, report;
-static struct slice plain_state, plain_sheets, plain_replies, plain_report;
+static struct slice state, sheets, input, replies, report, out;
+static struct slice plain_state, plain_sheets, plain_replies, plain_report, plain_out;
 
 /* ---- what must come is written out here */
 
@@ -437,6 +438,117 @@ static void struck_out(void)
     }
 }
 
+/* ---- the shift's figures, request 14 of 02 */
+
+/* the figures of the list in `left`: four counts, and the text of the sum with `zeros` digits 0 before its others and 0s behind */
+static void expect_figures(const char *what, uint8_t lines, uint8_t serials, uint8_t repeated, uint8_t improper, char sign, size_t zeros_before, const char *digits)
+{
+    uint8_t must[SHEETS_FIGURES_BYTES] = { lines, serials, repeated, improper, (uint8_t)sign };
+    memset(must + SHEETS_AT_DIGITS, '0', SHEETS_SUM_DIGITS);
+    memcpy(must + SHEETS_AT_DIGITS + zeros_before, digits, strlen(digits));
+    for (unsigned alignment = 0; alignment < 8; alignment++) {
+        lend(&sheets, alignment, SHEETS_BYTES, left);
+        lend(&out, 7 - alignment, SHEETS_FIGURES_BYTES, NULL);
+        check(sheets_figures(sheets.at, SHEETS_BYTES, out.at, out.length) == 0, what, 1);
+        check(holds(&out, must) && guarded(&out), what, 2);
+        check(holds(&sheets, left) && guarded(&sheets), what, 3);
+    }
+}
+
+/* a line of a serial whose slot 0 has this word, and the other slots bytes that do not count */
+static void counted(uint8_t at, uint32_t serial, uint32_t w)
+{
+    const uint32_t words[4] = { w, 0x01800000, 0x00400000, 0x81800000 };
+    line(at, serial, words);
+}
+
+static void examples_of_figures(void)
+{
+    /* places past the number and the open sheet do not count */
+    begin(zeros);
+    memset(left + 1, 0x81, SHEETS_AT_KEPT - 1);
+    left[SHEETS_AT_OPEN] = 1;
+    expect_figures("no sheets", 0, 0, 0, 0, '+', 0, "");
+    /* 5, 5, 5, 7: one, one, minus one and an improper word; 2^88 is a 1 before 22 digits */
+    counted(0, 5, 0x01800000);
+    counted(1, 5, 0x01800000);
+    counted(2, 5, 0x81800000);
+    counted(3, 7, 0x01400000);
+    expect_figures("5, 5, 5, 7", 4, 2, 1, 1, '+', 25, "1");
+    left[SHEETS_AT_NUMBER] = 3;
+    expect_figures("5, 5, 5", 3, 1, 1, 0, '+', 25, "1");
+    counted(3, 0x07000005, 0x81800000);
+    counted(4, 6, 0x80000000);
+    expect_figures("a sum of zero", 5, 3, 1, 1, '+', 0, "");
+    counted(5, 5, 0x82A00000);
+    expect_figures("minus two and a half", 6, 3, 1, 1, '-', 25, "28");
+    counted(6, 7, 0xC0800000);
+    expect_figures("and the least", 7, 4, 1, 1, '-', 25, "28000000000000000800000");
+    counted(7, 8, 0x02A00000);
+    expect_figures("minus the least", 8, 5, 1, 1, '-', 42, "8");
+    /* 64 of the greatest: (2^24 - 1) * 2^133 */
+    for (uint8_t i = 0; i < 64; i++)
+        counted(i, 1000u * i, 0x3FFFFFFF);
+    expect_figures("64 of the greatest", 64, 64, 0, 0, '+', 8, "1FFFFFE");
+    for (uint8_t i = 0; i < 64; i++)
+        counted(i, 1000u * (i % 32), 0xBFFFFFFF);
+    expect_figures("64 of minus the greatest", 64, 32, 32, 0, '-', 8, "1FFFFFE");
+}
+
+static void refusals_of_figures(void)
+{
+    uint8_t list[SHEETS_BYTES + 8] = { 65 };
+    for (size_t n = 0; n < 60; n++)
+        for (size_t ln = SHEETS_BYTES - 1; ln <= SHEETS_BYTES + 1; ln++) {
+            lend(&sheets, n & 7, ln, list);
+            lend(&out, n & 7, n, NULL);
+            int kept = sheets_figures(sheets.at, ln, out.at, n) == (n == SHEETS_FIGURES_BYTES ? 13 : 8) && guarded(&out) && guarded(&sheets);
+            for (size_t i = 0; i < n; i++)
+                kept = kept && out.at[i] == UNTOUCHED;
+            check(kept, "figures, 8 then 13", (unsigned)n);
+        }
+}
+
+static int figures_agree(unsigned alignment, const uint8_t *list, size_t ln, size_t n)
+{
+    lend(&sheets, alignment & 7, ln, list);
+    lend(&out, (alignment * 3) & 7, n, NULL);
+    lend(&plain_out, 0, n, NULL);
+    uint32_t a = sheets_figures(sheets.at, ln, out.at, n), b = plain_sheets_figures(sheets.at, ln, plain_out.at, n);
+    return a == b && same(&out, &plain_out) && guarded(&out) && guarded(&sheets) && holds(&sheets, list);
+}
+
+static void all_figures(void)
+{
+    uint8_t list[SHEETS_BYTES + 8] = { 0 }, before[SHEETS_FIGURES_BYTES], kept[SHEETS_LINE_BYTES];
+    for (unsigned i = 0; i < 4000; i++) {
+        draw_list(list);
+        for (size_t k = 0; k < 64; k++) {
+            uint8_t *at = list + SHEETS_AT_LINES + SHEETS_LINE_BYTES * k;
+            lay_word(at, below(2) ? below(40) : drawn() & 0xFF0000FF);
+            lay_word(at + 4, drawn_word());
+            if (k > 0 && below(4) == 0) {
+                memcpy(at + 4, at + 4 - SHEETS_LINE_BYTES, 4);
+                at[7] ^= 0x80;
+            }
+        }
+        size_t ln = below(40) ? SHEETS_BYTES : SHEETS_BYTES - 2 + below(5), n = below(40) ? SHEETS_FIGURES_BYTES : below(60);
+        check(figures_agree(i, list, ln, n), "figures of a drawn list", i);
+        if (n != SHEETS_FIGURES_BYTES || list[0] < 2 || list[0] > 64)
+            continue;
+        /* each line changes places with a drawn one */
+        memcpy(before, out.at, n);
+        for (size_t k = 0; k < list[0]; k++) {
+            uint8_t *a = list + SHEETS_AT_LINES + SHEETS_LINE_BYTES * k, *b = list + SHEETS_AT_LINES + SHEETS_LINE_BYTES * below(list[0]);
+            memcpy(kept, a, sizeof kept);
+            if (a != b)
+                memcpy(a, b, sizeof kept);
+            memcpy(b, kept, sizeof kept);
+        }
+        check(figures_agree(i, list, ln, n) && memcmp(out.at, before, n) == 0, "figures in another order", i);
+    }
+}
+
 /* ---- the stack that a call needs. It runs last, when the loader has found memset, whose own few bytes are counted in. */
 
 static uint8_t lent_state[PUNDALIKET_LONG_STATE_BYTES], lent_list[SHEETS_BYTES], lent_file[8192], lent_replies[65536], lent_report[PUNDALIKET_REPORT_BYTES];
@@ -448,6 +560,8 @@ static void call_run(void)
     sheets_run(lent_turn / 2 % 2, lent_turn / 4 % 2, lent_state, lent_turn % 2 ? 19 : 21, lent_list, sizeof lent_list, lent_file, lent_length, lent_replies, sizeof lent_replies, lent_report, sizeof lent_report);
 }
 
+static void call_figures(void) { sheets_figures(lent_list, sizeof lent_list, lent_replies, SHEETS_FIGURES_BYTES); }
+
 static void stack_of_a_call(void)
 {
     for (lent_turn = 0; lent_turn < 512; lent_turn++) {
@@ -457,6 +571,7 @@ static void stack_of_a_call(void)
         for (lent_length = 0; lent_length < 2000; k++)
             lent_length += draw_any(lent_file + lent_length, k);
         on_painted_stack(call_run);
+        on_painted_stack(call_figures);
     }
     printf("stack: %u of %u bytes\n", (unsigned)deepest, (unsigned)SHEETS_STACK_BYTES);
     check(deepest + deepest / 2 <= SHEETS_STACK_BYTES, "stack of a call, and half as much again", (unsigned)deepest);
@@ -470,6 +585,9 @@ int main(void)
     refusals_of_the_call();
     drawn_files();
     struck_out();
+    examples_of_figures();
+    refusals_of_figures();
+    all_figures();
     stack_of_a_call();
     printf("%u checks, %u failed\n", checks, failed);
     return failed != 0;

@@ -1,4 +1,4 @@
-/* Each name of include/sheets.h with its number, from request 11 of document 02: a name with another number does not
+/* Each name of include/sheets.h with its number, from requests 11 and 14 of document 02: a name with another number does not
  * compile. C99 and C++17; tests/c/run sees that no name of the header is missing here. The two headers stand side by side. */
 #include "../../include/sheets.h"
 #include "../../include/pundaliket.h"
@@ -28,3 +28,13 @@ TIE(SHEETS_AT_OPEN, 1 + 64 * 20);
 TIE(SHEETS_AT_SERIAL, 1 + 64 * 20 + 1);
 TIE(SHEETS_AT_KEPT, 1 + 64 * 20 + 1 + 4);
 TIE(SHEETS_AT_WORDS, 1 + 64 * 20 + 1 + 4 + 1);
+
+/* lines, serials, repeated, improper; the sign; the digits */
+TIE(SHEETS_FIGURES_BYTES, 4 + 1 + 48);
+TIE(SHEETS_SUM_DIGITS, 48);
+TIE(SHEETS_AT_LINE_COUNT, 0);
+TIE(SHEETS_AT_SERIALS, 1);
+TIE(SHEETS_AT_REPEATED, 2);
+TIE(SHEETS_AT_IMPROPER, 3);
+TIE(SHEETS_AT_SIGN, 4);
+TIE(SHEETS_AT_DIGITS, 5);

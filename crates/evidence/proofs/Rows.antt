@@ -27,7 +27,7 @@ use Rattle.ledger.specs.Entering.{payloadFor}
 use Rattle.ledger.proofs.Ledgers.{is-long, length-laid, length-line}
 use Rattle.sheets.specs.Step.{Held, held, coreBy, lineOf, runOf}
 use Rattle.sheets.proofs.Lines.{Owns, is-own, not-own, core-took, done, lawful}
-use Rattle.evidence.specs.Rows.{openRecord, keepRecord, closeRecord, openReply, keepReply, closeReply, StillOpenRow, OpenRow, KeepNoneRow, KeepSlotRow, KeepHalfRow, KeepRow, CloseNoneRow, CloseLacksRow, CloseFullRow, CloseRow, ResetRow, OthersRow, NoRoomRow, PayloadRow, NoKindRow}
+use Rattle.evidence.specs.Rows.{openRecord, keepRecord, closeRecord, openReply, keepReply, closeReply, StillOpenRow, OpenRow, KeepNoneRow, KeepSlotRow, KeepHalfRow, KeepRow, CloseNoneRow, CloseLacksRow, CloseFullRow, CloseRow, ResetRow, OthersRow, CoreRow, NoRoomRow, PayloadRow, NoKindRow}
 use Rattle.ledger.proofs.Laid.{parts, before-laid, in-laid, bytes-before, bytes-behind, bytes-set-front}
 use Rattle.ledger.proofs.Bits.{bits, own-bit}
 use Rattle.evidence.proofs.Agreeing.{closedIn-laid}
@@ -231,6 +231,16 @@ others-row h l room some low other =
     (either-eq (λ (k : List ℕ). k ≡ h .sheets) (t .refusal) 0 _ _
     (λ z. either-eq (λ (k : List ℕ). k ≡ h .sheets) (wordAt l 2) 5 _ _ (λ k. absurd (other k z)) (λ k. refl))
     (λ z. refl))
+
+pub core-row : CoreRow
+unfolding lineOf
+core-row h l room other =
+    rw (not-own l (λ o. let a = o .least in let b = o .most in let y = other a in omega arith)) record {
+      refusal-is = refl;
+      card-is = refl;
+      size-is = refl;
+      reply-is = refl;
+    }
 
 -- ---- a record that stops
 

@@ -9,9 +9,9 @@ use Rattle.stack.specs.Stack.{tos, zeros}
 use Rattle.chip.specs.declared.State.{State}
 use Rattle.chip.specs.State.{busy, afterReset}
 use Rattle.memory.specs.declared.Memory.{Memory}
-use Rattle.memory.specs.Memory.{cardWith, emptyMemory}
+use Rattle.memory.specs.Memory.{Card, cardWith, emptyMemory}
 use Rattle.little.specs.Little.{wordAt}
-use Rattle.files.specs.Run.{ended, took}
+use Rattle.files.specs.Run.{Turned, ended, took}
 use Rattle.records.specs.Record.{turnOf as coreTurn}
 use Rattle.ledger.specs.Ledger.{isSheets}
 use Rattle.sheets.specs.Step.{Held, held, lineOf, runOf}
@@ -135,6 +135,16 @@ abbrev pub OthersRow : Type 0
 OthersRow =
     (h : Held) (l : List ℕ) (room : ℕ) → 0 < length l → wordAt l 2 < 256 → (wordAt l 2 ≡ 5 → coreTurn (h .card) l room .refusal ≡ 0 → ⊥)
     → lineOf h l room .state .sheets ≡ h .sheets
+
+-- a record of another kind, whole or not, is the core's: its refusal, its bytes, its reply and the card after it
+pub record CoreTurn (line : Turned Held) (core : Turned Card) : Type 0 where
+  pub refusal-is : line .refusal ≡ core .refusal
+  pub card-is : line .state .card ≡ core .state
+  pub size-is : line .size ≡ core .size
+  pub reply-is : line .reply ≡ core .reply
+
+abbrev pub CoreRow : Type 0
+CoreRow = (h : Held) (l : List ℕ) (room : ℕ) → (256 ≤ wordAt l 2 → 258 < wordAt l 2) → CoreTurn (lineOf h l room) (coreTurn (h .card) l room)
 
 -- ---- the records that stop a run, with nothing done
 

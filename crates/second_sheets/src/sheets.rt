@@ -257,7 +257,7 @@ fn next(
 }
 
 // A number over 64, open over 1 and kept over 15 are no sheets.
-fn is_sheets(s: &[u8]) -> bool {
+pub fn is_sheets(s: &[u8]) -> bool {
     let size = s.len() == 1303;
     let number = bytes::get(s, 0) < 65;
     size & number & (bytes::get(s, OPEN) < 2) & (bytes::get(s, KEPT) < 16)

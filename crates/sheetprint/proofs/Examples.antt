@@ -1,10 +1,13 @@
--- The line of a closed sheet, and a file that opens one, through run and text. Computed from the definitions. Assumes nothing.
+-- The line of a closed sheet, and a file that opens one, through run, text and figures. Computed from the definitions. Assumes nothing.
 use mathlib.Core.Path.{_≡_, refl}
-use mathlib.Core.List.{List, [], _∷_}
+use mathlib.Core.List.{List, [], _∷_, _++_}
+use lib.ListN.{replicate}
 use Rattle.files.specs.Run.{run, runBy}
 use Rattle.records.specs.Record.{frameUnder}
 use Rattle.stored.specs.Bytes.{isState}
 use Rattle.ledger.specs.Ledger.{isSheets}
+use Rattle.figures.specs.Figures.{sum88}
+use Rattle.figures.specs.Telling.{figuresOf}
 use Rattle.sheets.specs.Step.{isOwn, lineOf}
 use Rattle.sheets.specs.Calls.{callOf}
 use Rattle.listing.specs.Text.{spelled}
@@ -17,10 +20,15 @@ pub sheet-line : sheetText (7 ∷ 0 ∷ 0 ∷ 0 ∷ 218 ∷ 15 ∷ 201 ∷ 2 ∷
 unfolding spelled
 sheet-line = refl
 
--- a sheet opened for serial 258, 2 and 1 being its low bytes: `1 256 0`, `end 0 8`, `open 258`
+-- a sheet opened for serial 258, 2 and 1 being its low bytes: `1 256 0`, `end 0 8`, `open 258`, and the figures of no sheets
 pub open-printed : printoutOf (6 ∷ 0 ∷ 0 ∷ 1 ∷ 2 ∷ 1 ∷ 0 ∷ 0 ∷ [])
     ≡ 49 ∷ 32 ∷ 50 ∷ 53 ∷ 54 ∷ 32 ∷ 48 ∷ 10
     ∷ 101 ∷ 110 ∷ 100 ∷ 32 ∷ 48 ∷ 32 ∷ 56 ∷ 10
-    ∷ 111 ∷ 112 ∷ 101 ∷ 110 ∷ 32 ∷ 50 ∷ 53 ∷ 56 ∷ 10 ∷ []
-unfolding callOf isState isSheets run runBy lineOf isOwn frameUnder spelled hasReply linesUpTo
+    ∷ 111 ∷ 112 ∷ 101 ∷ 110 ∷ 32 ∷ 50 ∷ 53 ∷ 56 ∷ 10
+    ∷ 108 ∷ 105 ∷ 110 ∷ 101 ∷ 115 ∷ 32 ∷ 48 ∷ 10
+    ∷ 115 ∷ 101 ∷ 114 ∷ 105 ∷ 97 ∷ 108 ∷ 115 ∷ 32 ∷ 48 ∷ 10
+    ∷ 114 ∷ 101 ∷ 112 ∷ 101 ∷ 97 ∷ 116 ∷ 101 ∷ 100 ∷ 32 ∷ 48 ∷ 10
+    ∷ 105 ∷ 109 ∷ 112 ∷ 114 ∷ 111 ∷ 112 ∷ 101 ∷ 114 ∷ 32 ∷ 48 ∷ 10
+    ∷ 115 ∷ 117 ∷ 109 ∷ 32 ∷ 43 ∷ (replicate 48 48 ++ (10 ∷ []))
+unfolding callOf figuresOf sum88 isState isSheets run runBy lineOf isOwn frameUnder spelled hasReply linesUpTo
 open-printed = refl

@@ -1,8 +1,8 @@
 -- How long the lines are, and that the lines of the sheets come one sheet at a time. Assumes nothing.
 use mathlib.Core.Path.{_≡_, refl, sym, ap, subst, _∙_}
-use mathlib.Core.Bool.{true, false}
+use mathlib.Core.Bool.{Bool, true, false, cond}
 use mathlib.Core.List.{List, [], _∷_, _++_, append-assoc, append-nil}
-use Prim.Native.Nat.{ℕ, zero, suc, _+_, _*_, _-_, _/_, _%_, _≤_, _<_}
+use Prim.Native.Nat.{ℕ, zero, suc, _+_, _*_, _-_, _/_, _%_, _≤_, _<_, zero-le}
 use native.Mathlib.Omega.{arith}
 use native.Mathlib.Numerals.{add-one}
 use lib.ListN.{length, take, drop, length-append, length-drop}
@@ -13,7 +13,7 @@ use Rattle.listing.specs.Text.{digit, decimal, Adds}
 use Rattle.listing.specs.Listing.{newline, field, printedOf}
 use Rattle.listing.proofs.Adding.{nothing}
 use Rattle.listing.proofs.Decimal.{at-most}
-use Rattle.sheetprint.specs.Printout.{sheetWord, openWord, wordText, wordsText, sheetText, sheetsText, openText, callFor, printoutOf}
+use Rattle.sheetprint.specs.Printout.{sheetWord, openWord, wordText, wordsText, sheetText, sheetsText, openText, figureText, figuresText, figuresFor, callFor, printoutOf}
 
 -- the line of a sheet has room
 pub sheet-length : (l : List ℕ) → length (sheetText l) ≡ length (decimal (fourAt l 0)) + 43
@@ -81,10 +81,24 @@ pub all-lines : (l : List ℕ) (i : ℕ) {before after : List ℕ} {place new : 
     → Adds (sheetsText (lines i (drop 1 l))) before after place new → Adds (sheetsText (linesOf l)) before after place new
 all-lines l i {before} {after} {place} {new} e x = subst (λ (k : ℕ). Adds (sheetsText (lines k (drop 1 l))) before after place new) e x
 
+-- the line of the open one has room
+pub open-short : (l : List ℕ) → length (openText l) ≤ 32
+open-short l = pick (isOpen l)
+  where
+    pick : (b : Bool) → length (cond b (openWord ++ (field (fourAt l serialAt) ++ (newline ∷ []))) []) ≤ 32
+    pick true = omega (arith, length-append (decimal (fourAt l serialAt)) (newline ∷ []), at-most 20 (fourAt l serialAt))
+    pick false = zero-le
+
+-- and so has a figure's
+pub figure-short : (name : List ℕ) (n : ℕ) → length (figureText name n) ≤ length name + 22
+figure-short name n = omega (arith, length-append name (field n ++ (newline ∷ [])), length-append (decimal n) (newline ∷ []), at-most 20 n)
+
 -- what the run left has the input's printout
-pub of-run : (input : List ℕ) {replies report sheets : List ℕ} → replies ≡ callFor input .replies → report ≡ callFor input .report → sheets ≡ callFor input .sheets
-    → printedOf replies report ++ (sheetsText (linesOf sheets) ++ openText sheets) ≡ printoutOf input
-of-run input {replies} {report} {sheets} e f g =
-    ap (λ (l : List ℕ). printedOf l report ++ (sheetsText (linesOf sheets) ++ openText sheets)) e
-    ∙ ap (λ (l : List ℕ). printedOf (callFor input .replies) l ++ (sheetsText (linesOf sheets) ++ openText sheets)) f
-    ∙ ap (λ (l : List ℕ). printedOf (callFor input .replies) (callFor input .report) ++ (sheetsText (linesOf l) ++ openText l)) g
+pub of-run : (input : List ℕ) {replies report sheets figures : List ℕ} → replies ≡ callFor input .replies → report ≡ callFor input .report → sheets ≡ callFor input .sheets
+    → figures ≡ figuresFor sheets
+    → printedOf replies report ++ (sheetsText (linesOf sheets) ++ (openText sheets ++ figuresText figures)) ≡ printoutOf input
+of-run input {replies} {report} {sheets} {figures} e f g h =
+    ap (λ (l : List ℕ). printedOf l report ++ (sheetsText (linesOf sheets) ++ (openText sheets ++ figuresText figures))) e
+    ∙ ap (λ (l : List ℕ). printedOf (callFor input .replies) l ++ (sheetsText (linesOf sheets) ++ (openText sheets ++ figuresText figures))) f
+    ∙ ap (λ (l : List ℕ). printedOf (callFor input .replies) (callFor input .report) ++ (sheetsText (linesOf sheets) ++ (openText sheets ++ figuresText l))) h
+    ∙ ap (λ (l : List ℕ). printedOf (callFor input .replies) (callFor input .report) ++ (sheetsText (linesOf l) ++ (openText l ++ figuresText (figuresFor l)))) g

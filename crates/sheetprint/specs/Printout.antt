@@ -1,23 +1,27 @@
--- Document 02, ask 11, the program `./sheets`: what is printed for an input, part by part. Definitions only. Assumes nothing.
+-- Document 02, asks 11 and 14, the program `./sheets`: what is printed for an input, part by part. Definitions only. Assumes nothing.
 use Prim.Native.Nat.{ℕ, _+_}
 use mathlib.Core.Bool.{cond}
 use mathlib.Core.List.{List, [], _∷_, _++_}
-use lib.ListN.{getD, replicate}
+use lib.ListN.{getD, drop, replicate}
 use Rattle.terms.specs.Limits.{stateBytes, reportBytes}
 use Rattle.little.specs.Little.{fourAt}
 use Rattle.ledger.specs.Ledger.{sheetsBytes, serialAt, linesOf, isOpen}
+use Rattle.figures.specs.Telling.{figuresBytes, figuresOf}
 use Rattle.sheets.specs.Calls.{Called, callOf}
 use Rattle.listing.specs.Text.{hex}
 use Rattle.listing.specs.Listing.{blank, newline, field, replyRoom, printedOf}
 
 -- ---- how much room the parts have behind the listing
 
--- a line of a sheet, and the line of the open one
+-- a line of a sheet, the line of the open one, and the figures
 abbrev pub lineRoom : ℕ
 lineRoom = 64
 
 abbrev pub openRoom : ℕ
 openRoom = 32
+
+abbrev pub figuresRoom : ℕ
+figuresRoom = 192
 
 -- ---- the lines
 
@@ -53,13 +57,49 @@ sheetsText (l ∷ ls) = sheetText l ++ sheetsText ls
 abbrev pub openText : List ℕ → List ℕ
 openText sheets = cond (isOpen sheets) (openWord ++ (field (fourAt sheets serialAt) ++ (newline ∷ []))) []
 
+-- ---- the figures
+
+-- their names: `lines`, `serials`, `repeated`, `improper`, and `sum` with the blank behind it
+abbrev pub linesWord : List ℕ
+linesWord = 108 ∷ 105 ∷ 110 ∷ 101 ∷ 115 ∷ []
+
+abbrev pub serialsWord : List ℕ
+serialsWord = 115 ∷ 101 ∷ 114 ∷ 105 ∷ 97 ∷ 108 ∷ 115 ∷ []
+
+abbrev pub repeatedWord : List ℕ
+repeatedWord = 114 ∷ 101 ∷ 112 ∷ 101 ∷ 97 ∷ 116 ∷ 101 ∷ 100 ∷ []
+
+abbrev pub improperWord : List ℕ
+improperWord = 105 ∷ 109 ∷ 112 ∷ 114 ∷ 111 ∷ 112 ∷ 101 ∷ 114 ∷ []
+
+abbrev pub sumWord : List ℕ
+sumWord = 115 ∷ 117 ∷ 109 ∷ blank ∷ []
+
+-- a name and a count in decimal
+abbrev pub figureText : List ℕ → ℕ → List ℕ
+figureText name n = name ++ (field n ++ (newline ∷ []))
+
+-- of the 53 bytes that tell them: four counts
+abbrev pub countsText : List ℕ → List ℕ
+countsText l =
+    figureText linesWord (getD l 0 0)
+    ++ (figureText serialsWord (getD l 1 0) ++ (figureText repeatedWord (getD l 2 0) ++ figureText improperWord (getD l 3 0)))
+
+-- then the sign and the digits of the sum
+abbrev pub figuresText : List ℕ → List ℕ
+figuresText l = countsText l ++ (sumWord ++ (drop 4 l ++ (newline ∷ [])))
+
+-- those of a slice
+abbrev pub figuresFor : List ℕ → List ℕ
+figuresFor sheets = figuresOf sheets (replicate figuresBytes 0) .out
+
 -- ---- what is printed
 
 -- the run that the program makes: the input on the state of a reset and on no sheets, mode and rule 0
 abbrev pub callFor : List ℕ → Called
 callFor input = callOf 0 0 (replicate stateBytes 0) (replicate sheetsBytes 0) input (replicate replyRoom 0) (replicate reportBytes 0)
 
--- the listing of the replies and the report that this run leaves, then the closed sheets, then the open one
+-- the listing of the replies and the report that this run leaves, then the closed sheets, then the open one, then the figures
 abbrev pub printoutOf : List ℕ → List ℕ
 printoutOf input =
-    printedOf (callFor input .replies) (callFor input .report) ++ (sheetsText (linesOf (callFor input .sheets)) ++ openText (callFor input .sheets))
+    printedOf (callFor input .replies) (callFor input .report) ++ (sheetsText (linesOf (callFor input .sheets)) ++ (openText (callFor input .sheets) ++ figuresText (figuresFor (callFor input .sheets))))

@@ -1,12 +1,14 @@
 // What the program of the sheets prints for an input: the run from reset with no sheets, the listing of its replies,
-// a line for each closed sheet, and the open one. The program only reads, calls this and writes.
+// a line for each closed sheet, the open one, and the figures. The program only reads, calls this and writes.
 ghost use mathlib.Core.Path.{_≡_};
 ghost use Prim.Native.Nat.{_+_, _*_, _≤_};
 ghost use lib.ListN.{length, take};
 ghost use Rattle.io.specs.Counts.{Counts};
 ghost use Rattle.ledger.specs.Ledger.{sheetsBytes, mostSheets, placeBytes, closedIn, linesOf};
+ghost use Rattle.figures.specs.Telling.{figuresBytes};
 ghost use Rattle.listing.specs.Text.{Adds};
-ghost use Rattle.sheetprint.specs.Printout.{lineRoom, openRoom, wordText, wordsText, sheetText, sheetsText, openText, printoutOf};
+ghost use Rattle.sheetprint.specs.Printout.{lineRoom, openRoom, figuresRoom, wordText, wordsText, sheetText, sheetsText, openText, figureText, countsText, figuresText, printoutOf};
+use figures::FIGURES_BYTES;
 use ledger::bytes::PLACE_BYTES;
 use ledger::bytes::SERIAL_AT;
 use ledger::bytes::SHEETS_BYTES;
@@ -20,8 +22,8 @@ use little::four_at;
 use terms::REPORT_BYTES;
 use terms::STATE_BYTES;
 
-// Room for any text: the listing's, 64 bytes for each of 64 sheets, 32 for the open one.
-pub const PRINT_ROOM: usize = 266318;
+// Room for any text: the listing's, 64 bytes for each of 64 sheets, 32 for the open one, 192 for the figures.
+pub const PRINT_ROOM: usize = 266510;
 
 // A blank, and a word as eight hex digits; its bytes come the low one first.
 fn add_word(out: &mut [u8], place: usize, a: u8, b: u8, c: u8, d: u8) -> usize
@@ -87,6 +89,7 @@ fn add_sheets(out: &mut [u8], place: usize, sheets: &[u8]) -> usize
 fn add_open(out: &mut [u8], place: usize, sheets: &[u8]) -> usize
     requires { ⌜ (length (now sheets) ≡ sheetsBytes) × (place + openRoom ≤ length (now out)) ⌝ }
     ensures { λ r. ⌜ Adds (openText (now (sheets .entry))) (now (out .entry)) (now (out .exit)) place r ⌝ }
+    ensures { λ r. ⌜ r ≤ place + openRoom ⌝ }
 {
     if !is_open(sheets) {
         return place;
@@ -94,6 +97,40 @@ fn add_open(out: &mut [u8], place: usize, sheets: &[u8]) -> usize
     let a = add(out, place, b"open");
     let b = add_field(out, a, four_at(sheets, SERIAL_AT) as u64);
     add(out, b, b"\n")
+}
+
+// A name and a count.
+fn add_figure(out: &mut [u8], place: usize, name: &[u8], n: u8) -> usize
+    requires { ⌜ place + length (now name) + 22 ≤ length (now out) ⌝ }
+    ensures { λ r. ⌜ Adds (figureText (now (name .entry)) n) (now (out .entry)) (now (out .exit)) place r ⌝ }
+    ensures { λ r. ⌜ r ≤ place + length (now (name .entry)) + 22 ⌝ }
+{
+    let a = add(out, place, name);
+    let b = add_field(out, a, n as u64);
+    add(out, b, b"\n")
+}
+
+// The four counts.
+fn add_counts(out: &mut [u8], place: usize, figures: &[u8]) -> usize
+    requires { ⌜ (length (now figures) ≡ figuresBytes) × (place + 116 ≤ length (now out)) ⌝ }
+    ensures { λ r. ⌜ Adds (countsText (now (figures .entry))) (now (out .entry)) (now (out .exit)) place r ⌝ }
+    ensures { λ r. ⌜ r ≤ place + 116 ⌝ }
+{
+    let a = add_figure(out, place, b"lines", figures[0]);
+    let b = add_figure(out, a, b"serials", figures[1]);
+    let c = add_figure(out, b, b"repeated", figures[2]);
+    add_figure(out, c, b"improper", figures[3])
+}
+
+// The four counts, then the sum.
+fn add_figures(out: &mut [u8], place: usize, figures: &[u8]) -> usize
+    requires { ⌜ (length (now figures) ≡ figuresBytes) × (place + figuresRoom ≤ length (now out)) ⌝ }
+    ensures { λ r. ⌜ Adds (figuresText (now (figures .entry))) (now (out .entry)) (now (out .exit)) place r ⌝ }
+{
+    let a = add_counts(out, place, figures);
+    let b = add(out, a, b"sum ");
+    let c = add(out, b, &figures[4..]);
+    add(out, c, b"\n")
 }
 
 // The text for an input, at the front of the lent text: the answer says how many bytes.
@@ -116,5 +153,8 @@ pub fn print(input: &[u8], text: &mut [u8; PRINT_ROOM]) -> usize
     );
     let a = add_printed(text, &replies, &report);
     let b = add_sheets(text, a, &sheets);
-    add_open(text, b, &sheets)
+    let c = add_open(text, b, &sheets);
+    let mut figures = [0u8; FIGURES_BYTES];
+    sheets::sheets_figures(&sheets, &mut figures);
+    add_figures(text, c, &figures)
 }

@@ -1,9 +1,10 @@
 // Module sheets, a second library above the core: files of records with kinds 256 to 258 among the core's, run on a state
-// and on a ledger of sheets that the caller lends. The core's crates know nothing of it.
+// and on a ledger of sheets that the caller lends; and the figures of such a ledger. The core's crates know nothing of it.
 pub mod run;
 pub mod step;
 
 use crate::run::run_lines;
+use figures::put_figures;
 use ledger::bytes::is_sheets;
 use memory::place::Rest;
 use stored::fill_report;
@@ -25,6 +26,7 @@ ghost use Rattle.terms.specs.Refusal.{numberOf};
 ghost use Rattle.chip.specs.Step.{given};
 ghost use Rattle.stored.specs.Bytes.{Sized, cardIn, reportOf};
 ghost use Rattle.ledger.specs.Ledger.{sheetsBytes};
+ghost use Rattle.figures.specs.Telling.{figuresOf, Tells};
 ghost use Rattle.sheets.specs.Step.{held, runOf};
 ghost use Rattle.sheets.specs.Calls.{Calls, callOf, ranOf};
 
@@ -107,4 +109,13 @@ pub extern "C" fn sheets_run(
         replies,
         report,
     )
+}
+
+// The shift's figures of a `sheets` slice, 53 bytes: lines, different serials, serials on more than one line, slot 0 words
+// that are not proper, the exact sum. Returns the refusal; 8, then 13; only on 0 is `out` written.
+#[no_mangle]
+pub extern "C" fn sheets_figures(sheets: &[u8], out: &mut [u8]) -> u32
+    ensures { λ r. ⌜ Tells (figuresOf (now (sheets .entry)) (now (out .entry))) r (now (out .exit)) ⌝ }
+{
+    put_figures(sheets, out)
 }

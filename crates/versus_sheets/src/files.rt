@@ -2,7 +2,7 @@
 use cases::bytes;
 use cases::words;
 
-fn put(s: &mut [u8], i: usize, b: u8) {
+pub fn put(s: &mut [u8], i: usize, b: u8) {
     if i < s.len() {
         s[i] = b;
     }

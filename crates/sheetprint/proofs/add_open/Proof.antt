@@ -4,7 +4,7 @@ use denote.Ref.{now}
 use Rattle.ledger.proofs.Entering.{failed, passed}
 use Rattle.listing.proofs.Adding.{both}
 use Rattle.listing.proofs.Decimal.{at-most}
-use Rattle.sheetprint.proofs.Lines.{none-open, open-of}
+use Rattle.sheetprint.proofs.Lines.{none-open, open-of, open-short}
 use borrow.Author.Needs.{needs}
 use Rattle.sheetprint.proofs.add_open.Statement.{statement}
 use Rattle.sheetprint.proofs.add_open.Tie as tie
@@ -13,7 +13,7 @@ returns : tie.Need-returns
 returns c =
     let a = c .before .before .before .before .args in
     let o = c .before .is-open in
-    none-open (now (a .sheets)) (now (a .out)) (a .place) (failed (o .result) _ (o .ensures) (c .if1 .taken))
+    (none-open (now (a .sheets)) (now (a .out)) (a .place) (failed (o .result) _ (o .ensures) (c .if1 .taken)), omega arith)
 
 add-field-requires : tie.Need-add-field-requires
 add-field-requires c κs = omega (arith, at-most 20 (c .four-at .result))
@@ -25,9 +25,11 @@ returns-2 : tie.Need-returns-2
 returns-2 c =
     let a = c .before .before .before .before .before .before .before .before .before .before .before .before .before .before .before .before .before .before .before .args in
     let o = c .before .before .before .before .before .before .before .before .before .before .before .before .before .before .before .before .is-open in
+    let x =
     open-of (now (a .sheets)) (passed (o .result) _ (o .ensures) (c .before .before .before .before .before .before .before .before .before .before .before .before .before .before .before .if1 .left)) (c .before .before .before .before .before .before .before .before .four-at .ensures)
     (both (c .before .before .before .before .before .before .before .before .before .before .before .before .add .ensures)
-    (both (c .before .before .before .before .before .before .before .add-field .ensures) (c .before .before .add2 .ensures)))
+    (both (c .before .before .before .before .before .before .before .add-field .ensures) (c .before .before .add2 .ensures))) in
+    (x, omega (arith, x .moved, open-short (now (a .sheets))))
 
 pub add-open-spec : {M : Type 1} → statement M
 add-open-spec =

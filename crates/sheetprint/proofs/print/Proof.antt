@@ -1,4 +1,4 @@
--- `sheetprint::print` adds the listing of the run, the closed sheets that it left, which are at most 64, and the open one. Assumes nothing.
+-- `sheetprint::print` adds the listing of the run, the closed sheets that it left, which are at most 64, the open one, and the figures. Assumes nothing.
 use mathlib.Core.Path.{sym, subst, _∙_}
 use mathlib.Core.List.{List}
 use Prim.Native.Nat.{ℕ, _≤_}
@@ -22,12 +22,16 @@ add-open-requires : tie.Need-add-open-requires
 add-open-requires c κs =
     (search needs, omega (arith, c .before .before .add-sheets .ensures .1, c .before .before .before .before .before .add-printed .ensures .1))
 
+add-figures-requires : tie.Need-add-figures-requires
+add-figures-requires c κs =
+    (search needs, omega (arith, c .before .before .before .before .before .before .add-open .ensures .1, c .before .before .before .before .before .before .before .before .before .add-sheets .ensures .1, c .before .before .before .before .before .before .before .before .before .before .before .before .add-printed .ensures .1))
+
 returns : tie.Need-returns
 returns c =
-    let input = now (c .before .before .before .before .before .before .before .before .before .before .before .before .before .before .before .before .before .before .before .before .args .input) in
-    let r = c .before .before .before .before .before .before .before .before .before .before .before .before .before .before .sheets-run .ensures in
-    let x = both (c .before .before .before .before .before .before .add-printed .ensures .0) (both (c .before .before .before .add-sheets .ensures .0) (c .add-open .ensures)) in
-    (counted x, x .reads ∙ of-run input (r .replies-is) (r .report-is) (r .sheets-is))
+    let input = now (c .before .before .before .before .before .before .before .before .before .before .before .before .before .before .before .before .before .before .before .before .before .before .before .before .before .before .before .args .input) in
+    let r = c .before .before .before .before .before .before .before .before .before .before .before .before .before .before .before .before .before .before .before .before .before .sheets-run .ensures in
+    let x = both (c .before .before .before .before .before .before .before .before .before .before .before .before .before .add-printed .ensures .0) (both (c .before .before .before .before .before .before .before .before .before .before .add-sheets .ensures .0) (both (c .before .before .before .before .before .before .before .add-open .ensures .0) (c .add-figures .ensures))) in
+    (counted x, x .reads ∙ of-run input (r .replies-is) (r .report-is) (r .sheets-is) (c .before .before .before .before .sheets-figures .ensures .out-is))
 
 pub print-spec : {M : Type 1} → statement M
 print-spec =
@@ -43,4 +47,9 @@ print-spec =
     add-sheets-requires
     (λ c. search needs)
     add-open-requires
+    (λ c. search needs)
+    (λ c. search needs)
+    (λ c κs. search needs)
+    (λ c. search needs)
+    add-figures-requires
     returns)
