@@ -81,6 +81,3 @@ given mode rule = record { mode = mode; rule = rule }
 -- a mode, and the one rule of the base
 abbrev pub under : Mode → Settings
 under mode = given mode baseRule
-
-abbrev pub eventOf : Mode → State → Event → Answer
-eventOf mode s e = answerTo (under mode) s e

@@ -1,15 +1,15 @@
 -- The bytes of the sheets agree with the history of the records: each record that is answered keeps them so. Assumes nothing.
 use mathlib.Core.Path.{_≡_, refl, sym, ap, subst, _∙_}
 use mathlib.Core.Bool.{Bool, true, false, cond}
-use mathlib.Core.List.{List, [], _∷_, _++_, append-assoc, append-nil}
-use Prim.Native.Nat.{ℕ, zero, suc, _+_, _*_, _-_, _/_, _%_, _^_, _≤_, _<_, zero-le}
+use mathlib.Core.List.{List, [], _∷_, _++_}
+use Prim.Native.Nat.{ℕ, suc, _+_, _*_, _/_, _%_, _^_, _≤_, _<_}
 use native.Mathlib.Omega.{arith}
-use native.Mathlib.Nat.{le-refl, not-suc-le-zero, zero-div}
+use native.Mathlib.Nat.{zero-div}
 use native.Mathlib.Numerals.{add-one}
-use lib.Dec.{eqb, ltb, lit<, lit≤}
-use lib.ListN.{length, getD, set, take, drop, replicate, length-drop, length-set, length-append}
-use lib.Seq.{getD-take, getD-set-same, getD-set-other, drop-drop, take-add, length-take-le, take-set-le}
-use borrow.Author.Tests.{eq-eqb, ne-eqb}
+use lib.Dec.{eqb, lit<, lit≤}
+use lib.ListN.{length, getD, set, take, drop, replicate, length-set}
+use lib.Seq.{getD-take, getD-set-same, getD-set-other, drop-drop, take-add}
+use borrow.Author.Tests.{ne-eqb}
 use Rattle.little.specs.Little.{wordAt, le4}
 use Rattle.files.proofs.Tests.{either-lt, either-eq}
 use Rattle.ledger.specs.Ledger.{closedIn, isOpen, keptBits, bytesAt, laidAt, withBit, dropped, opened, keptIn, closed, lines, linesOf}

@@ -2,25 +2,23 @@
 use mathlib.Core.Path.{_≡_, refl, sym, ap, subst, _∙_}
 use mathlib.Core.Bool.{Bool, true, false, cond}
 use mathlib.Core.Logic.{_⊎_, inl, inr}
-use mathlib.Core.List.{List, [], _∷_, _++_}
+use mathlib.Core.List.{List, _∷_, _++_}
 use Prim.Native.Nat.{ℕ, zero, suc, _+_, _*_, _-_, _/_, _%_, _≤_, _<_, zero-le}
 use native.Mathlib.Omega.{arith}
 use native.Mathlib.Nat.{le-refl}
-use lib.Dec.{eqb, ltb, leb}
+use lib.Dec.{leb}
 use lib.ListN.{length, getD, take, drop, length-append, length-drop}
 use lib.Seq.{take-append-seam, drop-append-seam, length-take-le, getD-drop}
 use borrow.Author.Tests.{ne-eqb, leb-true}
 use Rattle.little.specs.Little.{wordAt}
-use Rattle.terms.specs.Settings.{Settings, modeOf, ruleOf}
+use Rattle.terms.specs.Settings.{modeOf, ruleOf}
 use Rattle.chip.specs.Step.{given}
-use Rattle.files.specs.Run.{Outcome}
 use Rattle.files.proofs.Tests.{either-lt, either-eq}
 use Rattle.files.proofs.Through.{tally}
 use Rattle.memory.specs.Memory.{Card}
 use Rattle.records.specs.Run.{runOf as coreRun}
 use Rattle.records.proofs.Prefix.{lawful as core-lawful}
 use Rattle.stored.specs.Bytes.{isState, cardIn, laidOut, reportOf}
-use Rattle.pundaliket.specs.Calls.{callOf as coreCall}
 use Rattle.pundaliket.proofs.Calling.{good as core-good}
 use Rattle.ledger.specs.Ledger.{isSheets}
 use Rattle.ledger.proofs.Ledgers.{good as good-sheets}
@@ -28,12 +26,12 @@ use Rattle.sheets.specs.Step.{Held, held, isOwnKind, runOf}
 use Rattle.sheets.specs.Calls.{Called, callOf, ranOf}
 use Rattle.sheets.proofs.Lines.{lawful}
 use Rattle.sheets.proofs.Growth.{good as stands, same}
-use Rattle.sheets.proofs.Calling.{bad-report, bad-mode, bad-rule, bad-state, bad-sheets, too-long, good}
+use Rattle.sheets.proofs.Calling.{bad-mode, bad-rule, bad-state, bad-sheets, too-long, good}
 use Rattle.evidence.specs.Whole.{split, recordsOf, joined, struck, struckReplies}
 use Rattle.evidence.specs.PowerCut.{Told}
 use Rattle.evidence.specs.StruckOut.{Struck}
 use Rattle.sheets.specs.Growth.{Grown}
-use Rattle.evidence.specs.Calls.{SheetsDetermined, SheetsStand, GoodSheets, SheetsTurnedAway, countAt, repliesIn, SheetsRepliesStay, SheetsKept, PowerCutCall, CoreAlone, StruckOutCall}
+use Rattle.evidence.specs.Calls.{SheetsDetermined, GoodSheets, SheetsTurnedAway, countAt, repliesIn, SheetsRepliesStay, SheetsKept, PowerCutCall, StruckOutCall}
 use Rattle.evidence.proofs.PowerCut.{power-cut}
 use Rattle.evidence.proofs.StruckOut.{struck-out}
 use Rattle.evidence.proofs.Files.{sheets-grow}

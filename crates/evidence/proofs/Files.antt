@@ -1,6 +1,4 @@
 -- 02, ask 11: what holds of the core's files holds of files with sheets, by the same laws over a lawful step. Assumes nothing.
-use Prim.Native.Nat.{ℕ}
-use mathlib.Core.List.{List}
 use Rattle.files.proofs.Append.{appended as run-appended}
 use Rattle.files.proofs.Through.{tally, up-to-stop, stops-there as run-stops-there}
 use Rattle.files.proofs.Cut.{cut-anywhere}

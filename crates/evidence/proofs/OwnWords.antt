@@ -1,10 +1,10 @@
 -- 02, ask 11: each word of a closed sheet is one of its own keeps. Every run on the slice goes on from the history of those before it. Assumes nothing.
-use mathlib.Core.Path.{_≡_, refl, sym, ap, subst, _∙_}
-use mathlib.Core.Bool.{Bool, true, false, cond}
+use mathlib.Core.Path.{_≡_, refl, sym, subst, _∙_}
+use mathlib.Core.Bool.{Bool, true, false, false≢true}
 use mathlib.Core.List.{List, [], _∷_, _++_}
 use Prim.Native.Nat.{ℕ, _+_, _-_, _≤_, _<_}
 use native.Mathlib.Omega.{arith}
-use lib.Dec.{eqb, ltb, lit<}
+use lib.Dec.{lit<}
 use lib.ListN.{length, getD, take, drop}
 use lib.Seq.{getD-take, getD-drop}
 use borrow.Author.Tests.{lt-ltb, le-ltb, ne-eqb, eqb-true}
@@ -14,12 +14,12 @@ use Rattle.files.proofs.Tests.{either-lt, either-eq}
 use Rattle.files.proofs.Through.{through}
 use Rattle.memory.specs.Memory.{Card}
 use Rattle.records.specs.Record.{turnOf}
-use Rattle.ledger.specs.Ledger.{isSheets, closedIn, isOpen}
-use Rattle.ledger.specs.Entering.{Entered, numberOf, payloadFor, openOf, keepOf, closeOf}
+use Rattle.ledger.specs.Ledger.{isOpen}
+use Rattle.ledger.specs.Entering.{Entered, numberOf, payloadFor, keepOf}
 use Rattle.sheets.specs.Step.{Held, held, topOf, entryOf, coreBy, lineOf, runOf}
 use Rattle.sheets.proofs.Lines.{Owns, done, taken, core-took, lawful}
 use Rattle.evidence.specs.Whole.{recordsOf}
-use Rattle.evidence.specs.History.{Entry, entryAt, historyFrom, did, keeps}
+use Rattle.evidence.specs.History.{Entry, entryAt, historyFrom, keeps}
 use Rattle.evidence.specs.OwnWords.{Job, sheetsAfter, historyOver, Every, Owned, OwnWords}
 use Rattle.evidence.proofs.Split.{no-bytes}
 use Rattle.evidence.proofs.Standing.{Stands, at-start}
@@ -32,19 +32,16 @@ use Rattle.evidence.proofs.PowerCut.{empty}
 abbrev pub Whole : Entry → Type 0
 Whole e = (slot : ℕ) → keeps slot e ≡ true → (e .pending ≡ false) × (slot < 4)
 
-no : false ≡ true → ⊥
-no e = subst (λ (b : Bool). cond b ⊥ Unit) e tt
-
 -- a record of another kind, or one that was refused, keeps nothing
 not-keep : (e : Entry) → (wordAt (e .bytes) 2 ≡ 257 → ⊥) → Whole e
-not-keep e n slot h = absurd (no (rw (ne-eqb (wordAt (e .bytes) 2) 257 n) at h))
+not-keep e n slot h = absurd (false≢true (rw (ne-eqb (wordAt (e .bytes) 2) 257 n) at h))
 
 abbrev Kept : Card → List ℕ → Entered → Type 0
 Kept c bytes e = Whole (entryAt c bytes (numberOf (e .refusal)))
 
 module _ (c : Card) (bytes sheets : List ℕ) (k : wordAt bytes 2 ≡ 257) where
   away : (n : ℕ) → (n ≡ 0 → ⊥) → Whole (entryAt c bytes n)
-  away n z slot h = absurd (no (rw (k, ne-eqb n 0 z) at h))
+  away n z slot h = absurd (false≢true (rw (k, ne-eqb n 0 z) at h))
 
   same-slot : (slot : ℕ) → keeps slot (entryAt c bytes 0) ≡ true → getD bytes 4 0 ≡ slot
   same-slot slot h = eqb-true (getD bytes 4 0) slot (rw k at h)

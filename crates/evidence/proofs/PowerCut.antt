@@ -1,8 +1,8 @@
 -- 02, ask 11: power goes at any byte. A run that ends with 0 or 6 answers every whole record, and its history makes the list. Assumes nothing.
 use mathlib.Core.Path.{_≡_, refl, sym, ap, subst, _∙_}
 use mathlib.Core.Bool.{Bool, true, false, cond}
-use mathlib.Core.List.{List, [], _∷_, _++_}
-use Prim.Native.Nat.{ℕ, suc, _+_, _-_, _≤_, _<_}
+use mathlib.Core.List.{List, []}
+use Prim.Native.Nat.{ℕ, suc, _+_, _-_, _<_}
 use native.Mathlib.Omega.{arith}
 use lib.Dec.{lit≤}
 use lib.ListN.{length, getD, take, drop}
@@ -17,7 +17,6 @@ use Rattle.memory.specs.Memory.{Card}
 use Rattle.records.specs.declared.head.Event.{Event}
 use Rattle.records.specs.declared.head.Event.the-variants.{Push, Pop, Command, Status, Reset, Acknowledge, Recall, Forget}
 use Rattle.records.specs.declared.head.Frame.{Frame}
-use Rattle.records.specs.declared.head.Frame.the-variants.{Framed, Broken}
 use Rattle.records.specs.declared.head.Head.{Head}
 use Rattle.records.specs.declared.head.Head.the-variants.{Whole, Stop}
 use Rattle.records.specs.Record.{exactly, rowUnder, headIn, headUnder, headNumber, frameUnder, answeredOf, turnBy, turnUnder, turnOf}
@@ -26,7 +25,7 @@ use Rattle.ledger.proofs.Ledgers.{is-long}
 use Rattle.sheets.specs.Step.{Held, held, lineOf, runOf}
 use Rattle.sheets.proofs.Lines.{ways, lawful}
 use Rattle.evidence.specs.Whole.{recordsOf}
-use Rattle.evidence.specs.PowerCut.{Told, PowerCut}
+use Rattle.evidence.specs.PowerCut.{PowerCut}
 use Rattle.evidence.proofs.Split.{none-of, no-bytes}
 use Rattle.evidence.proofs.Standing.{at-start}
 use Rattle.evidence.proofs.Agreeing.{Agrees}

@@ -1,11 +1,11 @@
 -- 02, ask 11: what a file of one record leaves. The step is worked out on the record; the bytes of the slice by what stands before, in and behind what was laid over them. Assumes nothing.
 use mathlib.Core.Path.{_≡_, refl, sym, ap, subst, _∙_}
-use mathlib.Core.Bool.{Bool, true, false, cond}
+use mathlib.Core.Bool.{Bool, true, false, cond, false≢true}
 use mathlib.Core.List.{List, [], _∷_, _++_, append-nil}
-use Prim.Native.Nat.{ℕ, zero, suc, _+_, _*_, _-_, _/_, _%_, _^_, _≤_, _<_}
+use Prim.Native.Nat.{ℕ, _+_, _*_, _-_, _≤_, _<_}
 use native.Mathlib.Omega.{arith}
-use lib.Dec.{eqb, ltb, lit<, lit≤}
-use lib.ListN.{length, getD, set, take, drop, replicate, length-drop, length-append, length-set, drop-of-length-le}
+use lib.Dec.{eqb, lit<, lit≤}
+use lib.ListN.{length, getD, set, take, drop, replicate, length-append, length-set, drop-of-length-le}
 use lib.Seq.{take-all, drop-at, length-take-le, getD-set-same, take-set-le}
 use borrow.Author.Tests.{lt-ltb, le-ltb, eq-eqb, ne-eqb}
 use Rattle.little.specs.Little.{wordAt, le4}
@@ -27,7 +27,7 @@ use Rattle.ledger.specs.Entering.{payloadFor}
 use Rattle.ledger.proofs.Ledgers.{is-long, length-laid, length-line}
 use Rattle.sheets.specs.Step.{Held, held, coreBy, lineOf, runOf}
 use Rattle.sheets.proofs.Lines.{Owns, is-own, not-own, core-took, done, lawful}
-use Rattle.evidence.specs.Rows.{openRecord, keepRecord, closeRecord, openReply, keepReply, closeReply, StillOpenRow, OpenRow, KeepNoneRow, KeepSlotRow, KeepHalfRow, KeepRow, CloseNoneRow, CloseLacksRow, CloseFullRow, CloseRow, ResetRow, OthersRow, CoreRow, NoRoomRow, PayloadRow, NoKindRow}
+use Rattle.evidence.specs.Rows.{openRecord, keepRecord, closeRecord, StillOpenRow, OpenRow, KeepNoneRow, KeepSlotRow, KeepHalfRow, KeepRow, CloseNoneRow, CloseLacksRow, CloseFullRow, CloseRow, ResetRow, OthersRow, CoreRow, NoRoomRow, PayloadRow, NoKindRow}
 use Rattle.ledger.proofs.Laid.{parts, before-laid, in-laid, bytes-before, bytes-behind, bytes-set-front}
 use Rattle.ledger.proofs.Bits.{bits, own-bit}
 use Rattle.evidence.proofs.Agreeing.{closedIn-laid}
@@ -109,13 +109,10 @@ unfolding isSheets
 kept-few l =
     either-eq (λ (b : Bool). b ≡ true → keptBits l < 16) (length l) 1303 _ _
     (λ a.
-    either-lt (λ (b : Bool). b ≡ true → keptBits l < 16) 64 (closedIn l) _ _ (λ b e. absurd (no e)) (λ b.
-    either-lt (λ (b : Bool). b ≡ true → keptBits l < 16) 1 (getD l 1281 0) _ _ (λ d e. absurd (no e)) (λ d.
-    either-lt (λ (b : Bool). b ≡ true → keptBits l < 16) 15 (keptBits l) _ _ (λ f e. absurd (no e)) (λ f e. omega arith))))
-    (λ a e. absurd (no e))
-  where
-    no : false ≡ true → ⊥
-    no e = subst (λ (b : Bool). cond b ⊥ Unit) e tt
+    either-lt (λ (b : Bool). b ≡ true → keptBits l < 16) 64 (closedIn l) _ _ (λ b e. absurd (false≢true e)) (λ b.
+    either-lt (λ (b : Bool). b ≡ true → keptBits l < 16) 1 (getD l 1281 0) _ _ (λ d e. absurd (false≢true e)) (λ d.
+    either-lt (λ (b : Bool). b ≡ true → keptBits l < 16) 15 (keptBits l) _ _ (λ f e. absurd (false≢true e)) (λ f e. omega arith))))
+    (λ a e. absurd (false≢true e))
 
 -- ---- a closing
 module _ (h : Held) (room : ℕ) (g : 5 ≤ room) where

@@ -2,13 +2,10 @@
 use mathlib.Core.Path.{_≡_, refl, sym, ap, subst, _∙_}
 use mathlib.Core.Bool.{Bool, true, false, cond}
 use mathlib.Core.List.{List, [], _∷_, _++_, append-assoc, append-nil}
-use Prim.Native.Nat.{ℕ, zero, suc, _+_, _-_, _≤_, _<_, zero-le}
+use Prim.Native.Nat.{ℕ, _+_, _-_, _≤_, _<_}
 use native.Mathlib.Omega.{arith}
-use lib.ListN.{length, take, drop, length-append}
-use lib.Seq.{length-take-le, take-take}
-use native.Mathlib.Nat.{le-refl}
+use lib.ListN.{length, take, length-append}
 use Rattle.little.specs.Little.{wordAt}
-use Rattle.terms.specs.Limits.{mostPayload}
 use Rattle.files.specs.Run.{Turned, Outcome, after, took}
 use Rattle.files.proofs.Append.{nothing, alone, appended}
 use Rattle.memory.specs.Memory.{Card}

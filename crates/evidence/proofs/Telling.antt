@@ -1,11 +1,10 @@
 -- Every run keeps the bytes of the sheets in agreement with the history that its records and replies tell. Assumes nothing.
 use mathlib.Core.Path.{_≡_, refl, sym, ap, subst, _∙_}
-use mathlib.Core.Bool.{Bool, true, false, cond}
+use mathlib.Core.Bool.{Bool, true, false}
 use mathlib.Core.List.{List, [], _∷_, _++_}
-use Prim.Native.Nat.{ℕ, zero, suc, _+_, _*_, _-_, _≤_, _<_, zero-le}
+use Prim.Native.Nat.{ℕ, _+_, _-_, _≤_, _<_}
 use native.Mathlib.Omega.{arith}
-use native.Mathlib.Nat.{le-refl}
-use lib.Dec.{eqb, ltb, lit<, lit≤}
+use lib.Dec.{lit<, lit≤}
 use lib.ListN.{length, getD, take, drop, length-drop}
 use lib.Seq.{getD-take, getD-drop, take-take, length-take-le}
 use borrow.Author.Tests.{lt-ltb, le-ltb, eq-eqb, ne-eqb}
@@ -19,10 +18,10 @@ use Rattle.ledger.specs.declared.Refusal.{Refusal}
 use Rattle.ledger.specs.declared.Refusal.the-variants.{Done, StillOpen, NoneOpen, NoSuchSlot, HalfPending, SlotEmpty, ListFull}
 use Rattle.ledger.specs.Ledger.{closedIn, isOpen, keptBits, dropped}
 use Rattle.ledger.specs.Entering.{Entered, numberOf, payloadFor, openOf, keepOf, closeOf}
-use Rattle.sheets.specs.Step.{Held, held, isOwnKind, topOf, entryOf, coreBy, lineOf, runOf}
+use Rattle.sheets.specs.Step.{Held, topOf, entryOf, coreBy, lineOf, runOf}
 use Rattle.sheets.proofs.Lines.{Owns, done, own-kind, low-kind, taken, core-took, lawful}
 use Rattle.evidence.specs.Whole.{recordsOf}
-use Rattle.evidence.specs.History.{Entry, entryAt, cardAfter, historyFrom, opens, keeps, closes}
+use Rattle.evidence.specs.History.{Entry, entryAt, historyFrom}
 use Rattle.evidence.proofs.Split.{first-of, no-bytes, record-then}
 use Rattle.evidence.proofs.Standing.{Stands, past-own, past-core}
 use Rattle.evidence.proofs.Agreeing.{Agrees, Quiet, quiet, quiet-dropped, refused-quiet, other-quiet, opened-agrees, kept-agrees, closed-agrees}

@@ -1,5 +1,5 @@
 -- 02, ask 11: what holds of the core's files holds of files with sheets: records in turn, a bad file, a cut file, the counts; and what a run leaves of the slice. Statements only: proofs/Files.antt proves them. Assumes nothing.
-use Prim.Native.Nat.{ℕ, _+_, _*_, _-_, _≤_, _<_}
+use Prim.Native.Nat.{ℕ, _*_, _-_, _≤_, _<_}
 use mathlib.Core.Path.{_≡_}
 use mathlib.Core.Bool.{true}
 use mathlib.Core.List.{List, _++_}

@@ -6,7 +6,7 @@ use mathlib.Core.List.{List, []}
 use lib.ListN.{length, take}
 use Rattle.memory.specs.Memory.{Card}
 use Rattle.ledger.specs.Ledger.{isSheets, closedIn, isOpen, linesOf}
-use Rattle.sheets.specs.Step.{Held, held, runOf}
+use Rattle.sheets.specs.Step.{held, runOf}
 use Rattle.evidence.specs.Whole.{recordsOf}
 use Rattle.evidence.specs.History.{historyFrom, sheetsIn}
 

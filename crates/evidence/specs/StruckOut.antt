@@ -5,7 +5,7 @@ use mathlib.Core.List.{List}
 use lib.ListN.{length}
 use Rattle.memory.specs.Memory.{Card}
 use Rattle.records.specs.Run.{Outcome, runOf as coreRun}
-use Rattle.sheets.specs.Step.{Held, held, runOf}
+use Rattle.sheets.specs.Step.{held, runOf}
 use Rattle.evidence.specs.Whole.{recordsOf, joined, struck, struckReplies}
 
 -- what the core leaves of a file alone, beside what the run with sheets left of the whole

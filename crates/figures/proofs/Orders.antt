@@ -6,7 +6,7 @@ use mathlib.Core.List.{List, [], _∷_, List·Permᴰ, List·Permᴰ·nil, List�
 use lib.Dec.{eqb, leb}
 use lib.ListN.{length}
 use lib.IntN.{ℤ, _+ℤ_, +ℤ-assoc, +ℤ-comm}
-use borrow.Author.Tests.{eqb-true, eqb-false, eq-eqb, ne-eqb}
+use borrow.Author.Tests.{eqb-true, eqb-false, ne-eqb}
 use Rattle.figures.specs.Figures.{serialOn, wordOn, count, once, many, total, serials, words, worth, worths, sum88, AnyOrder}
 
 -- ---- of numbers

@@ -10,7 +10,7 @@ use lib.ListN.{length, getD, drop, drop-of-length-le}
 use lib.Seq.{drop-cons}
 use Rattle.float.specs.Word.{proper}
 use Rattle.ledger.specs.Ledger.{linesOf, closedIn}
-use Rattle.figures.specs.Figures.{serialOn, wordOn, serials, words, count, once, many, different, improper}
+use Rattle.figures.specs.Figures.{serialOn, wordOn, serials, count, once, many, different, improper}
 use Rattle.figures.proofs.Lines.{length-lines}
 
 -- ---- what a line adds

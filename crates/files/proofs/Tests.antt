@@ -1,6 +1,6 @@
--- What holds of both answers of a test, each with what the test says, holds of the test's answer. Assumes nothing.
-use mathlib.Core.Path.{_≡_, refl}
-use mathlib.Core.Bool.{Bool, true, false, cond}
+-- What holds of both answers of a test, each with what the test says, holds of the test's answer; a test that the code turns round. Assumes nothing.
+use mathlib.Core.Path.{_≡_, refl, sym}
+use mathlib.Core.Bool.{Bool, true, false, not, cond, false≢true}
 use Prim.Native.Nat.{ℕ, _≤_, _<_}
 use lib.Dec.{ltb, eqb}
 use borrow.Author.Tests.{ltb-true, ltb-false, eqb-true, eqb-false}
@@ -19,3 +19,12 @@ module _ {A : Type 0} (P : A → Type 0) (m n : ℕ) (x y : A) where
       pick : (b : Bool) → eqb m n ≡ b → P (cond b x y)
       pick true e = p (eqb-true m n e)
       pick false e = q (eqb-false m n e)
+
+-- a test that failed, and one that did not, as the code's `!` says it
+pub failed : (x y : Bool) → x ≡ y → not x ≡ true → y ≡ false
+failed true y e n = absurd (false≢true n)
+failed false y e n = sym e
+
+pub passed : (x y : Bool) → x ≡ y → not x ≡ false → y ≡ true
+passed true y e n = sym e
+passed false y e n = absurd (false≢true (sym n))

@@ -1,6 +1,6 @@
 -- What a record of kind 256, 257 or 258 answers, by the tests that led there. Assumes nothing.
-use mathlib.Core.Path.{_≡_, refl, sym, subst}
-use mathlib.Core.Bool.{Bool, true, false, not, cond}
+use mathlib.Core.Path.{_≡_, refl}
+use mathlib.Core.Bool.{Bool, true, false}
 use mathlib.Core.List.{List}
 use Prim.Native.Nat.{ℕ, _≤_, _<_}
 use borrow.Author.Tests.{lt-ltb, le-ltb}
@@ -13,18 +13,6 @@ use Rattle.ledger.specs.Entering.{Entered, openOf, keepOf, closeOf}
 -- what a call answered beside an entry
 abbrev pub Enters : Entered → Refusal → List ℕ → Type 0
 Enters e r sheets = (r ≡ e .refusal) × (sheets ≡ e .sheets)
-
-pub false-true : false ≡ true → ⊥
-false-true e = subst (λ (b : Bool). cond b ⊥ Unit) e tt
-
--- a test that failed, and one that did not, as the code's `!` says it
-pub failed : (x y : Bool) → x ≡ y → not x ≡ true → y ≡ false
-failed true y e n = absurd (false-true n)
-failed false y e n = sym e
-
-pub passed : (x y : Bool) → x ≡ y → not x ≡ false → y ≡ true
-passed true y e n = sym e
-passed false y e n = absurd (false-true (sym n))
 
 module _ (l : List ℕ) where
   pub open-busy : (serial : List ℕ) → isOpen l ≡ true → Enters (openOf l serial) StillOpen l

@@ -41,9 +41,9 @@ use Rattle.records.proofs.Ready.{run-ready}
 use Rattle.stored.specs.Bytes.{isState, memoryIn, cardIn, laidOut}
 use Rattle.stored.proofs.States.{state-stands, stands-state}
 use Rattle.stored.proofs.Cards.{card-returns, card-ready, laid-length, laid-state}
-use Rattle.pundaliket.specs.Calls.{Called, ranOf, callOf, Signal, signalOf, signalBy, unsent, answerToKind, joinedOf, Sent, sentOf}
-use Rattle.pundaliket.proofs.Calling.{false-true, bad-state, too-long, good}
-use Rattle.promises.specs.Given.{Given, Chosen, settingsIn, runCall, eventCall}
+use Rattle.pundaliket.specs.Calls.{Called, ranOf, callOf, Signal, signalOf, signalBy, unsent, answerToKind, Sent, sentOf}
+use Rattle.pundaliket.proofs.Calling.{bad-state, too-long, good}
+use Rattle.promises.specs.Given.{Given, Chosen, settingsIn, runCall}
 use Rattle.promises.specs.Records.{countAt}
 use Rattle.promises.specs.Kept.{NoReport, NoState, LongInput, Remembers, Stands, GoodStates, StateReturns, EmptyInput, EventKept, OutKept, StateStays, StateStaysEvent, RepliesStay, StopsThere, BadFile, CutCall, CutFile, LastEnd}
 use Rattle.promises.proofs.Records.{counts-exact}

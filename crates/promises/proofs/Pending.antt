@@ -1,7 +1,7 @@
 -- What each bus event leaves, by its definition on a state that is not busy; each push or pop turns pending, and a good state stays good. Assumes nothing.
 use mathlib.Core.Path.{_≡_, refl, sym, ap, subst, _∙_}
 use mathlib.Core.Logic.{⊎-elim}
-use mathlib.Core.Bool.{Bool, true, false, not}
+use mathlib.Core.Bool.{Bool, true, false, not, false≢true}
 use mathlib.Core.List.{List, [], _∷_, _++_}
 use Prim.Native.Nat.{ℕ, suc, _%_, _≤_, _<_}
 use native.Mathlib.Omega.{arith}
@@ -18,7 +18,7 @@ use Rattle.chip.specs.declared.State.{State}
 use Rattle.chip.specs.declared.Answer.{Answer}
 use Rattle.chip.specs.declared.Event.{Event}
 use Rattle.chip.specs.declared.Event.the-variants.{Push, Pop, Command, Status, Reset, Acknowledge}
-use Rattle.chip.specs.Step.{pushOf, popOf, readOf, resetOf, acknowledgeOf, commandUnder, answerTo, under}
+use Rattle.chip.specs.Step.{pushOf, popOf, readOf, resetOf, acknowledgeOf, commandUnder, answerTo}
 use Rattle.chip.specs.Events.{afterEvents}
 use Rattle.chip.proofs.Kept.{command-keeps}
 use Rattle.chip.proofs.Accepted.{leaves}
@@ -29,7 +29,6 @@ use Rattle.memory.specs.History.{afterAll}
 use Rattle.memory.proofs.Kept.{chip-alone}
 use Rattle.stored.specs.Bytes.{stateOf, cardIn, flagOf}
 use Rattle.stored.proofs.Cards.{card-ready, laid-at}
-use Rattle.pundaliket.proofs.Calling.{false-true}
 use Rattle.promises.specs.Cores.{Sendable, onBus}
 use Rattle.promises.specs.Given.{settingsIn}
 use Rattle.promises.specs.Pending.{Answers, stateWith, movedSince, Odd, Bus, PendingByte, BusEvents}
@@ -151,8 +150,8 @@ flag-odd x h = by (eqb x 1) refl
     by false e = let n = eqb-false x 1 e in record { set = λ o. absurd (n (omega arith)); clear = λ o. refl }
 
 odd-flag : (p : Bool) (n : ℕ) → Odd p n → flagOf p ≡ n % 2
-odd-flag true n o = either-eq (λ (x : ℕ). 1 ≡ n % 2) (n % 2) 0 0 0 (λ e. absurd (false-true (sym (o .clear e)))) (λ z. omega arith)
-odd-flag false n o = either-eq (λ (x : ℕ). 0 ≡ n % 2) (n % 2) 0 0 0 (λ e. sym e) (λ z. absurd (false-true (o .set (omega arith))))
+odd-flag true n o = either-eq (λ (x : ℕ). 1 ≡ n % 2) (n % 2) 0 0 0 (λ e. absurd (false≢true (sym (o .clear e)))) (λ z. omega arith)
+odd-flag false n o = either-eq (λ (x : ℕ). 0 ≡ n % 2) (n % 2) 0 0 0 (λ e. sym e) (λ z. absurd (false≢true (o .set (omega arith))))
 
 pub pending-byte : PendingByte
 pending-byte g C c M state es B i S =

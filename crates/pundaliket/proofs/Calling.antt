@@ -1,10 +1,9 @@
 -- The ways through the exported calls: by their tests, which case of the definition holds. Assumes nothing.
 use mathlib.Core.Path.{_≡_, refl, sym, ap, ap₂, subst, _∙_}
 use mathlib.Core.Logic.{⊎-elim}
-use mathlib.Core.Bool.{Bool, true, false, not, cond}
+use mathlib.Core.Bool.{Bool, true, false, cond}
 use mathlib.Core.List.{List, _++_}
 use Prim.Native.Nat.{ℕ, _+_, _≤_, _<_}
-use native.Mathlib.Omega.{arith}
 use lib.Dec.{eqb}
 use lib.ListN.{length, take, drop, getD, take-append-drop}
 use lib.Seq.{getD-append-add, getD-drop, take-at}
@@ -36,18 +35,6 @@ use Rattle.stored.proofs.Worked.{stack-size, same-size}
 use Rattle.pundaliket.specs.declared.Named.{Named}
 use Rattle.pundaliket.specs.declared.Named.the-variants.{Unknown}
 use Rattle.pundaliket.specs.Calls.{settingsOf, ranOf, away, callUnder, signalUnder, callOf, Calls, answeredBy, Names, Signal, joinedOf, signalBy, signalOf, Signals, sentOf, Sends}
-
-pub false-true : false ≡ true → ⊥
-false-true e = let z : _≡_ {A = ℕ} 0 1 = cc in omega arith
-
--- a test that failed, and one that did not, as the code's `!` says it
-pub failed : (x y : Bool) → x ≡ y → not x ≡ true → y ≡ false
-failed true y e n = absurd (false-true n)
-failed false y e n = sym e
-
-pub passed : (x y : Bool) → x ≡ y → not x ≡ false → y ≡ true
-passed true y e n = sym e
-passed false y e n = absurd (false-true (sym n))
 
 -- a state whose stack was worked where it lies
 module _ (l x : List ℕ) (h : Sized l) (n : length x ≡ 16) where

@@ -1,6 +1,6 @@
 -- The line of a closed sheet, and a file that opens one, through run, text and figures. Computed from the definitions. Assumes nothing.
 use mathlib.Core.Path.{_≡_, refl}
-use mathlib.Core.List.{List, [], _∷_, _++_}
+use mathlib.Core.List.{[], _∷_, _++_}
 use lib.ListN.{replicate}
 use Rattle.files.specs.Run.{run, runBy}
 use Rattle.records.specs.Record.{frameUnder}

@@ -1,6 +1,6 @@
 -- Each record lets the list only grow, and so does a run: bytes behind the list leave it, a close adds one line. Assumes nothing.
 use mathlib.Core.Path.{_≡_, refl, sym, ap, subst, _∙_}
-use mathlib.Core.Bool.{Bool, true, false, cond}
+use mathlib.Core.Bool.{Bool, true, false, cond, false≢true}
 use mathlib.Core.List.{List, [], _∷_, _++_}
 use Prim.Native.Nat.{ℕ, _+_, _*_, _≤_, _<_}
 use native.Mathlib.Omega.{arith}
@@ -9,7 +9,6 @@ use lib.Dec.{ltb, lit<, lit≤}
 use lib.ListN.{length, getD, set, take, drop, replicate, length-drop, length-set}
 use lib.Seq.{getD-take, getD-set-same, getD-set-other, length-take-le, take-take, take-set-le}
 use Rattle.little.specs.Little.{wordAt, le4}
-use Rattle.files.specs.Run.{Outcome}
 use Rattle.files.proofs.Tests.{either-lt, either-eq}
 use Rattle.files.proofs.Through.{through}
 use Rattle.records.specs.Record.{turnOf}
@@ -35,13 +34,10 @@ unfolding isSheets
 good l =
     either-eq (λ (b : Bool). b ≡ true → Good l) (length l) 1303 _ _
     (λ a.
-    either-lt (λ (b : Bool). b ≡ true → Good l) 64 (closedIn l) _ _ (λ b e. absurd (no e)) (λ b.
-    either-lt (λ (b : Bool). b ≡ true → Good l) 1 (getD l 1281 0) _ _ (λ d e. absurd (no e)) (λ d.
-    either-lt (λ (b : Bool). b ≡ true → Good l) 15 (keptBits l) _ _ (λ f e. absurd (no e)) (λ f e. record { long = a; few = b; flag = d; slots = f }))))
-    (λ a e. absurd (no e))
-  where
-    no : false ≡ true → ⊥
-    no e = subst (λ (b : Bool). cond b ⊥ Unit) e tt
+    either-lt (λ (b : Bool). b ≡ true → Good l) 64 (closedIn l) _ _ (λ b e. absurd (false≢true e)) (λ b.
+    either-lt (λ (b : Bool). b ≡ true → Good l) 1 (getD l 1281 0) _ _ (λ d e. absurd (false≢true e)) (λ d.
+    either-lt (λ (b : Bool). b ≡ true → Good l) 15 (keptBits l) _ _ (λ f e. absurd (false≢true e)) (λ f e. record { long = a; few = b; flag = d; slots = f }))))
+    (λ a e. absurd (false≢true e))
 
 good-again : (l m : List ℕ) → length l ≡ 1303 → Grown l m → Good m
 good-again l m h g = record { long = g .same-length ∙ h; few = g .no-more; flag = g .flag-is; slots = g .bits-are }

@@ -1,16 +1,15 @@
 -- The record step of sheets is lawful: a record of this library is framed as the core's are, and every other is the core's. Assumes nothing.
 use mathlib.Core.Path.{_≡_, refl, sym, ap, subst, _∙_}
-use mathlib.Core.Bool.{Bool, true, false, not, cond}
-use mathlib.Core.List.{List, [], _∷_, _++_}
-use Prim.Native.Nat.{ℕ, zero, suc, _+_, _*_, _-_, _/_, _%_, _≤_, _<_, zero-le}
+use mathlib.Core.Bool.{Bool, true, false, not, cond, false≢true}
+use mathlib.Core.List.{List}
+use Prim.Native.Nat.{ℕ, _+_, _*_, _≤_, _<_}
 use native.Mathlib.Omega.{arith}
-use lib.Dec.{eqb, ltb, lit<, lit≤}
+use lib.Dec.{ltb, lit≤}
 use lib.ListN.{length, getD, take, drop}
 use lib.Seq.{getD-take, length-take-le}
-use borrow.Author.Tests.{lt-ltb, le-ltb, eq-eqb, ne-eqb, ltb-true, ltb-false, eqb-true, eqb-false}
-use Rattle.little.specs.Little.{wordAt, le2}
+use borrow.Author.Tests.{lt-ltb, le-ltb, eq-eqb, ne-eqb, ltb-false}
+use Rattle.little.specs.Little.{wordAt}
 use Rattle.terms.specs.declared.Refusal.the-variants.{CutShort}
-use Rattle.terms.specs.declared.Refusal.{Refusal}
 use Rattle.terms.specs.Limits.{mostPayload}
 use Rattle.files.specs.Run.{Turned, idle}
 use Rattle.files.specs.Lawful.{Stopping, Lawful}
@@ -19,14 +18,13 @@ use Rattle.files.proofs.Through.{drop-take}
 use Rattle.memory.specs.Memory.{Card}
 use Rattle.records.specs.declared.head.Event.{Event}
 use Rattle.records.specs.declared.head.Event.the-variants.{Push, Pop, Command, Status, Reset, Acknowledge, Recall, Forget}
-use Rattle.records.specs.declared.head.Frame.{Frame}
-use Rattle.records.specs.declared.head.Frame.the-variants.{Framed, Broken}
-use Rattle.records.specs.Record.{kindOf, payloadOf, frameUnder, turnUnder, turnOf}
-use Rattle.records.proofs.Heads.{short, cut, whole, Fits, frames}
+use Rattle.records.specs.declared.head.Frame.the-variants.{Broken}
+use Rattle.records.specs.Record.{kindOf, frameUnder, turnUnder, turnOf}
+use Rattle.records.proofs.Heads.{short, cut, whole, frames}
 use Rattle.records.proofs.Steps.{steps}
 use Rattle.records.proofs.Turning.{length-dataOf}
 use Rattle.records.proofs.Prefix.{lawful as core-lawful}
-use Rattle.ledger.specs.Entering.{Entered, payloadFor}
+use Rattle.ledger.specs.Entering.{payloadFor}
 use Rattle.sheets.specs.Step.{Held, held, isFramed, isOwnKind, isOwn, entryOf, ownTurn, answered, coreBy, lineOf}
 
 -- a whole record of this library at the front of a file
@@ -36,9 +34,6 @@ pub record Owns (l : List ℕ) : Type 0 where
   pub in-range : 2 ≤ wordAt l 0
   pub short : wordAt l 0 ≤ 2 + mostPayload
   pub there : 2 + wordAt l 0 ≤ length l
-
-no : false ≡ true → ⊥
-no e = subst (λ (b : Bool). cond b ⊥ Unit) e tt
 
 -- what a kind's test says
 module _ (kind : ℕ) where
@@ -51,11 +46,11 @@ module _ (kind : ℕ) where
   pub kind-owned : isOwnKind kind ≡ true → (256 ≤ kind) × (kind ≤ 258)
   kind-owned =
       either-lt (λ (b : Bool). b ≡ true → (256 ≤ kind) × (kind ≤ 258)) kind 256 false (not (ltb 258 kind))
-      (λ a e. absurd (no e))
+      (λ a e. absurd (false≢true e))
       (λ a. by a (ltb 258 kind) refl)
     where
       by : 256 ≤ kind → (b : Bool) → ltb 258 kind ≡ b → not b ≡ true → (256 ≤ kind) × (kind ≤ 258)
-      by a true q e = absurd (no e)
+      by a true q e = absurd (false≢true e)
       by a false q e = (a, ltb-false _ _ q)
 
 -- what the test of a record says
@@ -65,7 +60,7 @@ owns l = by (isOwnKind (wordAt l 2)) refl
   where
     framed : (256 ≤ wordAt l 2) × (wordAt l 2 ≤ 258) → isFramed (frameUnder mostPayload l) ≡ true → Owns l
     framed k =
-        frames {most = mostPayload} (λ f. isFramed f ≡ true → Owns l) (λ r g e. absurd (no e)) l (λ n f e. record {
+        frames {most = mostPayload} (λ f. isFramed f ≡ true → Owns l) (λ r g e. absurd (false≢true e)) l (λ n f e. record {
           least = k .0;
           most = k .1;
           in-range = omega (arith, f .length-is);
@@ -75,7 +70,7 @@ owns l = by (isOwnKind (wordAt l 2)) refl
 
     by : (b : Bool) → isOwnKind (wordAt l 2) ≡ b → cond b (isFramed (frameUnder mostPayload l)) false ≡ true → Owns l
     by true k e = framed (kind-owned (wordAt l 2) k) e
-    by false k e = absurd (no e)
+    by false k e = absurd (false≢true e)
 
 pub is-own : (l : List ℕ) → Owns l → isOwn l ≡ true
 unfolding isOwn

@@ -2,7 +2,8 @@
 use denote.Ref.{now}
 use borrow.Author.Tests.{leb-true, leb-false}
 use Rattle.pundaliket.specs.Calls.{settingsOf}
-use Rattle.pundaliket.proofs.Calling.{failed, passed, no-mode, no-rule, no-state, named, unnamed}
+use Rattle.files.proofs.Tests.{failed, passed}
+use Rattle.pundaliket.proofs.Calling.{no-mode, no-rule, no-state, named, unnamed}
 use borrow.Author.Needs.{needs}
 use Rattle.pundaliket.proofs.pundaliket_event.Statement.{statement}
 use Rattle.pundaliket.proofs.pundaliket_event.Tie as tie

@@ -3,7 +3,8 @@ use denote.Ref.{now}
 use borrow.Author.Tests.{leb-true, leb-false}
 use Rattle.terms.specs.declared.Refusal.the-variants.{BadState, InputTooLong, BadMode, BadRule}
 use Rattle.stored.proofs.States.{state-sized}
-use Rattle.pundaliket.proofs.Calling.{failed, passed, turned-away, bad-report, bad-mode, bad-rule, bad-state, too-long, good}
+use Rattle.files.proofs.Tests.{failed, passed}
+use Rattle.pundaliket.proofs.Calling.{turned-away, bad-report, bad-mode, bad-rule, bad-state, too-long, good}
 use borrow.Author.Needs.{needs}
 use Rattle.pundaliket.proofs.pundaliket_run.Statement.{statement}
 use Rattle.pundaliket.proofs.pundaliket_run.Tie as tie

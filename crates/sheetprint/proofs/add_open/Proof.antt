@@ -1,7 +1,7 @@
 -- `sheetprint::add_open` adds the parts of the line in turn, where a sheet is open. Assumes nothing.
 use native.Mathlib.Omega.{arith}
 use denote.Ref.{now}
-use Rattle.ledger.proofs.Entering.{failed, passed}
+use Rattle.files.proofs.Tests.{failed, passed}
 use Rattle.listing.proofs.Adding.{both}
 use Rattle.listing.proofs.Decimal.{at-most}
 use Rattle.sheetprint.proofs.Lines.{none-open, open-of, open-short}

@@ -4,7 +4,7 @@ use borrow.Author.Tests.{leb-true, leb-false}
 use Rattle.terms.specs.declared.Refusal.the-variants.{BadState, InputTooLong, BadMode, BadRule}
 use Rattle.stored.proofs.States.{state-sized}
 use Rattle.ledger.proofs.Ledgers.{is-long}
-use Rattle.ledger.proofs.Entering.{failed, passed}
+use Rattle.files.proofs.Tests.{failed, passed}
 use Rattle.sheets.proofs.Calling.{turned-away, bad-report, bad-mode, bad-rule, bad-state, bad-sheets, too-long, good}
 use borrow.Author.Needs.{needs}
 use Rattle.sheets.proofs.sheets_run.Statement.{statement}

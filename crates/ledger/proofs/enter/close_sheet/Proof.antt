@@ -1,7 +1,8 @@
 -- `ledger::enter::close_sheet` meets its contract: one test after the other. Assumes nothing.
 use native.Mathlib.Omega.{arith}
 use denote.Ref.{now}
-use Rattle.ledger.proofs.Entering.{failed, passed, close-none, close-lacks, close-full, close-done}
+use Rattle.files.proofs.Tests.{failed, passed}
+use Rattle.ledger.proofs.Entering.{close-none, close-lacks, close-full, close-done}
 use borrow.Author.Needs.{needs}
 use Rattle.ledger.proofs.enter.close_sheet.Statement.{statement}
 use Rattle.ledger.proofs.enter.close_sheet.Tie as tie

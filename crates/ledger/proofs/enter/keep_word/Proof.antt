@@ -1,7 +1,8 @@
 -- `ledger::enter::keep_word` meets its contract: one test after the other. Assumes nothing.
 use native.Mathlib.Omega.{arith}
 use denote.Ref.{now}
-use Rattle.ledger.proofs.Entering.{failed, passed, keep-none, keep-over, keep-half, keep-done}
+use Rattle.files.proofs.Tests.{failed, passed}
+use Rattle.ledger.proofs.Entering.{keep-none, keep-over, keep-half, keep-done}
 use borrow.Author.Needs.{needs}
 use Rattle.ledger.proofs.enter.keep_word.Statement.{statement}
 use Rattle.ledger.proofs.enter.keep_word.Tie as tie
