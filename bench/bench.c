@@ -1,13 +1,13 @@
-/* Runs a record file from standard input, or one event, through the library or the plain C of tests/c, so many times.
+/* Runs a record file from standard input, or one event, through the library or the plain C beside it, so many times.
  * bench library|plain file TURNS RECORDS   the file's first RECORDS records (0: all), each run from reset
  * bench library|plain sheets TURNS RECORDS   the same of a file with module sheets, each run on an empty list
  * bench library|plain event TURNS KIND BYTE   one event on a state that holds two float words
  * bench library|plain words TURNS ENTRIES   a buffer of so many words to f64s
- * bench library|plain doubles TURNS ENTRIES RULE   a buffer of so many f64s, each to be rounded, to words */
+ * bench library|plain doubles TURNS ENTRIES RULE   a buffer of so many f64s, each to be rounded, to words
+ * Prints the last answer, the number beside it, and a number made of every byte that was left. */
 #include "../include/pundaliket.h"
 #include "../include/sheets.h"
-#include "../tests/c/plain.h"
-#include "../tests/c/plain_sheets.h"
+#include "plain.h"
 
 int printf(const char *format, ...);
 long read(int file, void *to, size_t n);
@@ -58,11 +58,19 @@ static size_t entries(uint32_t n, size_t size)
     return n * size;
 }
 
+/* bytes joined to a number (FNV-1a) */
+static uint32_t joined(uint32_t sum, const uint8_t *bytes, size_t n)
+{
+    for (size_t i = 0; i < n; i++)
+        sum = (sum ^ bytes[i]) * 16777619;
+    return sum;
+}
+
 int main(int count, char **words)
 {
-    uint8_t state[PUNDALIKET_STATE_BYTES], report[PUNDALIKET_REPORT_BYTES];
-    uint32_t result = 0;
-    uint64_t rounded;
+    uint8_t state[PUNDALIKET_STATE_BYTES] = { 0 }, report[PUNDALIKET_REPORT_BYTES] = { 0 };
+    uint32_t result = 0, sum = 2166136261;
+    uint64_t rounded = 0;
     if (count < 5)
         return 2;
     int library = words[1][0] == 'l';
@@ -106,6 +114,10 @@ int main(int count, char **words)
                              : plain_event(0, 0, state, sizeof state, kind, byte);
         }
     }
-    printf("%u\n", result);
+    sum = joined(sum, state, sizeof state);
+    sum = joined(sum, list, sizeof list);
+    sum = joined(sum, replies, sizeof replies);
+    sum = joined(sum, report, sizeof report);
+    printf("%u %u %08X\n", result, (unsigned)rounded, (unsigned)sum);
     return 0;
 }

@@ -1,19 +1,17 @@
-/* A C program over include/sheets.h, linked with both libraries. It checks two units' sheets, each refusal of request 11 of document
- * 02 and their order, what a reset leaves, a file cut after each byte, that no byte beyond a lent slice is written, the stack that a
- * call needs; that the core's replies and state are those of pundaliket_run with the sheets' kinds struck out; and, against the
- * plain C of plain_sheets.c, drawn, damaged and cut files on lists and states good and bad, and the figures of drawn lists
- * (request 14), also with their lines in another order.
+/* A C program over include/sheets.h, linked with both libraries. What must come is written out here: two units' sheets, each refusal of
+ * request 11 of document 02 and their order, what a reset leaves, a file cut after each byte, figures (request 14), that no byte beyond a
+ * lent slice is written, the stack that a call needs; that the core's replies and state are those of pundaliket_run with the sheets' kinds
+ * struck out; and that figures do not depend on the order of the lines.
  * Prints what differs and the stack used, then 'N checks, M failed'; ends with 1 if M is not 0. */
 #include <stdio.h>
 #include <string.h>
 
 #include "../../include/sheets.h"
 #include "../../include/pundaliket.h"
-#include "lent.h"
-#include "plain_sheets.h"
+#include "checks.h"
+#include "drawn.h"
 
-static struct slice state, sheets, input, replies, report, out;
-static struct slice plain_state, plain_sheets, plain_replies, plain_report, plain_out;
+static struct slice state, sheets, input, replies, report, out, core_state, core_replies;
 
 /* ---- what must come is written out here */
 
@@ -45,24 +43,17 @@ static void record(uint32_t kind, const char *payload, size_t n, uint8_t answer)
     count += 5;
 }
 
-/* a word's four bytes as a line or a push has them, the lowest first */
-static void lay_word(uint8_t *to, uint32_t w)
-{
-    for (int i = 0; i < 4; i++)
-        to[i] = (uint8_t)(w >> 8 * i);
-}
-
 static void push(uint32_t w)
 {
     char bytes[4];
-    lay_word((uint8_t *)bytes, w);
+    put_word((uint8_t *)bytes, w);
     record(PUNDALIKET_PUSH, bytes, 4, 0);
 }
 
 static void open_sheet(uint32_t serial, uint8_t answer)
 {
     char bytes[4];
-    lay_word((uint8_t *)bytes, serial);
+    put_word((uint8_t *)bytes, serial);
     record(SHEETS_OPEN, bytes, 4, answer);
 }
 
@@ -87,9 +78,9 @@ static void fill(uint32_t serial, const uint32_t *words)
 static void line(uint8_t at, uint32_t serial, const uint32_t *words)
 {
     uint8_t *to = left + SHEETS_AT_LINES + SHEETS_LINE_BYTES * at;
-    lay_word(to, serial);
+    put_word(to, serial);
     for (int k = 0; k < 4; k++)
-        lay_word(to + 4 + 4 * k, words[k]);
+        put_word(to + 4 + 4 * k, words[k]);
     left[SHEETS_AT_NUMBER] = (uint8_t)(at + 1);
 }
 
@@ -97,10 +88,10 @@ static void line(uint8_t at, uint32_t serial, const uint32_t *words)
 static void standing(uint32_t serial, uint8_t kept, const uint32_t *words)
 {
     left[SHEETS_AT_OPEN] = 1;
-    lay_word(left + SHEETS_AT_SERIAL, serial);
+    put_word(left + SHEETS_AT_SERIAL, serial);
     left[SHEETS_AT_KEPT] = kept;
     for (int k = 0; k < 4; k++)
-        lay_word(left + SHEETS_AT_WORDS + 4 * k, kept >> k & 1 ? words[k] : 0);
+        put_word(left + SHEETS_AT_WORDS + 4 * k, kept >> k & 1 ? words[k] : 0);
 }
 
 /* the file run from a reset chip on a list in some room: refusal, counts, replies, list and guards */
@@ -312,93 +303,6 @@ static void refusals_of_the_call(void)
     expect_away("an empty file", 0, 0, zeros, 19, bad, SHEETS_BYTES, 0, 9, 0);
 }
 
-/* ---- drawn files, against the plain C */
-
-/* the sheets' kinds in an order that closes sheets, in some cases another, among records of the core */
-static size_t draw_any(uint8_t *to, unsigned turn)
-{
-    static const uint16_t order[8] = { SHEETS_OPEN, SHEETS_KEEP, 0, SHEETS_KEEP, SHEETS_KEEP, 0, SHEETS_KEEP, SHEETS_CLOSE };
-    static const uint8_t slots[8] = { 0, 0, 0, 1, 2, 0, 3, 0 };
-    uint32_t kind = below(8) ? order[turn % 8] : 256 + below(3), n = kind == SHEETS_OPEN ? 4 : kind == SHEETS_KEEP;
-    if (kind == 0 && below(2)) {
-        memcpy(to, "\6\0\1\0", 4);
-        lay_word(to + 4, drawn_word());
-        return 8;
-    }
-    if (kind == 0)
-        return draw_record(to);
-    to[0] = (uint8_t)(2 + n);
-    to[1] = 0;
-    to[2] = (uint8_t)kind;
-    to[3] = (uint8_t)(kind >> 8);
-    if (kind == SHEETS_OPEN)
-        lay_word(to + 4, below(3) ? below(5) : drawn());
-    else if (kind == SHEETS_KEEP)
-        to[4] = below(8) ? slots[turn % 8] : (uint8_t)below(6);
-    return 4 + n;
-}
-
-static void draw_list(uint8_t *list)
-{
-    for (size_t i = 0; i < SHEETS_BYTES; i++)
-        list[i] = (uint8_t)drawn();
-    list[SHEETS_AT_NUMBER] = (uint8_t)(below(2) ? 60 + below(5) : below(65));
-    list[SHEETS_AT_OPEN] = (uint8_t)below(2);
-    list[SHEETS_AT_KEPT] = (uint8_t)(below(2) ? 15 : below(16));
-    if (below(20) == 0)
-        list[below(3) ? below(2) ? SHEETS_AT_KEPT : SHEETS_AT_OPEN : SHEETS_AT_NUMBER] = (uint8_t)drawn();
-}
-
-static int run_agrees(unsigned alignment, const uint8_t *s, size_t sn, const uint8_t *list, size_t ln, const uint8_t *bytes, size_t n, size_t room, size_t rn)
-{
-    lend(&state, alignment & 7, sn, s);
-    lend(&plain_state, 0, sn, s);
-    lend(&sheets, (alignment * 3 + 1) & 7, ln, list);
-    lend(&plain_sheets, 0, ln, list);
-    lend(&input, (alignment * 3) & 7, n, bytes);
-    lend(&replies, (alignment * 5 + 1) & 7, room, NULL);
-    lend(&plain_replies, 0, room, NULL);
-    lend(&report, (alignment * 7 + 2) & 7, rn, NULL);
-    lend(&plain_report, 0, rn, NULL);
-    uint32_t m = drawn_choice(), q = drawn_choice();
-    uint32_t a = sheets_run(m, q, state.at, sn, sheets.at, ln, input.at, n, replies.at, room, report.at, rn);
-    uint32_t b = plain_sheets_run(m, q, plain_state.at, sn, plain_sheets.at, ln, input.at, n, plain_replies.at, room, plain_report.at, rn);
-    return a == b && same(&state, &plain_state) && same(&sheets, &plain_sheets) && same(&replies, &plain_replies) && same(&report, &plain_report)
-        && guarded(&state) && guarded(&sheets) && guarded(&input) && holds(&input, bytes) && guarded(&replies) && guarded(&report);
-}
-
-static void drawn_files(void)
-{
-    static uint8_t bytes[65536];
-    uint8_t s[24] = { 0 }, list[SHEETS_BYTES + 8] = { 0 };
-    for (unsigned i = 0; i < 10000; i++) {
-        size_t n = 0, records = i % 100 == 0 ? 1500 : below(60), room = i % 3 ? 4000 : below(300);
-        for (unsigned k = 0; k < records; k++)
-            n += draw_any(bytes + n, k);
-        if (i % 100 == 0)
-            room = 65536;
-        draw_state(s);
-        draw_list(list);
-        if (below(30) == 0)
-            s[16 + below(5)] = (uint8_t)drawn();
-        if (i % 4 == 1 && n > 0)
-            for (unsigned k = 1 + below(3); k > 0; k--)
-                bytes[below((uint32_t)n)] = below(2) ? (uint8_t)below(20) : (uint8_t)drawn();
-        if (i % 4 == 2)
-            n = below((uint32_t)n + 1);
-        size_t ln = below(40) ? SHEETS_BYTES : SHEETS_BYTES - 2 + below(5), rn = below(40) ? 9 : below(12);
-        check(run_agrees(i, s, drawn_length(), list, ln, bytes, n, room, rn), "drawn file", i);
-    }
-    /* one file cut after each of its bytes, and in every small room */
-    size_t n = 0;
-    for (unsigned k = 0; k < 64; k++)
-        n += draw_any(bytes + n, k);
-    for (size_t k = 0; k <= n; k++)
-        check(run_agrees((unsigned)k, zeros, 21, zeros, SHEETS_BYTES, bytes, k, 4000, 9), "cut file", (unsigned)k);
-    for (size_t k = 0; k < 400; k++)
-        check(run_agrees((unsigned)k, zeros, 19, zeros, SHEETS_BYTES, bytes, n, k, 9), "small room", (unsigned)k);
-}
-
 /* ---- both libraries: in a file that ends with 0 the core's replies and state are those with the sheets' kinds struck out */
 
 static size_t struck(uint8_t *to, const uint8_t *from, size_t n)
@@ -421,7 +325,7 @@ static void struck_out(void)
     for (unsigned i = 0; i < 1000; i++) {
         size_t n = 0;
         for (unsigned k = 0; k < i % 60; k++)
-            n += draw_any(bytes + n, k);
+            n += draw_any_record(bytes + n, k);
         draw_state(s);
         lend(&state, i & 7, i % 2 ? 19 : 21, s);
         lend(&sheets, 0, SHEETS_BYTES, zeros);
@@ -431,10 +335,10 @@ static void struck_out(void)
         size_t answered = report.at[5] + 256u * report.at[6], own = struck(rest, replies.at, answered), m;
         memcpy(replies.at, rest, own);
         m = struck(rest, bytes, n);
-        lend(&plain_state, 0, state.length, s);
-        lend(&plain_replies, 0, 16384, NULL);
-        check(pundaliket_run(i / 2 % 2, i / 4 % 2, plain_state.at, plain_state.length, rest, m, plain_replies.at, 16384, report.at, 9) == 0, "struck out, ends with 0", i);
-        check(report.at[5] + 256u * report.at[6] == own && memcmp(plain_replies.at, replies.at, own) == 0 && same(&state, &plain_state), "struck out", i);
+        lend(&core_state, 0, state.length, s);
+        lend(&core_replies, 0, 16384, NULL);
+        check(pundaliket_run(i / 2 % 2, i / 4 % 2, core_state.at, core_state.length, rest, m, core_replies.at, 16384, report.at, 9) == 0, "struck out, ends with 0", i);
+        check(report.at[5] + 256u * report.at[6] == own && memcmp(core_replies.at, replies.at, own) == 0 && same(&state, &core_state), "struck out", i);
     }
 }
 
@@ -509,43 +413,26 @@ static void refusals_of_figures(void)
         }
 }
 
-static int figures_agree(unsigned alignment, const uint8_t *list, size_t ln, size_t n)
+/* each line changes places with a drawn one */
+static void figures_in_another_order(void)
 {
-    lend(&sheets, alignment & 7, ln, list);
-    lend(&out, (alignment * 3) & 7, n, NULL);
-    lend(&plain_out, 0, n, NULL);
-    uint32_t a = sheets_figures(sheets.at, ln, out.at, n), b = plain_sheets_figures(sheets.at, ln, plain_out.at, n);
-    return a == b && same(&out, &plain_out) && guarded(&out) && guarded(&sheets) && holds(&sheets, list);
-}
-
-static void all_figures(void)
-{
-    uint8_t list[SHEETS_BYTES + 8] = { 0 }, before[SHEETS_FIGURES_BYTES], kept[SHEETS_LINE_BYTES];
+    uint8_t list[SHEETS_BYTES] = { 0 }, before[SHEETS_FIGURES_BYTES], after[SHEETS_FIGURES_BYTES], kept[SHEETS_LINE_BYTES];
     for (unsigned i = 0; i < 4000; i++) {
-        draw_list(list);
+        do
+            draw_list(list);
+        while (list[SHEETS_AT_NUMBER] > 64 || list[SHEETS_AT_NUMBER] == 0 || list[SHEETS_AT_OPEN] > 1 || list[SHEETS_AT_KEPT] > 15);
         for (size_t k = 0; k < 64; k++) {
-            uint8_t *at = list + SHEETS_AT_LINES + SHEETS_LINE_BYTES * k;
-            lay_word(at, below(2) ? below(40) : drawn() & 0xFF0000FF);
-            lay_word(at + 4, drawn_word());
-            if (k > 0 && below(4) == 0) {
-                memcpy(at + 4, at + 4 - SHEETS_LINE_BYTES, 4);
-                at[7] ^= 0x80;
-            }
+            put_word(list + SHEETS_AT_LINES + SHEETS_LINE_BYTES * k, below(40));
+            put_word(list + SHEETS_AT_LINES + SHEETS_LINE_BYTES * k + 4, drawn_word());
         }
-        size_t ln = below(40) ? SHEETS_BYTES : SHEETS_BYTES - 2 + below(5), n = below(40) ? SHEETS_FIGURES_BYTES : below(60);
-        check(figures_agree(i, list, ln, n), "figures of a drawn list", i);
-        if (n != SHEETS_FIGURES_BYTES || list[0] < 2 || list[0] > 64)
-            continue;
-        /* each line changes places with a drawn one */
-        memcpy(before, out.at, n);
+        check(sheets_figures(list, sizeof list, before, sizeof before) == 0, "figures of a drawn list", i);
         for (size_t k = 0; k < list[0]; k++) {
             uint8_t *a = list + SHEETS_AT_LINES + SHEETS_LINE_BYTES * k, *b = list + SHEETS_AT_LINES + SHEETS_LINE_BYTES * below(list[0]);
             memcpy(kept, a, sizeof kept);
-            if (a != b)
-                memcpy(a, b, sizeof kept);
+            memmove(a, b, sizeof kept);
             memcpy(b, kept, sizeof kept);
         }
-        check(figures_agree(i, list, ln, n) && memcmp(out.at, before, n) == 0, "figures in another order", i);
+        check(sheets_figures(list, sizeof list, after, sizeof after) == 0 && memcmp(before, after, sizeof after) == 0, "figures in another order", i);
     }
 }
 
@@ -569,7 +456,7 @@ static void stack_of_a_call(void)
         draw_list(lent_list);
         unsigned k = 0;
         for (lent_length = 0; lent_length < 2000; k++)
-            lent_length += draw_any(lent_file + lent_length, k);
+            lent_length += draw_any_record(lent_file + lent_length, k);
         on_painted_stack(call_run);
         on_painted_stack(call_figures);
     }
@@ -583,11 +470,10 @@ int main(void)
     refusals_in_replies();
     refusals_of_a_file();
     refusals_of_the_call();
-    drawn_files();
     struck_out();
     examples_of_figures();
     refusals_of_figures();
-    all_figures();
+    figures_in_another_order();
     stack_of_a_call();
     printf("%u checks, %u failed\n", checks, failed);
     return failed != 0;

@@ -1,57 +1,17 @@
-/* A C program over include/pundaliket.h, linked with the library. It checks 01's example, each
- * refusal of 01's table, roots, the error memory, buffers of f64s, formulas, that no byte beyond a lent slice is written, the room
- * that replies need, the stack that a call needs, and, against the plain C of plain.c, events over all codes,
- * drawn, damaged and cut files, conversions, buffers and formulas.
+/* A C program over include/pundaliket.h, linked with the library. What must come is written out here: 01's example, each refusal of
+ * 01's and 02's tables, roots, rounding, the error memory, buffers of f64s, formulas, that no byte beyond a lent slice is written, the
+ * room that replies need, the stack that a call needs; and that words and floats come back from a round trip bit for bit.
  * Prints what differs and the stack used, then 'N checks, M failed'; ends with 1 if M is not 0. */
 #include <stdio.h>
 #include <string.h>
 
 #include "../../include/pundaliket.h"
-#include "lent.h"
-#include "plain.h"
+#include "checks.h"
+#include "drawn.h"
 
 static struct slice state, input, replies, report, out;
-static struct slice plain_state, plain_replies, plain_report, plain_out;
 
-/* ---- one call of each, compared */
-
-static int event_agrees(unsigned alignment, const uint8_t *s, size_t n, uint32_t kind, uint8_t byte)
-{
-    lend(&state, alignment, n, s);
-    lend(&plain_state, 0, n, s);
-    uint32_t m = drawn_choice(), q = drawn_choice();
-    uint32_t a = pundaliket_event(m, q, state.at, n, kind, byte), b = plain_event(m, q, plain_state.at, n, kind, byte);
-    return a == b && same(&state, &plain_state) && guarded(&state);
-}
-
-static int run_agrees(unsigned alignment, const uint8_t *s, size_t sn, const uint8_t *file, size_t n, size_t room, size_t rn)
-{
-    lend(&state, alignment & 7, sn, s);
-    lend(&plain_state, 0, sn, s);
-    lend(&input, (alignment * 3) & 7, n, file);
-    lend(&replies, (alignment * 5 + 1) & 7, room, NULL);
-    lend(&plain_replies, 0, room, NULL);
-    lend(&report, (alignment * 7 + 2) & 7, rn, NULL);
-    lend(&plain_report, 0, rn, NULL);
-    uint32_t m = drawn_choice(), q = drawn_choice();
-    uint32_t a = pundaliket_run(m, q, state.at, sn, input.at, n, replies.at, room, report.at, rn);
-    uint32_t b = plain_run(m, q, plain_state.at, sn, input.at, n, plain_replies.at, room, plain_report.at, rn);
-    return a == b && same(&state, &plain_state) && same(&replies, &plain_replies) && same(&report, &plain_report)
-        && guarded(&state) && guarded(&input) && holds(&input, file) && guarded(&replies) && guarded(&report);
-}
-
-static int conversions_agree(unsigned alignment, uint32_t x, size_t n)
-{
-    lend(&out, alignment, n, NULL);
-    lend(&plain_out, 0, n, NULL);
-    uint32_t a = pundaliket_word_to_f32(x, out.at, n), b = plain_word_to_f32(x, plain_out.at, n);
-    int good = a == b && same(&out, &plain_out) && guarded(&out);
-    lend(&out, alignment, n, NULL);
-    lend(&plain_out, 0, n, NULL);
-    a = pundaliket_f32_to_word(x, out.at, n);
-    b = plain_f32_to_word(x, plain_out.at, n);
-    return good && a == b && same(&out, &plain_out) && guarded(&out);
-}
+/* ---- round trips */
 
 /* an f32 that is accepted, and a word that is, comes back bit for bit */
 static uint32_t little(const uint8_t *p)
@@ -64,6 +24,13 @@ static int comes_back(uint32_t x)
     uint8_t there[4], back[4];
     int good = pundaliket_f32_to_word(x, there, 4) != 0 || (pundaliket_word_to_f32(little(there), back, 4) == 0 && little(back) == x);
     return good && (pundaliket_word_to_f32(x, there, 4) != 0 || (pundaliket_f32_to_word(little(there), back, 4) == 0 && little(back) == x));
+}
+
+static void round_trips(void)
+{
+    for (uint32_t top = 0; top < 512; top++)
+        for (unsigned k = 0; k < 48; k++)
+            check(comes_back(top << 23 | (k < 5 ? some_fraction(k) : below(FRACTIONS))), "there and back, top bits", top);
 }
 
 /* ---- 01's example, and each refusal of the tables: what must come is written out here */
@@ -719,145 +686,18 @@ static void refusals_of_a_memory(void)
         }
 }
 
-/* ---- against plain.c */
-
-static void all_events(void)
+/* a buffer of proper words comes back bit for bit, under either rule */
+static void buffers_come_back(void)
 {
-    uint8_t s[24];
-    static const uint32_t kinds[] = { 0, 1, 2, 3, 4, 5, 6, 7, 8, 9, 255, 256, 257, 258, 259, 260, 261, 262, 263, 264, 65539, 0x80000003, 0xFFFFFFFF };
-    for (unsigned code = 0; code < 256; code++)
-        for (unsigned i = 0; i < 200; i++) {
-            draw_state(s);
-            check(event_agrees(i & 7, s, i % 2 ? 21 : 19, 3, (uint8_t)code), "command, code", code);
-        }
-    for (unsigned k = 0; k < sizeof kinds / sizeof kinds[0]; k++)
-        for (unsigned i = 0; i < 500; i++) {
-            draw_state(s);
-            if (below(4) == 0)
-                s[16 + below(5)] = (uint8_t)drawn();
-            check(event_agrees(i & 7, s, drawn_length(), kinds[k], (uint8_t)drawn()), "event, kind", kinds[k]);
-        }
-}
-
-static void drawn_files(void)
-{
-    static uint8_t file[65536];
-    uint8_t s[24];
-    for (unsigned i = 0; i < 10000; i++) {
-        size_t n = 0, records = i % 100 == 0 ? 900 : below(40), room = i % 3 ? 2000 : below(200);
-        for (size_t k = 0; k < records; k++)
-            n += draw_record(file + n);
-        if (i % 100 == 0)
-            room = 65536;
-        draw_state(s);
-        if (below(30) == 0)
-            s[16 + below(5)] = (uint8_t)drawn();
-        if (i % 4 == 1 && n > 0)
-            for (unsigned k = 1 + below(3); k > 0; k--)
-                file[below((uint32_t)n)] = below(2) ? (uint8_t)below(20) : (uint8_t)drawn();
-        if (i % 4 == 2)
-            n = below((uint32_t)n + 1);
-        check(run_agrees(i, s, i / 4 % 2 ? 21 : 19, file, n, room, 9), "drawn file", i);
-    }
-    /* one file cut after each of its bytes, and in every small room */
-    size_t n = 0;
-    for (size_t k = 0; k < 40; k++)
-        n += draw_record(file + n);
-    for (size_t sn = 19; sn <= 21; sn += 2) {
-        for (size_t k = 0; k <= n; k++)
-            check(run_agrees((unsigned)k, zeros, sn, file, k, 2000, 9), "cut file", (unsigned)k);
-        for (size_t k = 0; k < 400; k++)
-            check(run_agrees((unsigned)k, zeros, sn, file, n, k, 9), "small room", (unsigned)k);
-    }
-    /* every small file of drawn bytes, slices of other lengths, the longest file and one byte more */
-    for (unsigned i = 0; i < 4000; i++) {
-        n = below(12);
-        for (size_t k = 0; k < n; k++)
-            file[k] = below(3) ? (uint8_t)below(10) : (uint8_t)drawn();
-        draw_state(s);
-        check(run_agrees(i, s, drawn_length(), file, n, below(40), below(10) ? 9 : below(16)), "small file", i);
-    }
-    for (n = 0; n + 244 < PUNDALIKET_MOST_INPUT;)
-        n += draw_record(file + n);
-    while (n < PUNDALIKET_MOST_INPUT + 2)
-        file[n++] = 4;
-    for (size_t k = PUNDALIKET_MOST_INPUT - 2; k <= PUNDALIKET_MOST_INPUT + 2; k++)
-        check(run_agrees((unsigned)k, zeros, k % 2 ? 19 : 21, file, k, 65536, 9), "long file", (unsigned)k);
-}
-
-static void all_conversions(void)
-{
-    static const uint32_t fractions[] = { 0, 1, 2, 0x3FFFFF, 0x400000, 0x7FFFFE, 0x7FFFFF };
-    for (uint32_t top = 0; top < 512; top++) {
-        for (unsigned k = 0; k < 7; k++)
-            check(conversions_agree(k, top << 23 | fractions[k], 4) && comes_back(top << 23 | fractions[k]), "conversion, top bits", top);
-        for (unsigned k = 0; k < 40; k++) {
-            uint32_t x = top << 23 | (drawn() & 0x7FFFFF);
-            check(conversions_agree(k & 7, x, 4) && comes_back(x), "conversion, drawn", top);
-        }
-    }
-    for (size_t n = 0; n < 9; n++)
-        for (unsigned k = 0; k < 50; k++)
-            check(conversions_agree(k & 7, drawn_word(), n), "conversion, slice of", (unsigned)n);
-}
-
-/* a drawn f64: most often within the words' range, and often near the middle of two words */
-static uint64_t drawn_double(void)
-{
-    uint64_t x = (uint64_t)drawn() << 32 | drawn();
-    uint64_t field = 1023 - 68 + below(134);
-    if (below(16) == 0)
-        return x;
-    if (below(2))
-        x = (x & ~(uint64_t)0x1FFFFFFF) | (0x10000000 + (int)below(3) - 1);
-    else if (below(3) == 0)
-        x &= ~(uint64_t)0x1FFFFFFF;
-    return (x & 0x800FFFFFFFFFFFFF) | field << 52;
-}
-
-static int buffers_agree(unsigned alignment, int inward, uint32_t how, const uint8_t *content, size_t n, size_t room)
-{
-    uint64_t number = 7;
-    lend(&input, alignment & 7, n, content);
-    lend(&out, (alignment * 3) & 7, room, NULL);
-    lend(&plain_out, 0, room, NULL);
-    lend_number();
-    uint32_t a = inward ? pundaliket_f64_to_words(how, input.at, n, out.at, room, numbers + 1) : pundaliket_words_to_f64(input.at, n, out.at, room, numbers + 1);
-    uint32_t b = inward ? plain_f64_to_words(how, input.at, n, plain_out.at, room, &number) : plain_words_to_f64(input.at, n, plain_out.at, room, &number);
-    return a == b && numbers[1] == number && guarded_number() && same(&out, &plain_out) && guarded(&out) && guarded(&input) && holds(&input, content);
-}
-
-static void all_buffers(void)
-{
-    static const uint64_t fractions[] = { 0, 0x20000000, 0x0FFFFFFF, 0x10000000, 0x30000000, 0x30000001, 0xFFFFFF0000000, 0xFFFFFFFFFFFFF };
-    static uint8_t content[4096], there[8192];
-    uint64_t entries[256];
-    for (uint64_t top = 0; top < 4096; top++)
-        for (unsigned how = 0; how < 2; how++)
-            for (unsigned k = 0; k < 8; k++) {
-                entries[0] = top << 52 | fractions[k];
-                check(buffers_agree(k, 1, how, content, lay(content, entries, 1, 8), 4), "f64, top bits", (unsigned)top);
-            }
-    for (unsigned i = 0; i < 20000; i++) {
-        size_t n = i % 100 == 0 ? 256 : below(9), odd = below(8) ? 0 : below(8);
-        int inward = (int)below(2), good = below(4) != 0;
-        for (size_t k = 0; k < n; k++)
-            entries[k] = inward ? drawn_double() : good ? drawn() | 0x00800000 : drawn_word();
-        size_t bytes = lay(content, entries, n, inward ? 8 : 4), room = inward ? 4 * n : 8 * n;
-        check(buffers_agree(i, inward, drawn_choice(), content, bytes - (bytes < odd ? bytes : odd), below(8) ? room + below(3) : below((uint32_t)room + 1)), "drawn buffer", i);
-    }
-    /* a buffer of proper words comes back bit for bit, under either rule */
+    static uint8_t content[1024], there[2048];
     for (unsigned i = 0; i < 512; i++) {
         for (size_t k = 0; k < 256; k++)
-            entries[k] = k % 16 == 0 ? 0 : drawn() | 0x00800000;
-        lay(content, entries, 256, 4);
+            put_word(content + 4 * k, k % 16 == 0 ? 0 : ranked((int)below(2), drawn()));
         lend(&out, i & 7, 1024, NULL);
         check(pundaliket_words_to_f64(content, 1024, there, 2048, numbers + 1) == 0 && numbers[1] == 0, "words out", i);
         check(pundaliket_f64_to_words(i % 2, there, 2048, out.at, 1024, numbers + 1) == 0 && numbers[1] == 0 && holds(&out, content) && guarded(&out), "words out and back", i);
     }
 }
-
-/* ---- the room that the header names: with it 8 cannot come, with less it can */
 
 /* ---- formulas, request 7 of 02 */
 
@@ -925,48 +765,7 @@ static void examples_of_formulas(void)
     expect_formula("(((a-b)-c)-d)-e", 32, 0, 33u << 16, 0);
 }
 
-/* a formula of at most so many operations, or a text near one */
-static size_t draw_formula(char *text, size_t n, unsigned operations)
-{
-    unsigned way = below(operations ? 8 : 3);
-    if (n > 200 || way < 2)
-        text[n++] = (char)('a' + below(below(8) ? 7 : 8));
-    else if (way == 2) {
-        n += (size_t)sprintf(text + n, "#%08X", (unsigned)drawn_word());
-    } else if (way == 3) {
-        text[n++] = '-';
-        n = draw_formula(text, n, operations - 1);
-    } else if (way == 4) {
-        text[n++] = '(';
-        n = draw_formula(text, n, operations - 1);
-        text[n++] = ')';
-    } else {
-        n = draw_formula(text, n, operations / 2);
-        text[n++] = "+-*/"[below(4)];
-        n = draw_formula(text, n, operations / 2);
-    }
-    return n;
-}
-
-static void all_formulas(void)
-{
-    static char text[1024];
-    for (unsigned i = 0; i < 20000; i++) {
-        size_t n = draw_formula(text, 0, i % 24), letters = below(20) ? 32 : below(40), room = below(4) ? 2048 : below(300);
-        uint32_t answer;
-        if (i % 5 == 0)
-            text[below((uint32_t)n)] = "abh#()+-*/0F i"[below(14)];
-        if (i % 50 == 0)
-            n = below(300);
-        lend(&input, i % 4, n, (const uint8_t *)text);
-        lend(&state, i % 4, letters, letters <= 32 ? words_of_letters : 0);
-        lend(&out, i % 4, room, 0);
-        lend(&plain_out, i % 4, room, 0);
-        answer = pundaliket_formula(input.at, n, state.at, letters, out.at, room);
-        check(answer == plain_formula(input.at, n, state.at, letters, plain_out.at, room), "formula", i);
-        check(same(&out, &plain_out) && guarded(&out), "a formula's file", i);
-    }
-}
+/* ---- the room that the header names: with it 8 cannot come, with less it can */
 
 static void room_for_replies(void)
 {
@@ -1060,7 +859,8 @@ static void stack_of_a_formula(void)
 {
     deepest = 0;
     for (unsigned i = 0; i < 512; i++) {
-        lent_length = draw_formula((char *)lent_file, 0, i % 24);
+        struct growth g = { i % 24, 6, 18, i / 24 % 8, 1 };
+        lent_length = draw_formula((char *)lent_file, g);
         on_painted_stack(call_formula);
     }
     lent_length = 0;
@@ -1074,6 +874,7 @@ static void stack_of_a_formula(void)
 
 int main(void)
 {
+    round_trips();
     example_of_01();
     refusals_of_a_file();
     longest_blocks();
@@ -1089,12 +890,8 @@ int main(void)
     memory_in_a_file();
     records_of_the_memory();
     refusals_of_a_memory();
-    all_events();
-    drawn_files();
-    all_conversions();
-    all_buffers();
+    buffers_come_back();
     examples_of_formulas();
-    all_formulas();
     room_for_replies();
     stack_of_a_call();
     stack_of_a_formula();

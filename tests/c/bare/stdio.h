@@ -5,4 +5,6 @@
 int printf(const char *format, ...);
 int sprintf(char *to, const char *format, ...);
 int getchar(void);
+typedef struct file FILE;
+int fflush(FILE *file);
 #endif

@@ -1,7 +1,6 @@
-/* Document 01 in plain C, with requests 1 to 6, 9 and 13 of 02. The state is worked on where it lies, as 19 bytes and two of error memory;
- * fixed-point results are formed in 64-bit integers, float results in 64 bits with what falls off kept as one low bit. */
-#include <string.h>
-
+/* Document 01 in plain C, with requests 1 to 6, 9 and 13 of 02, as a firmware writer would have it: fast. The state is worked on where it
+ * lies, as 19 bytes and two of error memory; fixed-point results are formed in 64-bit integers, float results in 64 bits with what falls
+ * off kept as one low bit. */
 #include "plain.h"
 
 enum { PENDING = 16, STATUS = 17, SERVICE = 18, STATE = 19, MEMORY = 2, REPORT = 9, MOST_INPUT = 12288 };
@@ -528,33 +527,6 @@ static void put_little(uint8_t *p, uint32_t w)
         p[i] = (uint8_t)(w >> 8 * i);
 }
 
-uint32_t plain_word_to_f32(uint32_t word, uint8_t *out, size_t out_length)
-{
-    if (out_length != 4)
-        return 8;
-    if (!is_proper(word))
-        return 4;
-    put_little(out, word == 0 ? 0 : (word & 0x807FFFFF) + ((uint32_t)(exponent(word) + 126) << 23));
-    return 0;
-}
-
-uint32_t plain_f32_to_word(uint32_t bits, uint8_t *out, size_t out_length)
-{
-    uint32_t magnitude = bits & 0x7FFFFFFF, biased = magnitude >> 23;
-    if (out_length != 4)
-        return 8;
-    if (biased == 255)
-        return 10;
-    if (magnitude == 0 && bits != 0)
-        return 15;
-    if (biased >= 63 + 127)
-        return 11;
-    if (magnitude != 0 && biased < 127 - 65)
-        return 12;
-    put_little(out, bits == 0 ? 0 : (bits & 0x807FFFFF) | 0x800000 | ((biased - 126) & 0x7F) << 24);
-    return 0;
-}
-
 /* ---- buffers, request 13 of 02: an f64 is a sign, 11 bits of exponent plus 1023, 52 bits behind the leading one */
 
 static uint32_t get_little(const uint8_t *p) { return p[0] | (uint32_t)p[1] << 8 | (uint32_t)p[2] << 16 | (uint32_t)p[3] << 24; }
@@ -635,125 +607,4 @@ uint32_t plain_f64_to_words(uint32_t rule, const uint8_t *floats, size_t floats_
         put_little(out + 4 * i, bring(rule, get_eight(floats + 8 * i)).word);
     *number = rounded;
     return 0;
-}
-
-/* ---- formulas, request 7 of 02: by descent, the file in postfix order beside it */
-
-struct formula {
-    const uint8_t *text, *letters;
-    size_t length, at, size;
-    int outside, improper;
-    uint8_t file[8 * 256];
-};
-
-static uint32_t sum_of(struct formula *f, unsigned depth);
-
-static void put_operand(struct formula *f, uint32_t word)
-{
-    static const uint8_t head[4] = { 6, 0, 1, 0 };
-    f->improper |= !is_proper(word);
-    memcpy(f->file + f->size, head, 4);
-    put_little(f->file + f->size + 4, word);
-    f->size += 8;
-}
-
-static void put_operation(struct formula *f, uint8_t code)
-{
-    const uint8_t record[5] = { 3, 0, 3, 0, code };
-    memcpy(f->file + f->size, record, 5);
-    f->size += 5;
-}
-
-/* the next byte, which is used up if it is one of these two; 0 if not */
-static uint8_t taken(struct formula *f, uint8_t one, uint8_t other)
-{
-    uint8_t c = f->at < f->length ? f->text[f->at] : 0;
-    if (c == 0 || (c != one && c != other))
-        return 0;
-    f->at++;
-    return c;
-}
-
-/* each gives the stack words that it needs */
-static uint32_t leaf_of(struct formula *f)
-{
-    uint8_t c = f->at < f->length ? f->text[f->at] : 0;
-    uint32_t word = 0;
-    f->at++;
-    if (c >= 'a' && c <= 'h')
-        for (int i = 0; i < 4; i++)
-            word = word << 8 | f->letters[4 * (c - 'a') + i];
-    else if (c == '#')
-        for (int i = 0; i < 8; i++) {
-            uint8_t d = f->at < f->length ? f->text[f->at] : 0;
-            f->at++;
-            if (d >= '0' && d <= '9')
-                word = word << 4 | (uint32_t)(d - '0');
-            else if (d >= 'A' && d <= 'F')
-                word = word << 4 | (uint32_t)(d - 'A' + 10);
-            else
-                f->outside = 1;
-        }
-    else
-        f->outside = 1;
-    if (!f->outside)
-        put_operand(f, word);
-    return 1;
-}
-
-static uint32_t factor_of(struct formula *f, unsigned depth)
-{
-    uint8_t c = taken(f, '-', '(');
-    uint32_t need;
-    if (c == 0)
-        return leaf_of(f);
-    if (depth == 16) {
-        f->outside = 1;
-        return 0;
-    }
-    need = c == '-' ? factor_of(f, depth + 1) : sum_of(f, depth + 1);
-    if (c == '(')
-        f->outside |= !taken(f, ')', ')');
-    else
-        put_operation(f, 0x15);
-    return need;
-}
-
-static uint32_t joined_by(struct formula *f, unsigned depth, uint8_t first, uint8_t second, uint8_t code, uint32_t (*part)(struct formula *, unsigned))
-{
-    uint32_t need = part(f, depth);
-    uint8_t c;
-    while (!f->outside && (c = taken(f, first, second)) != 0) {
-        uint32_t right = part(f, depth) + 1;
-        need = right > need ? right : need;
-        put_operation(f, c == first ? code : (uint8_t)(code + 1));
-    }
-    return need;
-}
-
-static uint32_t product_of(struct formula *f, unsigned depth) { return joined_by(f, depth, '*', '/', 0x12, factor_of); }
-
-static uint32_t sum_of(struct formula *f, unsigned depth) { return joined_by(f, depth, '+', '-', 0x10, product_of); }
-
-uint32_t plain_formula(const uint8_t *text, size_t text_length, const uint8_t *letters, size_t letters_length, uint8_t *file, size_t file_length)
-{
-    struct formula f;
-    uint32_t need;
-    if (letters_length != 32 || text_length == 0 || text_length > 256)
-        return 30u << 16;
-    memset(&f, 0, sizeof f);
-    f.text = text;
-    f.length = text_length;
-    f.letters = letters;
-    need = sum_of(&f, 0);
-    if (f.outside || f.at != text_length)
-        return 30u << 16;
-    if (f.improper)
-        return 31u << 16;
-    if (need > 4)
-        return 32u << 16;
-    if (f.size > file_length)
-        return 33u << 16;
-    memcpy(file, f.file, f.size);
-    return (uint32_t)f.size;
 }

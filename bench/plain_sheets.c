@@ -1,9 +1,8 @@
-/* Requests 11 and 14 of document 02 in plain C. The core runs each stretch of its own records at once, on a state of 21 bytes;
+/* Request 11 of document 02 in plain C. The core runs each stretch of its own records at once, on a state of 21 bytes;
  * between two stretches stands one record of kind 256, 257 or 258. */
 #include <string.h>
 
 #include "plain.h"
-#include "plain_sheets.h"
 
 enum { STATE = 19, LONG_STATE = 21, PENDING = 16, REPORT = 9, MOST_INPUT = 12288 };
 enum { SHEETS = 1303, LINE = 20, LINES = 64, OPEN = 1281, SERIAL = 1282, KEPT = 1286, WORDS = 1287, OPEN_BYTES = 22 };
@@ -125,68 +124,4 @@ uint32_t plain_sheets_run(uint32_t mode, uint32_t rule, uint8_t *state, size_t s
         report[5 + i] = (uint8_t)(written >> 8 * i);
     }
     return refusal;
-}
-
-/* ---- figures, request 14: one sum of 48 hex digits, the lowest first, for each sign */
-
-enum { FIGURES = 53, DIGITS = 48 };
-
-static void add(uint8_t *sum, uint32_t w)
-{
-    uint32_t places = ((w >> 24) + 64) % 128, carry = 0;
-    uint64_t m = (uint64_t)(w & 0xFFFFFF) << places % 4;
-    for (uint32_t i = places / 4; i < DIGITS; i++, m >>= 4) {
-        carry += sum[i] + (uint32_t)(m & 15);
-        sum[i] = carry % 16;
-        carry /= 16;
-    }
-}
-
-/* whether a is below b; if not, b is taken from a */
-static int take(uint8_t *a, const uint8_t *b)
-{
-    int borrow = 0;
-    uint8_t left[DIGITS];
-    for (int i = 0; i < DIGITS; i++) {
-        int d = a[i] - b[i] - borrow;
-        borrow = d < 0;
-        left[i] = (uint8_t)(d + 16 * borrow);
-    }
-    if (!borrow)
-        memcpy(a, left, DIGITS);
-    return borrow;
-}
-
-uint32_t plain_sheets_figures(const uint8_t *sheets, size_t sheets_length, uint8_t *out, size_t out_length)
-{
-    uint8_t sums[2][DIGITS] = { { 0 } }, *sum = sums[0];
-    if (out_length != FIGURES)
-        return 8;
-    if (bad_sheets(sheets, sheets_length))
-        return 13;
-    memset(out, 0, 4);
-    out[0] = sheets[0];
-    for (size_t i = 0; i < sheets[0]; i++) {
-        const uint8_t *line = sheets + 1 + LINE * i;
-        uint32_t w = (uint32_t)four(line + 4);
-        int before = 0, behind = 0;
-        for (size_t k = 0; k < sheets[0]; k++)
-            if (k != i && memcmp(line, sheets + 1 + LINE * k, 4) == 0)
-                *(k < i ? &before : &behind) = 1;
-        out[1] += !before;
-        out[2] += !before && behind;
-        if (w == 0 || w & 0x800000)
-            add(sums[w >> 31], w);
-        else
-            out[3]++;
-    }
-    out[4] = '+';
-    if (take(sums[0], sums[1])) {
-        take(sums[1], sums[0]);
-        sum = sums[1];
-        out[4] = '-';
-    }
-    for (int i = 0; i < DIGITS; i++)
-        out[5 + i] = (uint8_t)"0123456789ABCDEF"[sum[DIGITS - 1 - i]];
-    return 0;
 }
