@@ -1,5 +1,6 @@
-/* Calls of ./steps, a line each: the code, B, A and, in half of them, the option for the other rule; behind each line, between two marks, what
- * the second opinion says that the program writes. The operands are edges, drawn ones, exact quotients and improper words. */
+/* steps EVERY: 1,600 calls of ./steps, or each EVERY-th of them. For each a line with its arguments (code, B, A and, in half of them,
+ * the option for the other rule), the text that the second opinion says the program writes, and a dot. The operands are edges, drawn
+ * ones, exact quotients and improper words. */
 #include <stdio.h>
 
 #include "drawn.h"
@@ -15,9 +16,10 @@ static uint32_t with_digits(uint32_t digits)
     return ranked((int)below(2), below(EXPONENTS) * FRACTIONS + digits % FRACTIONS);
 }
 
-int main(void)
+int main(int count, char **words)
 {
     static char text[4096];
+    uint32_t every = count == 2 && words[1][0] > '0' && words[1][0] <= '9' ? (uint32_t)(words[1][0] - '0') : 1;
     for (uint32_t i = 0; i < 1600; i++) {
         uint8_t code = codes[i % 8];
         int bits = code & 0x40 ? 16 : 32, is_float = code < 0x20;
@@ -35,6 +37,8 @@ int main(void)
             b %= 65536;
             a %= 65536;
         }
+        if (i % every)
+            continue;
         text[second_steps(rule, code, b, a, text)] = 0;
         printf("%02X %0*X %0*X%s\n%s.\n", code, bits / 4, (unsigned)b, bits / 4, (unsigned)a, rule ? " --nearest" : "", text);
     }

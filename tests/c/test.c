@@ -1,4 +1,4 @@
-/* A C program over include/pundaliket.h, linked with the library. What must come is written out here: 01's example, each refusal of
+/* A C program over include/pundaliket.h, linked with the library. What must come is written out here: 01's example and bench values, each refusal of
  * 01's and 02's tables, roots, rounding, the error memory, buffers of f64s, formulas, that no byte beyond a lent slice is written, the
  * room that replies need, the stack that a call needs; and that words and floats come back from a round trip bit for bit.
  * Prints what differs and the stack used, then 'N checks, M failed'; ends with 1 if M is not 0. */
@@ -83,6 +83,43 @@ static void example_of_01(void)
     static const uint8_t left[] = { 0, 0, 0, 0, 0, 0, 0, 0, 0, 0, 0, 0, 0, 5, 0, 8, 0, 0, 0 };
     expect_run("example of 01", zeros, file, sizeof file, 65536, 0, sizeof file, written, sizeof written, left);
     expect_run("example of 01, just its room", zeros, file, sizeof file, sizeof written, 0, sizeof file, written, sizeof written, left);
+}
+
+/* ---- 01's bench values: B and A, the result, the status */
+
+static void bench_values(void)
+{
+    static const struct {
+        uint8_t code;
+        int bits, result_bits;
+        uint32_t b, a, r;
+        uint8_t status;
+    } rows[] = {
+        { PUNDALIKET_CODE_SADD, 16, 16, 0x7FFF, 0x0001, 0x8000, 0x42 },
+        { PUNDALIKET_CODE_SADD, 16, 16, 0x8000, 0x8000, 0x0000, 0x23 },
+        { PUNDALIKET_CODE_SSUB, 16, 16, 0x0000, 0x0001, 0xFFFF, 0x41 },
+        { PUNDALIKET_CODE_SMUL, 16, 16, 0x0100, 0x0100, 0x0000, 0x22 },
+        { PUNDALIKET_CODE_SMUL, 16, 16, 0x8000, 0x0000, 0x8000, 0x42 },
+        { PUNDALIKET_CODE_SDIV, 16, 16, 0xFFF9, 0x0002, 0xFFFD, 0x40 },
+        { PUNDALIKET_CODE_SDIV, 16, 16, 0x0007, 0x0000, 0x0007, 0x10 },
+        { PUNDALIKET_CODE_FDIV, 32, 32, 0x01800000, 0x02C00000, 0x7FAAAAAA, 0x00 },
+        { PUNDALIKET_CODE_FADD, 32, 32, 0x01800000, 0xC0800000, 0x00FFFFFF, 0x00 },
+        { PUNDALIKET_CODE_FMUL, 32, 32, 0x3FFFFFFF, 0x3FFFFFFF, 0x7EFFFFFE, 0x02 },
+        { PUNDALIKET_CODE_FMUL, 32, 32, 0x40800000, 0x40800000, 0x7F800000, 0x04 },
+        { PUNDALIKET_CODE_FIXS, 32, 16, 0, 0x8FFFFE00, 0x8001, 0x40 },
+        { PUNDALIKET_CODE_FIXS, 32, 32, 0, 0x90800000, 0x90800000, 0x42 },
+        { PUNDALIKET_CODE_FLTD, 32, 32, 0, 0x7FFFFFFF, 0x1FFFFFFF, 0x00 },
+    };
+    for (unsigned k = 0; k < sizeof rows / sizeof rows[0]; k++) {
+        uint8_t before[PUNDALIKET_STATE_BYTES] = { 0 }, top[4];
+        put_operand(before, rows[k].bits == 16 ? rows[k].a << 16 | rows[k].b : rows[k].a);
+        put_operand(before + 4, rows[k].bits == 16 ? 0 : rows[k].b);
+        put_operand(top, rows[k].result_bits == 16 ? rows[k].r << 16 : rows[k].r);
+        lend(&state, k & 7, sizeof before, before);
+        check(pundaliket_event(mode, rule, state.at, sizeof before, PUNDALIKET_COMMAND, rows[k].code) == 0, "bench value, answer", k);
+        check(memcmp(state.at, top, (size_t)rows[k].result_bits / 8) == 0, "bench value", k);
+        check(state.at[PUNDALIKET_AT_STATUS] == rows[k].status && guarded(&state), "bench value, status", k);
+    }
 }
 
 /* a push of one byte, done, then a record that is answered or stops */
@@ -876,6 +913,7 @@ int main(void)
 {
     round_trips();
     example_of_01();
+    bench_values();
     refusals_of_a_file();
     longest_blocks();
     refusals_of_the_call();
