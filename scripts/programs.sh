@@ -1,124 +1,151 @@
-# What ./list and the programs beside it share. To be read by a script that has set `top`, the repository's folder, and
-# defines `usage`. A program ends with 0 if all that it had to say was written, with 1 if not, and with 2 if it was
-# called wrongly; the reason then stands on standard error, in a line that begins with the program's name.
-# Sets work, a folder that goes when the script ends; defines fail, misused, ready, record_bytes, ran, written, in_words.
+# What the commands share. To be read by a script that has set `top`, the folder that it stands in, and defines `usage`.
+# A command ends with 0 if all that it had to say was written, with 1 if not, and with 2 if it was called wrongly; the
+# reason then stands on standard error, in a line that begins with the command's name. A signal ends it with 128 and the
+# signal's number.
+# Sets work, a folder that goes when the script ends, and called, how people call the command; defines fail, misused,
+# version, hex_digits, record_bytes, stands, ready, ran, written, and what scripts/build.sh has.
+LC_ALL=C
+export LC_ALL
+true 3>&2 || exec 2>/dev/null # standard error is closed
+. "$top/scripts/build.sh"
+called=${PUNDALIKET_CALLED:-./${0##*/}}
 
 fail() {
-    echo "${0##*/}: $1" >&2
+    say "$1"
     exit 1
 }
 
 misused() {
-    echo "${0##*/}: $1" >&2
-    usage >&2
+    say "$1"
+    echo "$(usage | head -n 1); $called --help says more" >&2 || :
     exit 2
 }
 
-work=$(mktemp -d) || fail "there is no folder for temporary files"
+# version: which Pundaliket this is, and the commit where there is one
+version() {
+    commit=''
+    if [ -f "$top/COMMIT" ]; then
+        commit=$(cat "$top/COMMIT")
+    elif [ -e "$top/.git" ] && commit=$(git -C "$top" rev-parse --short HEAD 2>/dev/null); then
+        git -C "$top" diff --quiet HEAD -- 2>/dev/null || commit="$commit with changes"
+    fi
+    echo "${0##*/} (Pundaliket) $(cat "$top/VERSION")${commit:+, commit $commit}"
+}
+
+case ${1-} in --version) version; exit 0 ;; esac
+
+# Without a folder for temporary files there is no writing below it, and `unkept` says so.
+work=$(mktemp -d 2>/dev/null) || work=/dev/null/none
 trap 'rm -rf "$work"' EXIT
-trap 'exit 1' HUP INT TERM
+trap 'exit 129' HUP
+trap 'exit 130' INT
+trap 'exit 143' TERM
+
+# unkept: fails where no more temporary files can be written
+unkept() {
+    [ -d "$work" ] || fail "there is no folder for temporary files: ${TMPDIR:-/tmp} cannot be written (TMPDIR names another)"
+    room "$work" "${TMPDIR:-/tmp}" || fail "temporary files are needed, and $reason (TMPDIR names another folder)"
+}
 
 # A run takes 12,288 bytes (document 01). One more byte tells that an input is longer, and no more is read.
 most=12289
 
-# ready NAME: proves and builds the program NAME, where the crates changed since; sets program, which start then runs
-ready() {
-    . "$top/tests/kit.sh"
-    program=$top/target/bin/$1
-    build "$program" rt check "$1" || exit 1
+# hex_digits PLACE ARGUMENT FROM COUNT WHAT: sets digits to those of ARGUMENT from character FROM on, 0x in front or not;
+# WHAT has COUNT of them. PLACE says which argument it is.
+hex_digits() {
+    digits=$2 from=$3
+    while [ "$from" -gt 1 ]; do digits=${digits#?} from=$((from - 1)); done
+    case $digits in 0[xX]*) digits=${digits#??} ;; esac
+    good=${digits%%[!0-9A-Fa-f]*}
+    if [ "$good" != "$digits" ]; then
+        bad=${digits#"$good"}
+        misused "argument $1, \"$2\": character $((${#2} - ${#bad} + 1)), \"${bad%"${bad#?}"}\", is no hex digit"
+    fi
+    [ ${#digits} -eq "$4" ] || misused "argument $1, \"$2\": $5 has $4 hex digits, and this has ${#digits}"
 }
 
 # record_bytes FILE HEX: what FILE holds ('-' is standard input), to $work/input: record bytes, or, where HEX is yes
-# or the name ends in .hex, hex text. Reads no further than it must.
+# or the name ends in .hex, hex text. Reads no further than it must. Sets named, what messages call it.
 record_bytes() {
-    [ "$1" = - ] || [ -e "$1" ] || fail "$1: there is no such file"
-    [ "$1" = - ] || [ ! -d "$1" ] || fail "$1: that is a folder"
-    [ "$1" = - ] || [ -r "$1" ] || fail "$1: that file cannot be read"
+    named=$1
+    if [ "$1" = - ]; then
+        named='standard input'
+    else
+        [ -e "$1" ] || fail "$1: there is no such file"
+        [ ! -d "$1" ] || fail "$1: that is a folder"
+        [ -r "$1" ] || fail "$1: that file cannot be read"
+    fi
     case $2:$1 in
     yes:* | *.[Hh][Ee][Xx]) take=hex_bytes ;;
     *) take=plain_bytes ;;
     esac
-    if [ "$1" = - ]; then
-        $take >"$work/input" || fail "standard input, $(cat "$work/why")"
-    else
-        $take <"$1" >"$work/input" || fail "$1, $(cat "$work/why")"
-    fi
+    if [ "$1" = - ]; then $take; else $take <"$1"; fi
 }
 
-plain_bytes() {
-    echo 'which cannot be read' >"$work/why"
-    dd bs=1 count="$most" 2>/dev/null
+# unread: no byte more comes from the file, or none can be kept
+unread() {
+    unkept
+    fail "$named, which cannot be read"
 }
 
-# Hex text to bytes. A byte is two digits of either case; '#' starts a comment that ends with its line; a line ends
-# with LF, CR or both; blanks and tabs part bytes; a byte order mark at the start is passed over.
+plain_bytes() { { dd bs=1 count="$most" >"$work/input"; } 2>/dev/null || unread; }
+
+# hex text, as scripts/hex.awk has it
 hex_bytes() {
     rm -f "$work/unread"
-    { od -A n -v -t x1 2>/dev/null || : >"$work/unread"; } | LC_ALL=C awk -v most="$most" '
-        function refuse(text) { print "line " line ": " text; bad = 1; exit 1 }
-        function whole() { if (half != "") refuse("\"" half_shown "\" is half a byte") }
-        BEGIN {
-            line = 1
-            for (i = 33; i < 127; i++) shown[sprintf("%02x", i)] = sprintf("%c", i)
-            for (i = 0; i < 10; i++) value["3" i] = i
-            for (i = 1; i < 7; i++) { value["4" i] = 9 + i; value["6" i] = 9 + i }
-        }
-        comment && !/ 0[ad]/ { last = ""; next }
-        {
-            i = 1
-            if (NR == 1 && $1 $2 $3 == "efbbbf") i = 4
-            if (NR == 1 && ($1 $2 == "fffe" || $1 $2 == "feff")) refuse("this is UTF-16; save the text as UTF-8")
-            for (; i <= NF; i++) {
-                c = $i
-                if (c == "0a" || c == "0d") {
-                    whole()
-                    if (c == "0d" || last != "0d") line++
-                    comment = 0
-                } else if (comment) {
-                    continue
-                } else if (c in value) {
-                    if (half == "") {
-                        half = value[c]
-                        half_shown = shown[c]
-                    } else {
-                        out = out sprintf("\\%03o", 16 * half + value[c])
-                        half = ""
-                        if (++count % 256 == 0) { print out; out = "" }
-                        if (count == most) exit
-                    }
-                } else {
-                    if (c == "23") comment = 1
-                    else if (c in shown) refuse("\"" shown[c] "\" is no hex digit")
-                    else if (c != "20" && c != "09") refuse("the byte " toupper(c) " (hex) is no text")
-                    whole()
-                }
-                last = c
-            }
-        }
-        END {
-            if (!bad) whole()
-            if (!bad && out != "") print out
-            exit bad
-        }' >"$work/escapes" || { tail -n 1 "$work/escapes" >"$work/why"; return 1; }
+    { { od -A n -v -t x1 || true >"$work/unread"; } | awk -v most="$most" -f "$top/scripts/hex.awk" >"$work/escapes"; } 2>/dev/null || {
+        unkept
+        fail "$named, $(tail -n 1 "$work/escapes")"
+    }
     while IFS= read -r escapes; do
         # shellcheck disable=SC2059
         printf "$escapes"
-    done <"$work/escapes" >"$work/bytes"
-    if [ -f "$work/unread" ] && [ "$(wc -c <"$work/bytes")" -lt "$most" ]; then
-        echo 'which cannot be read' >"$work/why"
-        return 1
-    fi
-    cat "$work/bytes"
+    done <"$work/escapes" 2>/dev/null >"$work/input"
+    bytes=$(wc -c <"$work/input")
+    [ $((bytes * 4 + $(wc -l <"$work/escapes"))) -eq "$(wc -c <"$work/escapes")" ] || unread
+    [ ! -f "$work/unread" ] || [ "$bytes" -eq "$most" ] || unread
 }
 
-# ran FILE LAST ARGUMENT..: runs the program that is ready on $work/input, its output to FILE, whose last line begins with LAST
+# installed: this is a folder that ./install made, with programs and no sources
+installed() { [ -d "$top/programs" ] && [ ! -f "$top/crates.txt" ]; }
+
+# stands NAME: the program NAME is there and up to date; sets program
+stands() {
+    if installed; then
+        program=$top/programs/$1
+        [ -x "$program" ]
+        return
+    fi
+    program=$top/target/bin/$1
+    command -v rt >/dev/null 2>&1 && current "$program"
+}
+
+# ready NAME: proves and builds the program NAME, where its crates changed; sets program, which ran then starts
+ready() {
+    if installed; then
+        stands "$1" || fail "$program is missing: install it again"
+        # shellcheck disable=SC2317,SC2329
+        start() { case $(uname -m) in x86_64 | amd64) "$@" ;; *) qemu-x86_64 "$@" ;; esac; }
+    else
+        toolchain
+        stands "$1" || build "$program" rt check "$1" || exit 1
+    fi
+}
+
+# ran FILE LAST ARGUMENT..: runs the program that is ready on $work/input, its output to FILE, whose last line begins with
+# the pattern LAST
 ran() {
-    to=$1 last=$2
+    to=$1 last=$2 status=0
     shift 2
-    start "$program" "$@" <"$work/input" >"$to" || fail "${program##*/} ended with $?"
-    case $(tail -n 1 "$to"):$(tail -c 1 "$to") in
-    "$last"*:) ;;
-    *) fail "what ${program##*/} wrote was cut: is the disk full?" ;;
+    { start "$program" "$@" <"$work/input" >"$to"; } 2>/dev/null || status=$?
+    case $status:$(tail -n 1 "$to" 2>/dev/null | tr -d '\000'):$(tail -c 1 "$to" 2>/dev/null) in
+    0:$last*:) return 0 ;;
+    esac
+    unkept
+    case $status in
+    0) fail "what ${program##*/} wrote does not end as it must" ;;
+    126 | 127) fail "${program##*/} cannot be started here: it is a program for x86-64 Linux with the GNU C library" ;;
+    *) fail "${program##*/} ended with $status" ;;
     esac
 }
 
@@ -128,49 +155,4 @@ written() {
     status=$?
     [ "$status" -lt 128 ] || exit "$status"
     fail "standard output cannot be written, so what stands there is not whole"
-}
-
-# in_words FILE: the listing in FILE with words behind a line, two blanks and '#' between: what a status or the error
-# memory says, why a record was refused, how the run ended. Nothing proves these words; without them the line is the
-# program's.
-in_words() {
-    awk '
-        BEGIN {
-            why[1] = "unknown command code"
-            why[2] = "a derived function, which is not carried"
-            why[3] = "a half word is pending"
-            why[4] = "a float operand is not proper"
-            why[5] = "there is no such kind of record"
-            why[6] = "the file ends inside a record"
-            why[7] = "a length, a payload or a pop count that its kind does not allow"
-            why[8] = "no room for the reply"
-            why[9] = "the input is over 12,288 bytes"
-            why[20] = "a sheet is open already"
-            why[21] = "no sheet is open"
-            why[22] = "there is no such slot"
-            why[23] = "a half word is pending"
-            why[24] = "a slot is not kept"
-            why[25] = "the list is full"
-        }
-        function digit(c) { return index("0123456789ABCDEF", c) - 1 }
-        # what the byte says whose digits are h and l
-        function status(h, l,    said) {
-            if (h >= 8) said = said ", busy"
-            if (h % 8 >= 4) said = said ", sign"
-            if (h % 4 >= 2) said = said ", zero"
-            if (h % 2) said = said ", divide by zero"
-            if (l >= 8) said = said ", root of a negative number"
-            if (l % 8 >= 4) said = said ", underflow"
-            if (l % 4 >= 2) said = said ", overflow"
-            if (l % 2) said = said ", carry"
-            return said == "" ? "no bit set" : substr(said, 3)
-        }
-        $1 !~ /^[0-9]+$/ && $1 != "end" { print; next }
-        $1 == "end" && $2 == 0 { print $0 "  # the whole file"; next }
-        $1 == "end" { print $0 "  # stopped: " why[$2]; next }
-        $3 != 0 { print $0 "  # refused: " why[$3]; next }
-        $2 == 7 && $4 == "00" { print $0 "  # no error"; next }
-        $2 == 7 { print $0 "  # " status(digit(substr($4, 1, 1)), digit(substr($4, 2, 1))) "; the first by command " $5; next }
-        $2 == 4 { print $0 "  # " status(digit(substr($4, 1, 1)), digit(substr($4, 2, 1))); next }
-        { print }' "$1"
 }

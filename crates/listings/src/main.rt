@@ -9,7 +9,7 @@ use listing::TEXT_ROOM;
 // A name, and the listing of an input.
 fn show(name: &[u8], input: &[u8]) {
     let mut text = [0u8; TEXT_ROOM];
-    let n = printout::print(input, &mut text);
+    let n = printout::print(0, 0, input, &mut text);
     io::write_all(STDOUT_FILENO, name);
     io::write_all(STDOUT_FILENO, &text[..n]);
 }

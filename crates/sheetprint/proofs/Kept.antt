@@ -13,8 +13,8 @@ use Rattle.ledger.proofs.Ledgers.{is-long}
 use Rattle.sheets.specs.Step.{Held, runOf}
 use Rattle.sheets.specs.Calls.{Called}
 use Rattle.sheets.proofs.Growth.{run-grows}
-use Rattle.sheets.proofs.Calling.{too-long, good}
-use Rattle.sheetprint.specs.Printout.{callFor}
+use Rattle.sheets.proofs.Calling.{bad-mode, bad-rule, too-long, good}
+use Rattle.sheetprint.specs.Printout.{callUnder}
 
 -- bytes that the lines can be read of
 abbrev pub Fair : List ℕ → Type 0
@@ -34,9 +34,33 @@ none-good = refl
 pub none-fair : Fair (replicate 1303 0)
 none-fair = (length-replicate {A = ℕ} 1303 0, lit≤ tt)
 
-pub call-fair : (input : List ℕ) → Fair (callFor input .sheets)
-call-fair input =
-    either-lt (λ (n : ℕ). Fair (callFor input .sheets)) mostInput (length input) 0 0
-    (λ g. subst (λ (c : Called). Fair (c .sheets)) (sym (too-long 0 0 (replicate 19 0) (replicate 1303 0) input (replicate 65536 0) (replicate 9 0) refl (lit≤ tt) (lit≤ tt) state-good none-good g)) none-fair)
-    (λ g. subst (λ (c : Called). Fair (c .sheets)) (sym (good 0 0 (replicate 19 0) (replicate 1303 0) input (replicate 65536 0) (replicate 9 0) refl (lit≤ tt) (lit≤ tt) state-good none-good g))
-    (run-fair _ input _ none-good))
+-- under any mode and rule: where the run is turned away the bytes stay as they were
+module _ (mode rule : ℕ) (input : List ℕ) where
+  abbrev state : List ℕ
+  state = replicate 19 0
+
+  abbrev none : List ℕ
+  none = replicate 1303 0
+
+  abbrev replies : List ℕ
+  replies = replicate 65536 0
+
+  abbrev report : List ℕ
+  report = replicate 9 0
+
+  left : (c : Called) → callUnder mode rule input ≡ c → Fair (c .sheets) → Fair (callUnder mode rule input .sheets)
+  left c e f = subst (λ (x : Called). Fair (x .sheets)) (sym e) f
+
+  taken : mode ≤ 1 → rule ≤ 1 → Fair (callUnder mode rule input .sheets)
+  taken m r =
+      either-lt (λ (n : ℕ). Fair (callUnder mode rule input .sheets)) mostInput (length input) 0 0
+      (λ g. left _ (too-long mode rule state none input replies report refl m r state-good none-good g) none-fair)
+      (λ g. left _ (good mode rule state none input replies report refl m r state-good none-good g) (run-fair _ input _ none-good))
+
+  pub call-fair : Fair (callUnder mode rule input .sheets)
+  call-fair =
+      either-lt (λ (n : ℕ). Fair (callUnder mode rule input .sheets)) 1 mode 0 0
+      (λ m. left _ (bad-mode mode rule state none input replies report refl m) none-fair)
+      (λ m. either-lt (λ (n : ℕ). Fair (callUnder mode rule input .sheets)) 1 rule 0 0
+      (λ r. left _ (bad-rule mode rule state none input replies report refl m r) none-fair)
+      (λ r. taken m r))

@@ -1,5 +1,5 @@
 -- How long the lines are, and that the lines of the sheets come one sheet at a time. Assumes nothing.
-use mathlib.Core.Path.{_≡_, sym, ap, subst, _∙_}
+use mathlib.Core.Path.{_≡_, refl, sym, ap, subst, _∙_}
 use mathlib.Core.Bool.{Bool, true, false, cond}
 use mathlib.Core.List.{List, [], _∷_, _++_, append-assoc, append-nil}
 use Prim.Native.Nat.{ℕ, zero, suc, _+_, _*_, _-_, _/_, _%_, _≤_, _<_, zero-le}
@@ -9,11 +9,13 @@ use lib.ListN.{length, take, drop, length-append, length-drop}
 use lib.Seq.{drop-drop, length-take-le}
 use Rattle.little.specs.Little.{fourAt}
 use Rattle.ledger.specs.Ledger.{serialAt, isOpen, lines, linesOf, closedIn}
+use Rattle.sheets.specs.Calls.{Called}
+use Rattle.options.specs.Options.{askedOf}
 use Rattle.listing.specs.Text.{digit, decimal, Adds}
 use Rattle.listing.specs.Listing.{newline, field, printedOf}
 use Rattle.listing.proofs.Adding.{nothing}
 use Rattle.listing.proofs.Decimal.{at-most}
-use Rattle.sheetprint.specs.Printout.{sheetWord, openWord, wordText, wordsText, sheetText, sheetsText, openText, figureText, figuresText, figuresFor, callFor, printoutOf}
+use Rattle.sheetprint.specs.Printout.{sheetWord, openWord, wordText, wordsText, sheetText, sheetsText, openText, figureText, figuresText, figuresFor, printedFor, printoutOf, toldOf}
 
 -- the line of a sheet has room
 pub sheet-length : (l : List ℕ) → length (sheetText l) ≡ length (decimal (fourAt l 0)) + 43
@@ -93,12 +95,16 @@ open-short l = pick (isOpen l)
 pub figure-short : (name : List ℕ) (n : ℕ) → length (figureText name n) ≤ length name + 22
 figure-short name n = omega (arith, length-append name (field n ++ (newline ∷ [])), length-append (decimal n) (newline ∷ []), at-most 20 n)
 
--- what the run left has the input's printout
-pub of-run : (input : List ℕ) {replies report sheets figures : List ℕ} → replies ≡ callFor input .replies → report ≡ callFor input .report → sheets ≡ callFor input .sheets
-    → figures ≡ figuresFor sheets
-    → printedOf replies report ++ (sheetsText (linesOf sheets) ++ (openText sheets ++ figuresText figures)) ≡ printoutOf input
-of-run input {replies} {report} {sheets} {figures} e f g h =
+-- what a run left has its text
+pub of-run : (c : Called) {replies report sheets figures : List ℕ} → replies ≡ c .replies → report ≡ c .report → sheets ≡ c .sheets → figures ≡ figuresFor sheets
+    → printedOf replies report ++ (sheetsText (linesOf sheets) ++ (openText sheets ++ figuresText figures)) ≡ printedFor c
+of-run c {replies} {report} {sheets} {figures} e f g h =
     ap (λ (l : List ℕ). printedOf l report ++ (sheetsText (linesOf sheets) ++ (openText sheets ++ figuresText figures))) e
-    ∙ ap (λ (l : List ℕ). printedOf (callFor input .replies) l ++ (sheetsText (linesOf sheets) ++ (openText sheets ++ figuresText figures))) f
-    ∙ ap (λ (l : List ℕ). printedOf (callFor input .replies) (callFor input .report) ++ (sheetsText (linesOf sheets) ++ (openText sheets ++ figuresText l))) h
-    ∙ ap (λ (l : List ℕ). printedOf (callFor input .replies) (callFor input .report) ++ (sheetsText (linesOf l) ++ (openText l ++ figuresText (figuresFor l)))) g
+    ∙ ap (λ (l : List ℕ). printedOf (c .replies) l ++ (sheetsText (linesOf sheets) ++ (openText sheets ++ figuresText figures))) f
+    ∙ ap (λ (l : List ℕ). printedOf (c .replies) (c .report) ++ (sheetsText (linesOf sheets) ++ (openText sheets ++ figuresText l))) h
+    ∙ ap (λ (l : List ℕ). printedOf (c .replies) (c .report) ++ (sheetsText (linesOf l) ++ (openText l ++ figuresText (figuresFor l)))) g
+
+-- a call without options has mode and rule 0
+pub stays : (first second input : List ℕ) → toldOf 1 first second input ≡ printoutOf input
+unfolding askedOf
+stays first second input = refl

@@ -10,6 +10,9 @@ use Rattle.figures.specs.Telling.{figuresBytes, figuresOf}
 use Rattle.sheets.specs.Calls.{Called, callOf}
 use Rattle.listing.specs.Text.{hex}
 use Rattle.listing.specs.Listing.{blank, newline, field, replyRoom, printedOf}
+use Rattle.options.specs.declared.Asked.{Asked}
+use Rattle.options.specs.declared.Asked.the-variants.{Under, Nothing}
+use Rattle.options.specs.Options.{askedOf}
 
 -- ---- how much room the parts have behind the listing
 
@@ -95,11 +98,30 @@ figuresFor sheets = figuresOf sheets (replicate figuresBytes 0) .out
 
 -- ---- what is printed
 
--- the run that the program makes: the input on the state of a reset and on no sheets, mode and rule 0
-abbrev pub callFor : List ℕ → Called
-callFor input = callOf 0 0 (replicate stateBytes 0) (replicate sheetsBytes 0) input (replicate replyRoom 0) (replicate reportBytes 0)
+-- the run that the program makes: the input on the state of a reset and on no sheets, under a mode and a rule
+abbrev pub callUnder : ℕ → ℕ → List ℕ → Called
+callUnder mode rule input =
+    callOf mode rule (replicate stateBytes 0) (replicate sheetsBytes 0) input (replicate replyRoom 0) (replicate reportBytes 0)
 
--- the listing of the replies and the report that this run leaves, then the closed sheets, then the open one, then the figures
+-- the listing of the replies and the report that a run leaves, then the closed sheets, then the open one, then the figures
+abbrev pub printedFor : Called → List ℕ
+printedFor c = printedOf (c .replies) (c .report) ++ (sheetsText (linesOf (c .sheets)) ++ (openText (c .sheets) ++ figuresText (figuresFor (c .sheets))))
+
+abbrev pub printoutUnder : ℕ → ℕ → List ℕ → List ℕ
+printoutUnder mode rule input = printedFor (callUnder mode rule input)
+
+-- for mode and rule 0
 abbrev pub printoutOf : List ℕ → List ℕ
-printoutOf input =
-    printedOf (callFor input .replies) (callFor input .report) ++ (sheetsText (linesOf (callFor input .sheets)) ++ (openText (callFor input .sheets) ++ figuresText (figuresFor (callFor input .sheets))))
+printoutOf = printoutUnder 0 0
+
+-- the line `usage`
+abbrev pub usageText : List ℕ
+usageText = 117 ∷ 115 ∷ 97 ∷ 103 ∷ 101 ∷ newline ∷ []
+
+-- what the program prints for a call: that line where the call asks for nothing that it does
+abbrev pub textOf : Asked → List ℕ → List ℕ
+textOf (Under mode rule) input = printoutUnder mode rule input
+textOf Nothing input = usageText
+
+abbrev pub toldOf : ℕ → List ℕ → List ℕ → List ℕ → List ℕ
+toldOf words first second input = textOf (askedOf words first second) input

@@ -7,7 +7,7 @@ ghost use Rattle.io.specs.Counts.{Counts};
 ghost use Rattle.ledger.specs.Ledger.{sheetsBytes, mostSheets, placeBytes, closedIn, linesOf};
 ghost use Rattle.figures.specs.Telling.{figuresBytes};
 ghost use Rattle.listing.specs.Text.{Adds};
-ghost use Rattle.sheetprint.specs.Printout.{lineRoom, openRoom, figuresRoom, wordText, wordsText, sheetText, sheetsText, openText, figureText, countsText, figuresText, printoutOf};
+ghost use Rattle.sheetprint.specs.Printout.{lineRoom, openRoom, figuresRoom, wordText, wordsText, sheetText, sheetsText, openText, figureText, countsText, figuresText, printoutUnder, toldOf};
 use figures::FIGURES_BYTES;
 use ledger::bytes::PLACE_BYTES;
 use ledger::bytes::SERIAL_AT;
@@ -19,6 +19,7 @@ use listing::add_printed;
 use listing::text::add;
 use listing::text::digit;
 use little::four_at;
+use options::Asked;
 use terms::REPORT_BYTES;
 use terms::STATE_BYTES;
 
@@ -133,18 +134,18 @@ fn add_figures(out: &mut [u8], place: usize, figures: &[u8]) -> usize
     add(out, c, b"\n")
 }
 
-// The text for an input, at the front of the lent text: the answer says how many bytes.
-pub fn print(input: &[u8], text: &mut [u8; PRINT_ROOM]) -> usize
+// The text for an input under a mode and a rule, at the front of the lent text: the answer says how many bytes.
+pub fn print(mode: u32, rule: u32, input: &[u8], text: &mut [u8; PRINT_ROOM]) -> usize
     ensures { λ r. ⌜ Counts r (now (text .exit)) ⌝ }
-    ensures { λ r. ⌜ take r (now (text .exit)) ≡ printoutOf (now (input .entry)) ⌝ }
+    ensures { λ r. ⌜ take r (now (text .exit)) ≡ printoutUnder mode rule (now (input .entry)) ⌝ }
 {
     let mut state = [0u8; STATE_BYTES];
     let mut sheets = [0u8; SHEETS_BYTES];
     let mut replies = [0u8; REPLY_ROOM];
     let mut report = [0u8; REPORT_BYTES];
     sheets::sheets_run(
-        0,
-        0,
+        mode,
+        rule,
         &mut state,
         &mut sheets,
         input,
@@ -157,4 +158,23 @@ pub fn print(input: &[u8], text: &mut [u8; PRINT_ROOM]) -> usize
     let mut figures = [0u8; FIGURES_BYTES];
     sheets::sheets_figures(&sheets, &mut figures);
     add_figures(text, c, &figures)
+}
+
+// The text for a call of so many words, the program's own name among them, with the first two
+// behind it: the line `usage` where it asks for nothing that the program does.
+pub fn told(
+    words: usize,
+    first: &[u8],
+    second: &[u8],
+    input: &[u8],
+    text: &mut [u8; PRINT_ROOM],
+) -> usize
+    ensures { λ r. ⌜ Counts r (now (text .exit)) ⌝ }
+    ensures { λ r. ⌜ take r (now (text .exit)) ≡ toldOf words (now (first .entry)) (now (second .entry)) (now (input .entry)) ⌝ }
+{
+    let asked = options::asked_of(words, first, second);
+    match asked {
+        Asked::Under { mode, rule } => print(mode, rule, input, text),
+        Asked::Nothing => add(text, 0, b"usage\n"),
+    }
 }

@@ -9,7 +9,8 @@ use Rattle.printout.proofs.print.Tie as tie
 returns : tie.Need-returns
 returns c =
     let r = c .before .before .before .before .before .before .before .pundaliket-run .ensures in
-    (c .list .ensures .0, c .list .ensures .1 ∙ of-run (now (c .before .before .before .before .before .before .before .before .before .before .before .before .args .input)) (r .replies-is) (r .report-is))
+    let a = c .before .before .before .before .before .before .before .before .before .before .before .before .args in
+    (c .list .ensures .0, c .list .ensures .1 ∙ of-run (a .mode) (a .rule) (now (a .input)) (r .replies-is) (r .report-is))
 
 pub print-spec : {M : Type 1} → statement M
 print-spec =

@@ -6,6 +6,7 @@ use native.Mathlib.Omega.{arith}
 use denote.Ref.{now}
 use Rattle.ledger.specs.Ledger.{closedIn}
 use Rattle.listing.proofs.Adding.{both, counted}
+use Rattle.sheetprint.specs.Printout.{callUnder}
 use Rattle.sheetprint.proofs.Lines.{of-run}
 use Rattle.sheetprint.proofs.Kept.{call-fair}
 use borrow.Author.Needs.{needs}
@@ -14,9 +15,9 @@ use Rattle.sheetprint.proofs.print.Tie as tie
 
 add-sheets-requires : tie.Need-add-sheets-requires
 add-sheets-requires c κs =
-    let input = now (c .before .before .before .before .before .before .before .before .before .before .before .before .before .before .before .before .args .input) in
+    let a = c .before .before .before .before .before .before .before .before .before .before .before .before .before .before .before .before .args in
     let r = c .before .before .before .before .before .before .before .before .before .before .sheets-run .ensures in
-    (search needs, subst (λ (l : List ℕ). closedIn l ≤ 64) (sym (r .sheets-is)) (call-fair input .1), omega (arith, c .before .before .add-printed .ensures .1))
+    (search needs, subst (λ (l : List ℕ). closedIn l ≤ 64) (sym (r .sheets-is)) (call-fair (a .mode) (a .rule) (now (a .input)) .1), omega (arith, c .before .before .add-printed .ensures .1))
 
 add-open-requires : tie.Need-add-open-requires
 add-open-requires c κs =
@@ -28,10 +29,10 @@ add-figures-requires c κs =
 
 returns : tie.Need-returns
 returns c =
-    let input = now (c .before .before .before .before .before .before .before .before .before .before .before .before .before .before .before .before .before .before .before .before .before .before .before .before .before .before .before .args .input) in
+    let a = c .before .before .before .before .before .before .before .before .before .before .before .before .before .before .before .before .before .before .before .before .before .before .before .before .before .before .before .args in
     let r = c .before .before .before .before .before .before .before .before .before .before .before .before .before .before .before .before .before .before .before .before .before .sheets-run .ensures in
     let x = both (c .before .before .before .before .before .before .before .before .before .before .before .before .before .add-printed .ensures .0) (both (c .before .before .before .before .before .before .before .before .before .before .add-sheets .ensures .0) (both (c .before .before .before .before .before .before .before .add-open .ensures .0) (c .add-figures .ensures))) in
-    (counted x, x .reads ∙ of-run input (r .replies-is) (r .report-is) (r .sheets-is) (c .before .before .before .before .sheets-figures .ensures .out-is))
+    (counted x, x .reads ∙ of-run (callUnder (a .mode) (a .rule) (now (a .input))) (r .replies-is) (r .report-is) (r .sheets-is) (c .before .before .before .before .sheets-figures .ensures .out-is))
 
 pub print-spec : {M : Type 1} → statement M
 print-spec =

@@ -1,0 +1,2 @@
+-- When a text is an option.
+pub mod Texts
