@@ -1,19 +1,24 @@
 /*
  * Pundaliket: the data path of the Am9511A arithmetic chip, as a library for the card's firmware. C99 and C++17.
  *
- * `rt staticlib pundaliket` writes target/staticlib/libpundaliket.a. The archive links into x86-64 programs. It keeps
- * no state between calls, takes no memory and exports the functions declared here and nothing else.
+ * `rt staticlib pundaliket` writes target/staticlib/libpundaliket.a, which links into x86-64 programs; `./archive` writes
+ * it for other processors too (docs/CARD.md). The archive keeps no state between calls, takes no memory and exports the
+ * functions declared here and nothing else.
  * It asks of the program: memset.
+ * That is on x86-64; `./archive --list` says what each of the others asks.
  *
- * A slice is lent as a pointer and the number of bytes behind it. The caller's duties are C's own: that many bytes are
- * there, they may be written where the parameter is not const, and the slices of one call do not overlap. (An empty
+ * A slice is lent as a pointer and the number of bytes behind it. The number has 64 bits on every processor, as it has in
+ * the proofs. The caller's duties are C's own: that many bytes are there, so that on a processor of 32 bits no slice has
+ * over 2^31 - 1; they may be written where the parameter is not const, and the slices of one call do not overlap. (An empty
  * slice still takes a pointer that is not null.) Everything else is checked: each call answers every input, with the
  * numbers of documents 01 and 02 (README.md says what these are).
+ *
+ * A header of before, whose lengths are size_t, compiles and links on a processor of 32 bits and is wrong there. A program
+ * that declares one of the calls once more, with uint64_t, as examples/card/card.c does, does not compile with it.
  */
 #ifndef PUNDALIKET_H
 #define PUNDALIKET_H
 
-#include <stddef.h>
 #include <stdint.h>
 
 #ifdef __cplusplus
@@ -83,8 +88,9 @@ enum {
  * is answered with at most 245 (a pop of 240), one of 4 with at most 7, so a file of n bytes needs 245 * (n / 5), and 7
  * more where n % 5 is 4. With less room a run that ends with 8 has done the records before: lend the rest of the file,
  * from the report's bytes taken on, and fresh room, and it goes on; with a state of 21 bytes the error memory does so too.
- * PUNDALIKET_STACK_BYTES (and of a formula PUNDALIKET_FORMULA_STACK_BYTES) is the stack that a call needs below its caller's frame: more by half, at least, than the most
- * that was measured, by calls of each kind on a painted stack. tests/c/test.c measures it anew each time it runs.
+ * PUNDALIKET_STACK_BYTES (and of a formula PUNDALIKET_FORMULA_STACK_BYTES) is the stack that a call needs below its caller's
+ * frame: more by half, at least, than the most that was measured on any processor that ./archive compiles for, by calls of
+ * each kind on a painted stack. tests/c/test.c measures it anew each time it runs; docs/CARD.md has it for each processor.
  */
 enum {
     PUNDALIKET_STATE_BYTES = 19,      /* stack, top first (16), pending 0 or 1, status, service 0 or 1; 19 zeros: reset */
@@ -98,7 +104,7 @@ enum {
     PUNDALIKET_LETTERS_BYTES = 32,    /* the words of a formula's eight letters */
     PUNDALIKET_MOST_FORMULA = 1664,   /* the longest file of a formula */
     PUNDALIKET_STACK_BYTES = 2048,    /* stack of a call, but for a formula's */
-    PUNDALIKET_FORMULA_STACK_BYTES = 20480 /* stack of pundaliket_formula, whose brackets nest */
+    PUNDALIKET_FORMULA_STACK_BYTES = 6144 /* stack of pundaliket_formula, whose brackets nest */
 };
 
 /* Where each part of a state begins. */
@@ -188,10 +194,10 @@ enum {
  * missing (6), kind (5), payload (7), room (8), and in its reply 1, 2, 3, 4. A record that stops
  * the run has no reply, is not counted, and leaves the state as the records before it did.
  */
-uint32_t pundaliket_run(uint32_t mode, uint32_t rule, uint8_t *state, size_t state_length,
-                        const uint8_t *input, size_t input_length,
-                        uint8_t *replies, size_t replies_length,
-                        uint8_t *report, size_t report_length);
+uint32_t pundaliket_run(uint32_t mode, uint32_t rule, uint8_t *state, uint64_t state_length,
+                        const uint8_t *input, uint64_t input_length,
+                        uint8_t *replies, uint64_t replies_length,
+                        uint8_t *report, uint64_t report_length);
 
 /*
  * One bus event on a state. Returns 256 times the refusal plus the byte read, which is 0 where
@@ -205,7 +211,7 @@ uint32_t pundaliket_run(uint32_t mode, uint32_t rule, uint8_t *state, size_t sta
  *
  * Order: 16, 17, 13, 5, then 1, 2, 3, 4.
  */
-uint32_t pundaliket_event(uint32_t mode, uint32_t rule, uint8_t *state, size_t state_length, uint32_t kind, uint8_t byte);
+uint32_t pundaliket_event(uint32_t mode, uint32_t rule, uint8_t *state, uint64_t state_length, uint32_t kind, uint8_t byte);
 
 /*
  * The f32 of a chip word's value, always exact. Returns the refusal: 8, then 4.
@@ -213,7 +219,7 @@ uint32_t pundaliket_event(uint32_t mode, uint32_t rule, uint8_t *state, size_t s
  * word     the 32 bits of the chip word.
  * out      4 bytes: the f32's bits, little-endian, written on 0 alone.
  */
-uint32_t pundaliket_word_to_f32(uint32_t word, uint8_t *out, size_t out_length);
+uint32_t pundaliket_word_to_f32(uint32_t word, uint8_t *out, uint64_t out_length);
 
 /*
  * The chip word of an f32's value, where there is one. Returns the refusal: 8, then 10, 15, 11, 12.
@@ -222,7 +228,7 @@ uint32_t pundaliket_word_to_f32(uint32_t word, uint8_t *out, size_t out_length);
  *          the other call bit for bit.
  * out      4 bytes: the word, little-endian, written on 0 alone.
  */
-uint32_t pundaliket_f32_to_word(uint32_t bits, uint8_t *out, size_t out_length);
+uint32_t pundaliket_f32_to_word(uint32_t bits, uint8_t *out, uint64_t out_length);
 
 /*
  * Chip words as f64s, always exact. Returns the refusal: 18, then 8, then 4 for the first word that is not proper. The whole
@@ -232,8 +238,8 @@ uint32_t pundaliket_f32_to_word(uint32_t bits, uint8_t *out, size_t out_length);
  * out      8 bytes for each f64, little-endian, in the same order; what lies past them stays as it was.
  * number   always written: on 4 the first bad entry, counted from 1, else 0.
  */
-uint32_t pundaliket_words_to_f64(const uint8_t *words, size_t words_length,
-                                 uint8_t *out, size_t out_length, uint64_t *number);
+uint32_t pundaliket_words_to_f64(const uint8_t *words, uint64_t words_length,
+                                 uint8_t *out, uint64_t out_length, uint64_t *number);
 
 /*
  * F64s as chip words: those that have a proper word's value become it, any other is brought to 24 bits by the rule. Returns the
@@ -247,8 +253,8 @@ uint32_t pundaliket_words_to_f64(const uint8_t *words, size_t words_length,
  * number   always written: on 0 how many entries were brought to 24 bits, that is, changed; on 10, 15, 12 and 11 the first bad
  *          entry, counted from 1; else 0.
  */
-uint32_t pundaliket_f64_to_words(uint32_t rule, const uint8_t *floats, size_t floats_length,
-                                 uint8_t *out, size_t out_length, uint64_t *number);
+uint32_t pundaliket_f64_to_words(uint32_t rule, const uint8_t *floats, uint64_t floats_length,
+                                 uint8_t *out, uint64_t out_length, uint64_t *number);
 
 /*
  * One formula, as `(a-b)/c*#01800000`, to a record file: each operand a push, each operation and each change of sign a command,
@@ -263,9 +269,9 @@ uint32_t pundaliket_f64_to_words(uint32_t rule, const uint8_t *floats, size_t fl
  *
  * Order: 30, 31, 32, 33.
  */
-uint32_t pundaliket_formula(const uint8_t *text, size_t text_length,
-                            const uint8_t *letters, size_t letters_length,
-                            uint8_t *file, size_t file_length);
+uint32_t pundaliket_formula(const uint8_t *text, uint64_t text_length,
+                            const uint8_t *letters, uint64_t letters_length,
+                            uint8_t *file, uint64_t file_length);
 
 #ifdef __cplusplus
 }

@@ -1,20 +1,22 @@
 /*
  * Module sheets: a second library above Pundaliket's core (requests 11 and 14 of document 02). C99 and C++17.
  *
- * `rt staticlib sheets` writes target/staticlib/libsheets.a. The archive links into x86-64 programs. It holds what it needs of the
- * core, so that a program needs libpundaliket.a beside it only for the calls of pundaliket.h; both link into one program, in
- * either order. It keeps no state between calls, takes no memory and exports the functions declared here and nothing else.
+ * `rt staticlib sheets` writes target/staticlib/libsheets.a, which links into x86-64 programs; `./archive` writes it for other
+ * processors too (docs/CARD.md). It holds what it needs of the core, so that a program needs libpundaliket.a beside it only
+ * for the calls of pundaliket.h; both link into one program, in either order. It keeps no state between calls, takes no
+ * memory and exports the functions declared here and nothing else.
  * It asks of the program: memset.
+ * That is on x86-64; `./archive --list` says what each of the others asks.
  *
- * A slice is lent as a pointer and the number of bytes behind it. The caller's duties are C's own: that many bytes are
- * there, they may be written where the parameter is not const, and the slices of one call do not overlap. (An empty
+ * A slice is lent as a pointer and the number of bytes behind it. The number has 64 bits on every processor, as it has in
+ * the proofs. The caller's duties are C's own: that many bytes are there, so that on a processor of 32 bits no slice has
+ * over 2^31 - 1; they may be written where the parameter is not const, and the slices of one call do not overlap. (An empty
  * slice still takes a pointer that is not null.) Everything else is checked: each call answers every input, with the
  * numbers of documents 01 and 02 (README.md says what these are).
  */
 #ifndef SHEETS_H
 #define SHEETS_H
 
-#include <stddef.h>
 #include <stdint.h>
 
 #ifdef __cplusplus
@@ -45,8 +47,8 @@ enum {
 /*
  * Sizes in bytes. A reply to these kinds has 5, and no record of theirs has fewer than 4, so the room that
  * PUNDALIKET_MOST_REPLIES names is enough here too. SHEETS_STACK_BYTES is the stack that a call needs below its caller's frame:
- * more by half, at least, than the most that was measured, by calls on a painted stack. tests/c/sheets.c measures it anew
- * each time it runs.
+ * more by half, at least, than the most that was measured on any processor that ./archive compiles for, by calls on a painted
+ * stack. tests/c/sheets.c measures it anew each time it runs.
  */
 enum {
     SHEETS_BYTES = 1303,      /* the list and the open sheet; 1,303 zeros: an empty list, no sheet open */
@@ -100,11 +102,11 @@ enum {
  * kinds, 20 to 25 of those above. A record that stops the run has no reply, is not counted, and leaves state and sheets as the records
  * before it did.
  */
-uint32_t sheets_run(uint32_t mode, uint32_t rule, uint8_t *state, size_t state_length,
-                    uint8_t *sheets, size_t sheets_length,
-                    const uint8_t *input, size_t input_length,
-                    uint8_t *replies, size_t replies_length,
-                    uint8_t *report, size_t report_length);
+uint32_t sheets_run(uint32_t mode, uint32_t rule, uint8_t *state, uint64_t state_length,
+                    uint8_t *sheets, uint64_t sheets_length,
+                    const uint8_t *input, uint64_t input_length,
+                    uint8_t *replies, uint64_t replies_length,
+                    uint8_t *report, uint64_t report_length);
 
 /*
  * The figures of a list's closed sheets. Returns the refusal: 8 for `out` not 53 bytes, then 13 for bad `sheets`, as for
@@ -113,7 +115,7 @@ uint32_t sheets_run(uint32_t mode, uint32_t rule, uint8_t *state, size_t state_l
  * sheets   1,303 bytes. Read only.
  * out      53 bytes, written on 0 alone: lines, serials, repeated and improper, a byte each, then the sum's sign and 48 hex digits.
  */
-uint32_t sheets_figures(const uint8_t *sheets, size_t sheets_length, uint8_t *out, size_t out_length);
+uint32_t sheets_figures(const uint8_t *sheets, uint64_t sheets_length, uint8_t *out, uint64_t out_length);
 
 #ifdef __cplusplus
 }

@@ -1,21 +1,59 @@
 /* The skeleton of a card: see card.h. */
 #include "card.h"
 
-/* The state that counts, copied out. */
-static void take(const volatile struct card_memory *memory, uint8_t *state)
+/* A header whose lengths are size_t compiles and links on a processor of 32 bits and is wrong there. The call is declared
+ * here once more: with such a header this line does not compile. */
+uint32_t pundaliket_event(uint32_t mode, uint32_t rule, uint8_t *state, uint64_t state_length, uint32_t kind, uint8_t byte);
+
+/* A check with one byte more. */
+static uint16_t checked(uint16_t check, uint8_t byte)
 {
+    uint8_t x = (uint8_t)(check >> 8 ^ byte);
+    x ^= x >> 4;
+    return (uint16_t)((uint32_t)check << 8 ^ (uint32_t)x << 12 ^ (uint32_t)x << 5 ^ x);
+}
+
+/* The check of a state in the place with this mark. */
+static uint16_t check_of(uint8_t mark, const uint8_t *state)
+{
+    uint16_t check = checked(0xFFFF, mark);
     for (int i = 0; i < PUNDALIKET_STATE_BYTES; i++)
-        state[i] = memory->state[memory->counts & 1][i];
+        check = checked(check, state[i]);
+    return check;
+}
+
+/* The place with a mark. */
+static volatile struct card_place *place_of(volatile struct card_memory *memory, uint8_t mark)
+{
+    return mark == CARD_FIRST ? &memory->first : &memory->second;
+}
+
+/* The state that counts, copied out; 0 where the mark is neither or the check does not fit. */
+static int take(volatile struct card_memory *memory, uint8_t *state)
+{
+    uint8_t mark = memory->counts;
+    const volatile struct card_place *place = place_of(memory, mark);
+    uint16_t check;
+    if (mark != CARD_FIRST && mark != CARD_SECOND)
+        return 0;
+    for (int i = 0; i < PUNDALIKET_STATE_BYTES; i++)
+        state[i] = place->state[i];
+    check = check_of(mark, state);
+    return place->check[0] == check >> 8 && place->check[1] == (check & 0xFF);
 }
 
 /* The other place is written, then it counts. On a processor that holds writes back, the builder adds what makes them
  * reach the memory in this order, before and after the last line. */
 static void keep(volatile struct card_memory *memory, const uint8_t *state)
 {
-    uint8_t other = (uint8_t)(1 - (memory->counts & 1));
+    uint8_t mark = memory->counts == CARD_FIRST ? CARD_SECOND : CARD_FIRST;
+    volatile struct card_place *place = place_of(memory, mark);
+    uint16_t check = check_of(mark, state);
     for (int i = 0; i < PUNDALIKET_STATE_BYTES; i++)
-        memory->state[other][i] = state[i];
-    memory->counts = other;
+        place->state[i] = state[i];
+    place->check[0] = (uint8_t)(check >> 8);
+    place->check[1] = (uint8_t)check;
+    memory->counts = mark;
 }
 
 /* The state after a reset, for memory that holds none. */
@@ -33,9 +71,8 @@ static struct card_answer done(volatile struct card_memory *memory, uint32_t kin
     uint8_t state[PUNDALIKET_STATE_BYTES];
     struct card_answer answer;
     uint32_t said;
-    if (memory->counts > 1)
+    if (!take(memory, state))
         return start_anew(memory);
-    take(memory, state);
     said = pundaliket_event(PUNDALIKET_AM9511A, PUNDALIKET_CUT, state, sizeof state, kind, byte);
     answer.refusal = (uint8_t)(said >> 8);
     if (answer.refusal == PUNDALIKET_BAD_STATE)

@@ -26,14 +26,25 @@ enum card_cycle {
 };
 
 /*
- * What survives a power cut: the state's 19 bytes, in two places, and the number of the place that counts. A cycle
- * writes the other place and then that number, one byte: the power may go between two cycles and at any byte inside
- * one, and what counts is always the whole state after a cycle, never half of one joined to half of another. No cycle
- * reads the error memory; a card that is to show it keeps the state's 21 bytes instead.
+ * What survives a power cut: the state's 19 bytes with their check, in two places, and the mark of the place that counts. A
+ * cycle writes the other place and then the mark, one byte: the power may go between two cycles and at any byte inside
+ * one, and what counts is always the whole state after a cycle, never half of one joined to half of another.
+ *
+ * The check is the CRC-16 of the place's mark and the state (polynomial 1021 hex, from FFFF hex, high byte first). It sees
+ * every change of up to three bits, every change within 16 bits in a row, and of all others all but one in 65,536. The two
+ * marks differ in all eight bits. A state whose check does not fit is not used. No cycle reads the error memory; a card that is to
+ * show it keeps the state's 21 bytes instead.
  */
+enum { CARD_FIRST = 0x5A, CARD_SECOND = 0xA5, CARD_CHECK_BYTES = 2 };
+
+struct card_place {
+    uint8_t state[PUNDALIKET_STATE_BYTES];
+    uint8_t check[CARD_CHECK_BYTES];
+};
+
 struct card_memory {
-    uint8_t state[2][PUNDALIKET_STATE_BYTES];
-    uint8_t counts;
+    struct card_place first, second;
+    uint8_t counts; /* CARD_FIRST or CARD_SECOND */
 };
 
 /* What a cycle leaves. The chip has no pin for a refusal: the number is for a lamp or a log. */
@@ -57,8 +68,8 @@ struct card_answer card_power_up(volatile struct card_memory *memory);
  * 3      a command inside a word: the same. The controller lost or doubled a byte; it has to send a reset.
  * 4      a float operand is not proper: the same. The controller sent no float word.
  * 5      cannot come: each of the six cycles has its kind.
- * 13     the memory was damaged since the last cycle. Nothing of it is used: the card stands as after a reset, the data
- *        byte is 0. The unit on the bench has to be measured anew.
+ * 13     the memory was damaged since the last cycle: the mark is neither, or the check does not fit. Nothing of it is used:
+ *        the card stands as after a reset, the data byte is 0. The unit on the bench has to be measured anew.
  */
 struct card_answer card_cycle(volatile struct card_memory *memory, enum card_cycle cycle, uint8_t byte);
 

@@ -2,7 +2,9 @@
  * Prints each line again with what came back: the data byte of a read cycle, SVREQ, the refusal. Beside the bus cycles:
  *   power-cut   the power goes and comes again; only the card's memory is left
  *   torn        the power goes inside a cycle: the place that does not count holds anything; then it comes again
- *   damaged     a fault in memory: the pending flag of the state that counts is 7 */
+ *   flagged     a fault in memory: the pending flag of the state that counts is 7
+ *   changed     a fault in memory: a bit of the top byte of the stack, in the state that counts, is another
+ *   unmarked    a fault in memory: a bit of the mark is another */
 #include <stdio.h>
 #include <string.h>
 
@@ -12,6 +14,12 @@ static const char *const cycles[] = { "write-data", "read-data", "write-command"
 
 /* new memory holds FF throughout */
 static struct card_memory memory;
+
+/* the place that counts, or the other */
+static struct card_place *place(int counts)
+{
+    return (memory.counts == CARD_FIRST) == counts ? &memory.first : &memory.second;
+}
 
 /* reads a word of the script; 0 at its end */
 static int word(char *to, int room)
@@ -41,11 +49,15 @@ int main(void)
         if (i < 6) {
             answer = card_cycle(&memory, (enum card_cycle)i, written);
             read = i == CARD_READ_DATA || i == CARD_READ_STATUS;
-        } else if (strcmp(name, "damaged") == 0) {
-            memory.state[memory.counts][PUNDALIKET_AT_PENDING] = 7;
+        } else if (strcmp(name, "flagged") == 0) {
+            place(1)->state[PUNDALIKET_AT_PENDING] = 7;
+        } else if (strcmp(name, "changed") == 0) {
+            place(1)->state[PUNDALIKET_AT_STACK] ^= 0x10;
+        } else if (strcmp(name, "unmarked") == 0) {
+            memory.counts ^= 0x10;
         } else {
             if (strcmp(name, "torn") == 0)
-                memset(memory.state[1 - memory.counts], 0x5A, PUNDALIKET_STATE_BYTES);
+                memset(place(0)->state, 0x5A, PUNDALIKET_STATE_BYTES);
             answer = card_power_up(&memory);
         }
         sprintf(shown, read ? "%02X" : "--", (unsigned)answer.data);

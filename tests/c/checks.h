@@ -6,6 +6,7 @@
 #include <string.h>
 
 #include "lent.h"
+#include "onstack.h"
 
 static unsigned checks, failed;
 
@@ -29,11 +30,7 @@ static size_t deepest;
 static void on_painted_stack(void (*call)(void))
 {
     memset(painted, PAINT, sizeof painted);
-    __asm__ volatile("movq %%rsp, %%rbx\n\tmovq %0, %%rsp\n\tcall *%1\n\tmovq %%rbx, %%rsp"
-                     :
-                     : "r"(painted + sizeof painted), "r"(call)
-                     : "rax", "rbx", "rcx", "rdx", "rsi", "rdi", "r8", "r9", "r10", "r11", "xmm0", "xmm1", "xmm2", "xmm3", "xmm4", "xmm5",
-                       "xmm6", "xmm7", "xmm8", "xmm9", "xmm10", "xmm11", "xmm12", "xmm13", "xmm14", "xmm15", "memory", "cc");
+    call_on(painted + sizeof painted, call);
     size_t free = 0;
     while (free < sizeof painted && painted[free] == PAINT)
         free++;

@@ -141,11 +141,11 @@ opened-agrees e es l serial op cl h se ag =
     (spelled-opened e es l (getD serial 0 0) (getD serial 1 0) (getD serial 2 0) (getD serial 3 0) op cl (se ∙ sym f) ag)
 
 -- ---- a word kept
-pub kept-agrees : (e : Entry) (es : List Entry) (l : List ℕ) (slot : ℕ) → opens e ≡ false → closes e ≡ false → keeps slot e ≡ true
+pub kept-agrees : (e : Entry) (es : List Entry) (l : List ℕ) (slot top : ℕ) → e .top ≡ le4 top → opens e ≡ false → closes e ≡ false → keeps slot e ≡ true
     → ((k : ℕ) → (k ≡ slot → ⊥) → keeps k e ≡ false) → slot < 4 → isOpen l ≡ true → Agrees es l
-    → Agrees (e ∷ es) (keptIn l slot (le4 (e .top)))
-kept-agrees e es l slot op cl ke others small o ag =
-    let vs : List ℕ = le4 (e .top) in
+    → Agrees (e ∷ es) (keptIn l slot (le4 top))
+kept-agrees e es l slot top et op cl ke others small o ag =
+    let vs : List ℕ = le4 top in
     let h = ag .long in
     let at : ℕ = 1287 + 4 * slot in
     let fits : at + 4 ≤ length l = omega arith in
@@ -168,7 +168,7 @@ kept-agrees e es l slot op cl ke others small o ag =
         slots = λ k i z.
             bytes-set-front w 1286 n (1287 + 4 * k) 4 (omega arith)
             ∙ either-eq (λ (x : ℕ). bytesAt w (1287 + 4 * k) 4 ≡ keptOf k (e ∷ es)) k slot 0 0
-            (λ q. subst (λ (j : ℕ). bytesAt w (1287 + 4 * j) 4 ≡ keptOf j (e ∷ es)) (sym q) (rw (op, ke) (in-laid l at vs fits)))
+            (λ q. subst (λ (j : ℕ). bytesAt w (1287 + 4 * j) 4 ≡ keptOf j (e ∷ es)) (sym q) (rw (op, ke) (in-laid l at vs fits ∙ sym et)))
             (λ q.
             let old : keptBits l / 2 ^ k % 2 ≡ 1 = sym (g .1 k i q) ∙ sym (ap (λ (x : ℕ). x / 2 ^ k % 2) km) ∙ z in
             let was = b .slots k i old in
@@ -220,7 +220,8 @@ closed-agrees e es l cl o full room ag =
     ap (λ (v : List ℕ). bytesAt l 1282 4 ++ v) (four-words l 1287)
     ∙ rw (b .serial-is, word 0 (lit< tt) refl, word 1 (lit< tt) refl, word 2 (lit< tt) refl, word 3 (lit< tt) refl) in
     let old : bytesAt m 1 (n * 20) ≡ bytesAt l 1 (n * 20) =
-    bytes-before s 1281 zs fs 1 (n * 20) (omega arith) ∙ bytes-set-front w 0 (n + 1) 1 (n * 20) (lit< tt) ∙ bytes-before l at line fits 1 (n * 20) (omega arith) in
+    bytes-before s 1281 zs fs 1 (n * 20) (omega arith) ∙ bytes-set-front w 0 (n + 1) 1 (n * 20) (lit< tt)
+    ∙ bytes-before l at line fits 1 (n * 20) (omega arith) in
     let place : 1 + n * 20 ≡ at = omega arith in
     let new : bytesAt m at 20 ≡ line =
     bytes-before s 1281 zs fs at 20 (omega arith) ∙ bytes-set-front w 0 (n + 1) at 20 (omega arith)

@@ -1,4 +1,9 @@
 -- The proofs of the statements.
+pub mod Measures
+pub mod Turns
+pub mod Runs
+pub mod SheetsCall
+pub mod CardHistory
 pub mod Split
 pub mod Agreeing
 pub mod Standing
@@ -6,6 +11,12 @@ pub mod Telling
 pub mod StruckOut
 pub mod PowerCut
 pub mod OwnWords
-pub mod Rows
-pub mod Files
+pub mod Histories
 pub mod Calls
+pub mod Files
+pub mod Figures
+pub mod Rows
+pub mod FigureRows
+pub mod Text
+pub mod TextRows
+pub mod WrongLibraries

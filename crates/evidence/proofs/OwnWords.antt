@@ -1,4 +1,4 @@
--- 02, ask 11: each word of a closed sheet is one of its own keeps. Every run on the slice goes on from the history of those before it. Assumes nothing.
+-- 02, ask 11: a keep that was answered 0 had nothing pending, and a slot. Every run on the slice goes on from the history of those before it. Assumes nothing.
 use mathlib.Core.Path.{_≡_, refl, sym, subst, _∙_}
 use mathlib.Core.Bool.{Bool, true, false, false≢true}
 use mathlib.Core.List.{List, [], _∷_, _++_}
@@ -16,16 +16,16 @@ use Rattle.memory.specs.Memory.{Card}
 use Rattle.records.specs.Record.{turnOf}
 use Rattle.ledger.specs.Ledger.{isOpen}
 use Rattle.ledger.specs.Entering.{Entered, numberOf, payloadFor, keepOf}
-use Rattle.sheets.specs.Step.{Held, held, topOf, entryOf, coreBy, lineOf, runOf}
+use Rattle.sheets.specs.Step.{Held, topOf, entryOf, coreBy, lineOf, runOf}
 use Rattle.sheets.proofs.Lines.{Owns, done, taken, core-took, lawful}
-use Rattle.evidence.specs.Whole.{recordsOf}
-use Rattle.evidence.specs.History.{Entry, entryAt, historyFrom, keeps}
-use Rattle.evidence.specs.OwnWords.{Job, sheetsAfter, historyOver, Every, Owned, OwnWords}
+use Rattle.evidence.specs.Records.{recordsOf}
+use Rattle.evidence.specs.History.{Entry, keeps}
+use Rattle.evidence.proofs.CardHistory.{entryOn, cardHistory}
+use Rattle.evidence.specs.OwnWords.{Every}
+use Rattle.evidence.proofs.Turns.{word-front}
 use Rattle.evidence.proofs.Split.{no-bytes}
-use Rattle.evidence.proofs.Standing.{Stands, at-start}
-use Rattle.evidence.proofs.Agreeing.{Agrees}
-use Rattle.evidence.proofs.Telling.{word-front, tells, its-records, its-replies, no-replies, follows}
-use Rattle.evidence.proofs.PowerCut.{empty}
+use Rattle.evidence.proofs.Standing.{Stands}
+use Rattle.evidence.proofs.Telling.{tells, its-records, its-replies, no-replies}
 
 -- ---- a keep that was answered 0 had nothing pending, and a slot
 
@@ -37,13 +37,13 @@ not-keep : (e : Entry) → (wordAt (e .bytes) 2 ≡ 257 → ⊥) → Whole e
 not-keep e n slot h = absurd (false≢true (rw (ne-eqb (wordAt (e .bytes) 2) 257 n) at h))
 
 abbrev Kept : Card → List ℕ → Entered → Type 0
-Kept c bytes e = Whole (entryAt c bytes (numberOf (e .refusal)))
+Kept c bytes e = Whole (entryOn c bytes (numberOf (e .refusal)))
 
 module _ (c : Card) (bytes sheets : List ℕ) (k : wordAt bytes 2 ≡ 257) where
-  away : (n : ℕ) → (n ≡ 0 → ⊥) → Whole (entryAt c bytes n)
+  away : (n : ℕ) → (n ≡ 0 → ⊥) → Whole (entryOn c bytes n)
   away n z slot h = absurd (false≢true (rw (k, ne-eqb n 0 z) at h))
 
-  same-slot : (slot : ℕ) → keeps slot (entryAt c bytes 0) ≡ true → getD bytes 4 0 ≡ slot
+  same-slot : (slot : ℕ) → keeps slot (entryOn c bytes 0) ≡ true → getD bytes 4 0 ≡ slot
   same-slot slot h = eqb-true (getD bytes 4 0) slot (rw k at h)
 
   keep-whole : Kept c bytes (keepOf sheets (getD bytes 4 0) (c .chip .pending) (topOf c))
@@ -65,16 +65,19 @@ module _ (c : Card) (bytes sheets : List ℕ) (k : wordAt bytes 2 ≡ 257) where
 
 -- of every record that is taken
 abbrev Tells : Held → List ℕ → Turned Held → Type 0
-Tells h l t = Whole (entryAt (h .card) (take (t .size) l) (getD (t .reply) 4 0))
+Tells h l t = Whole (entryOn (h .card) (take (t .size) l) (getD (t .reply) 4 0))
 
 own-whole : (h : Held) (l : List ℕ) → Owns l → Tells h l (done h l)
 own-whole h l o =
     either-eq (λ (n : ℕ). Tells h l (done h l)) (wordAt l 2) 257 0 0 keeping
-    (λ n. not-keep (entryAt (h .card) (take (4 + payloadFor (wordAt l 2)) l) (numberOf (entryOf h (wordAt l 2) (take (payloadFor (wordAt l 2)) (drop 4 l)) .refusal))) (λ y. n (sym (word-front (4 + payloadFor (wordAt l 2)) l 2 (omega arith)) ∙ y)))
+    (λ n. not-keep (entryOn (h .card) (take (4 + payloadFor (wordAt l 2)) l)
+    (numberOf (entryOf h (wordAt l 2) (take (payloadFor (wordAt l 2)) (drop 4 l)) .refusal)))
+    (λ y. n (sym (word-front (4 + payloadFor (wordAt l 2)) l 2 (omega arith)) ∙ y)))
   where
     keeping : wordAt l 2 ≡ 257 → Tells h l (done h l)
     keeping k =
-        let g : getD (take 1 (drop 4 l)) 0 0 ≡ getD (take 5 l) 4 0 = getD-take 1 (drop 4 l) 0 0 (lit< tt) ∙ getD-drop 4 l 0 0 ∙ sym (getD-take 5 l 4 0 (lit< tt)) in
+        let g : getD (take 1 (drop 4 l)) 0 0 ≡ getD (take 5 l) 4 0 = getD-take 1 (drop 4 l) 0 0 (lit< tt) ∙ getD-drop 4 l 0 0
+        ∙ sym (getD-take 5 l 4 0 (lit< tt)) in
         rw (k, g) (keep-whole (h .card) (take 5 l) (h .sheets) (word-front 5 l 2 (lit< tt) ∙ k))
 
 core-whole : (h : Held) (l : List ℕ) (room : ℕ) → turnOf (h .card) l room .refusal ≡ 0 → Tells h l (coreBy h (wordAt l 2) (turnOf (h .card) l room))
@@ -83,16 +86,16 @@ core-whole h l room z =
     let c = core-took (h .card) l room z in
     let k8 = c .kind-is in
     let k : wordAt (take (t .size) l) 2 ≡ wordAt l 2 = word-front (t .size) l 2 (omega (arith, c .four)) in
-    not-keep (entryAt (h .card) (take (t .size) l) (getD (t .reply) 4 0)) (λ y. omega arith)
+    not-keep (entryOn (h .card) (take (t .size) l) (getD (t .reply) 4 0)) (λ y. omega arith)
 
 -- ---- and so of a run
 
-abbrev Keeping : Held → List ℕ → ℕ → Outcome Held → Type 0
+abbrev pub Keeping : Held → List ℕ → ℕ → Outcome Held → Type 0
 Keeping h l room o =
     (c : Card) (all : ℕ) (before : List (List ℕ)) (es : List Entry) → Stands c all before (h .card) room → Every Whole es
-    → Every Whole (historyFrom c all before (recordsOf l) (recordsOf (o .written)) es)
+    → Every Whole (cardHistory c all before (recordsOf l) (recordsOf (o .written)) es)
 
-keeping : (h : Held) (l : List ℕ) (room : ℕ) → Keeping h l room (runOf h l room)
+pub keeping : (h : Held) (l : List ℕ) (room : ℕ) → Keeping h l room (runOf h l room)
 keeping =
     through lawful Keeping
     (λ h room c all before es s q. rw no-bytes q)
@@ -103,20 +106,6 @@ keeping =
     let r : List ℕ = take (t .size) l in
     let w : Tells h l t = taken (Tells h l) h l room (λ o q g. own-whole h l o) (λ y. core-whole h l room y) z in
     rw (its-records h l room z (o .written), its-replies h l room z (o .written))
-    (subst (λ (k : Card). Every Whole (historyFrom c all (before ++ (r ∷ [])) (recordsOf (drop (t .size) l)) (recordsOf (o .written)) (entryAt k r (getD (t .reply) 4 0) ∷ es))) (sym (s .card-is))
-    (ih c all (before ++ (r ∷ [])) (entryAt (h .card) r (getD (t .reply) 4 0) ∷ es) (tells h l room p z .stands c all before s) (w, q))))
-
--- ---- files one after another
-
-over : (js : List Job) (sheets : List ℕ) (es : List Entry) → Agrees es sheets → Every Whole es → Owned (sheetsAfter js sheets) (historyOver js sheets es)
-over [] sheets es ag q = record { list-is = ag .list-is; whole-words = q }
-over (j ∷ js) sheets es ag q =
-    let h = held (j .card) sheets in
-    let o = runOf h (j .file) (j .room) in
-    let s = at-start (j .card) (j .room) in
-    over js (o .state .sheets) (historyFrom (j .card) (j .room) [] (recordsOf (j .file)) (recordsOf (o .written)) es)
-    (follows h (j .file) (j .room) (j .card) (j .room) [] es s ag)
-    (keeping h (j .file) (j .room) (j .card) (j .room) [] es s q)
-
-pub own-words : OwnWords
-own-words js sheets g n o = over js sheets [] (empty sheets g n o) tt
+    (subst (λ (k : Card). Every Whole (cardHistory c all (before ++ (r ∷ [])) (recordsOf (drop (t .size) l)) (recordsOf (o .written))
+    (entryOn k r (getD (t .reply) 4 0) ∷ es))) (sym (s .card-is))
+    (ih c all (before ++ (r ∷ [])) (entryOn (h .card) r (getD (t .reply) 4 0) ∷ es) (tells h l room p z .stands c all before s) (w, q))))

@@ -2,7 +2,7 @@
 use mathlib.Core.Path.{_≡_, refl, sym, ap, subst, _∙_}
 use mathlib.Core.Bool.{Bool, true, false, cond}
 use mathlib.Core.List.{List, []}
-use Prim.Native.Nat.{ℕ, suc, _+_, _-_, _<_}
+use Prim.Native.Nat.{ℕ, suc, _+_, _-_, _≤_, _<_}
 use native.Mathlib.Omega.{arith}
 use lib.Dec.{lit≤}
 use lib.ListN.{length, getD, take, drop}
@@ -24,8 +24,8 @@ use Rattle.ledger.specs.Ledger.{isSheets, closedIn, isOpen}
 use Rattle.ledger.proofs.Ledgers.{is-long}
 use Rattle.sheets.specs.Step.{Held, held, lineOf, runOf}
 use Rattle.sheets.proofs.Lines.{ways, lawful}
-use Rattle.evidence.specs.Whole.{recordsOf}
-use Rattle.evidence.specs.PowerCut.{PowerCut}
+use Rattle.evidence.specs.Records.{recordsOf}
+use Rattle.evidence.proofs.CardHistory.{Told}
 use Rattle.evidence.proofs.Split.{none-of, no-bytes}
 use Rattle.evidence.proofs.Standing.{at-start}
 use Rattle.evidence.proofs.Agreeing.{Agrees}
@@ -75,7 +75,8 @@ six-head l =
 six-turn : (c : Card) (l : List ℕ) (room : ℕ) (h : Head) → turnBy c l room h .refusal ≡ 6 → headNumber h ≡ 6
 six-turn c l room (Stop r) = λ z. z
 six-turn c l room (Whole e) =
-    either-lt (λ (t : Turned Card). t .refusal ≡ 6 → headNumber (Whole e) ≡ 6) room (5 + answeredOf e) _ _ (λ g z. let y : ⊥ = omega arith in absurd y) (λ g z. z)
+    either-lt (λ (t : Turned Card). t .refusal ≡ 6 → headNumber (Whole e) ≡ 6) room (5 + answeredOf e) _ _ (λ g z. let y : ⊥ = omega arith in absurd y)
+    (λ g z. z)
 
 six-core : (c : Card) (l : List ℕ) (room : ℕ) → turnOf c l room .refusal ≡ 6 → length l < 2 + wordAt l 0
 unfolding turnUnder
@@ -83,7 +84,8 @@ six-core c l room z = six-head l (six-turn c l room (headUnder mostPayload l) z)
 
 six-line : (h : Held) (l : List ℕ) (room : ℕ) → lineOf h l room .refusal ≡ 6 → length l < 2 + wordAt l 0
 six-line h l room =
-    ways (λ t. t .refusal ≡ 6 → length l < 2 + wordAt l 0) h l room (λ o q z. let y : ⊥ = omega arith in absurd y) (λ o q g z. let y : ⊥ = omega arith in absurd y)
+    ways (λ t. t .refusal ≡ 6 → length l < 2 + wordAt l 0) h l room (λ o q z. let y : ⊥ = omega arith in absurd y)
+    (λ o q g z. let y : ⊥ = omega arith in absurd y)
     (λ o q g z. let y : ⊥ = omega arith in absurd y) (λ n z. six-core (h .card) l room z)
 
 -- ---- every whole record has its reply
@@ -112,7 +114,10 @@ empty sheets g n o = record {
   open-is = λ p. absurd (subst (λ (x : Bool). cond x Unit ⊥) (sym p ∙ o) tt);
 }
 
-pub power-cut : PowerCut
+-- a file that would have ended with 0, cut after any byte and run from the same card in the same room, on an empty list with no sheet open
+pub power-cut : (c : Card) (sheets l : List ℕ) (room : ℕ) → isSheets sheets ≡ true → closedIn sheets ≡ 0 → isOpen sheets ≡ false
+    → runOf (held c sheets) l room .refusal ≡ 0 → (k : ℕ) → k ≤ length l
+    → Told c room (take k l) (runOf (held c sheets) (take k l) room .written) (runOf (held c sheets) (take k l) room .state .sheets)
 power-cut c sheets l room g n o e k most =
     let d = cut-anywhere lawful (held c sheets) l room e k most in
     let i = d .1 in

@@ -6,7 +6,7 @@ use native.Mathlib.Omega.{arith}
 use lib.ListN.{length, getD, take, drop, length-drop, length-append, List·getD-append}
 use lib.Seq.{take-append-seam, drop-append-seam}
 use borrow.Author.Tests.{lt-ltb, le-ltb}
-use Rattle.evidence.specs.Whole.{split, recordsOf}
+use Rattle.evidence.specs.Records.{split, recordsOf}
 use Rattle.little.specs.Little.{wordAt}
 use Rattle.files.proofs.Tests.{either-lt}
 

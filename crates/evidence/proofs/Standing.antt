@@ -1,4 +1,5 @@
--- Where the core's run of a file's records stands, kinds 256 to 258 struck out: it has ended with 0, and the card and the room that it left are those of the run with sheets. Assumes nothing.
+-- Where the core's run of a file's records stands, kinds 256 to 258 struck out: it has ended with 0, and the card and the room that it left are those of the
+-- run with sheets. Assumes nothing.
 use mathlib.Core.Path.{_≡_, refl, sym, ap, subst, _∙_}
 use mathlib.Core.Bool.{Bool, true, false, cond}
 use mathlib.Core.List.{List, [], _∷_, _++_, append-assoc, append-nil}
@@ -13,7 +14,7 @@ use Rattle.records.specs.Record.{turnOf}
 use Rattle.records.specs.Run.{runOf as coreRun}
 use Rattle.records.proofs.Prefix.{lawful as core-lawful}
 use Rattle.sheets.specs.Step.{isOwnKind}
-use Rattle.evidence.specs.Whole.{joined, struck}
+use Rattle.evidence.specs.Records.{joined, struck}
 
 -- ---- one record more, struck out or not
 
@@ -58,12 +59,14 @@ taken-alone card l room more z p f =
     let t = turnOf card l room in
     let g = core-lawful .fits card l room z in
     let e : turnOf card l more ≡ t = core-lawful .alike card l l room more z refl (core-lawful .within card l room z) (omega arith) in
-    subst (λ (u : Turned Card). u .refusal ≡ 0 → coreRun card (take (u .size) l) more ≡ took (u .state) (u .size) (u .reply)) e (alone core-lawful card l more p) z
+    subst (λ (u : Turned Card). u .refusal ≡ 0 → coreRun card (take (u .size) l) more ≡ took (u .state) (u .size) (u .reply)) e
+    (alone core-lawful card l more p) z
 
 -- a record of the core
 pub past-core : (c : Card) (room : ℕ) (before : List (List ℕ)) (card : Card) (l : List ℕ) (left : ℕ) → turnOf card l left .refusal ≡ 0 → 0 < length l
     → isOwnKind (wordAt (take (turnOf card l left .size) l) 2) ≡ false
-    → Stands c room before card left → Stands c room (before ++ (take (turnOf card l left .size) l ∷ [])) (turnOf card l left .state) (left - length (turnOf card l left .reply))
+    → Stands c room before card left → Stands c room (before ++ (take (turnOf card l left .size) l ∷ [])) (turnOf card l left .state)
+    (left - length (turnOf card l left .reply))
 past-core c room before card l left z p k s =
     let t = turnOf card l left in
     let r : List ℕ = take (t .size) l in

@@ -1,4 +1,5 @@
--- 02, ask 11: the core sees a file as if kinds 256 to 258 were struck out: a record of the core is taken alike in the struck file, one of this library is not there. Assumes nothing.
+-- 02, ask 11: the core sees a file as if kinds 256 to 258 were struck out: a record of the core is taken alike in the struck file, one of this library is not
+-- there. Assumes nothing.
 use mathlib.Core.Path.{_≡_, refl, sym, ap, subst, _∙_}
 use mathlib.Core.Bool.{true, false}
 use mathlib.Core.List.{List, _++_}
@@ -19,10 +20,11 @@ use Rattle.records.proofs.Prefix.{lawful as core-lawful}
 use Rattle.ledger.specs.Entering.{payloadFor}
 use Rattle.sheets.specs.Step.{Held, held, isOwnKind, lineOf, runOf}
 use Rattle.sheets.proofs.Lines.{own-kind, low-kind, taken, core-took, lawful}
-use Rattle.evidence.specs.Whole.{recordsOf, joined, struck, struckReplies}
-use Rattle.evidence.specs.StruckOut.{Struck, StruckOut}
+use Rattle.evidence.specs.Records.{recordsOf, joined, struck, struckReplies}
+use Rattle.evidence.proofs.CardHistory.{Struck}
 use Rattle.evidence.proofs.Split.{no-bytes}
-use Rattle.evidence.proofs.Telling.{word-front, its-records, its-replies}
+use Rattle.evidence.proofs.Turns.{word-front}
+use Rattle.evidence.proofs.Telling.{its-records, its-replies}
 
 -- ---- whose record it is
 record Own (h : Held) (l : List ℕ) (t : Turned Held) : Type 0 where
@@ -76,7 +78,8 @@ whose h l room =
 
 abbrev Want : Held → List ℕ → Outcome Held → ℕ → Type 0
 Want h l o more =
-    Struck (coreRun (h .card) (joined (struck (recordsOf l))) more) (joined (struck (recordsOf l))) (joined (struckReplies (recordsOf (o .written)))) (o .state .card)
+    Struck (coreRun (h .card) (joined (struck (recordsOf l))) more) (joined (struck (recordsOf l))) (joined (struckReplies (recordsOf (o .written))))
+    (o .state .card)
 
 abbrev Strikes : Held → List ℕ → ℕ → Outcome Held → Type 0
 Strikes h l room o = o .refusal ≡ 0 → (more : ℕ) → room ≤ more → Want h l o more
@@ -104,15 +107,18 @@ one-of card l rest room more size reply st a b d z fits = rw (a, b, d) (one-more
 goes : (h : Held) (l : List ℕ) (room : ℕ) → lineOf h l room .refusal ≡ 0
     → Strikes (lineOf h l room .state) (drop (lineOf h l room .size) l) (room - length (lineOf h l room .reply))
     (runOf (lineOf h l room .state) (drop (lineOf h l room .size) l) (room - length (lineOf h l room .reply)))
-    → Strikes h l room (after (lineOf h l room .size) (lineOf h l room .reply) (runOf (lineOf h l room .state) (drop (lineOf h l room .size) l) (room - length (lineOf h l room .reply))))
+    → Strikes h l room (after (lineOf h l room .size) (lineOf h l room .reply)
+    (runOf (lineOf h l room .state) (drop (lineOf h l room .size) l) (room - length (lineOf h l room .reply))))
 goes h l room z ih e more fits = by (whose h l room z)
   where
-    by : Whose h l room (lineOf h l room) → Want h l (after (lineOf h l room .size) (lineOf h l room .reply) (runOf (lineOf h l room .state) (drop (lineOf h l room .size) l) (room - length (lineOf h l room .reply)))) more
+    by : Whose h l room (lineOf h l room) → Want h l (after (lineOf h l room .size) (lineOf h l room .reply)
+        (runOf (lineOf h l room .state) (drop (lineOf h l room .size) l) (room - length (lineOf h l room .reply)))) more
     by (ours o) =
         let t = lineOf h l room in
         let u = runOf (t .state) (drop (t .size) l) (room - length (t .reply)) in
         rw (its-records h l room z (u .written), its-replies h l room z (u .written), o .own-is, o .reply-kind)
-        (subst (λ (card : Card). Struck (coreRun card (joined (struck (recordsOf (drop (t .size) l)))) more) (joined (struck (recordsOf (drop (t .size) l)))) (joined (struckReplies (recordsOf (u .written)))) (u .state .card)) (o .core-is)
+        (subst (λ (card : Card). Struck (coreRun card (joined (struck (recordsOf (drop (t .size) l)))) more) (joined (struck (recordsOf (drop (t .size) l))))
+        (joined (struckReplies (recordsOf (u .written)))) (u .state .card)) (o .core-is)
         (ih e more (omega arith)))
     by (cores c) =
         let t = lineOf h l room in
@@ -135,7 +141,10 @@ goes h l room z ih e more fits = by (whose h l room z)
           written-is = ap (λ (v : List ℕ). t .reply ++ v) (k .written-is);
         }
 
-pub struck-out : StruckOut
+-- of a file that ends with 0, in as much room or more
+pub struck-out : (c : Card) (sheets l : List ℕ) (room : ℕ) → runOf (held c sheets) l room .refusal ≡ 0 → (more : ℕ) → room ≤ more
+    → Struck (coreRun c (joined (struck (recordsOf l))) more) (joined (struck (recordsOf l)))
+    (joined (struckReplies (recordsOf (runOf (held c sheets) l room .written)))) (runOf (held c sheets) l room .state .card)
 struck-out c sheets l room =
     through lawful Strikes
     (λ h room e more fits. rw (no-bytes, nothing core-lawful (h .card) more) record { refusal-is = refl; card-is = refl; taken-is = refl; written-is = refl })

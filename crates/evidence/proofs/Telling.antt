@@ -20,15 +20,17 @@ use Rattle.ledger.specs.Ledger.{closedIn, isOpen, keptBits, dropped}
 use Rattle.ledger.specs.Entering.{Entered, numberOf, payloadFor, openOf, keepOf, closeOf}
 use Rattle.sheets.specs.Step.{Held, topOf, entryOf, coreBy, lineOf, runOf}
 use Rattle.sheets.proofs.Lines.{Owns, done, own-kind, low-kind, taken, core-took, lawful}
-use Rattle.evidence.specs.Whole.{recordsOf}
-use Rattle.evidence.specs.History.{Entry, entryAt, historyFrom}
+use Rattle.evidence.specs.Records.{recordsOf}
+use Rattle.evidence.specs.History.{Entry}
+use Rattle.evidence.proofs.CardHistory.{entryOn, cardHistory}
+use Rattle.evidence.proofs.Turns.{word-front}
 use Rattle.evidence.proofs.Split.{first-of, no-bytes, record-then}
 use Rattle.evidence.proofs.Standing.{Stands, past-own, past-core}
 use Rattle.evidence.proofs.Agreeing.{Agrees, Quiet, quiet, quiet-dropped, refused-quiet, other-quiet, opened-agrees, kept-agrees, closed-agrees}
 
 -- an entry of a record and the refusal that it was answered
 abbrev entry : Card → List ℕ → Refusal → Entry
-entry c bytes r = entryAt c bytes (numberOf r)
+entry c bytes r = entryOn c bytes (numberOf r)
 
 abbrev So : Card → List ℕ → List Entry → Entered → Type 0
 So c bytes es e = Agrees (entry c bytes (e .refusal) ∷ es) (e .sheets)
@@ -55,7 +57,8 @@ module _ (c : Card) (bytes : List ℕ) (es : List Entry) (sheets : List ℕ) (ag
       kept-so o h true = rw (o, le-ltb 3 slot h) (refused HalfPending (λ z. omega arith))
       kept-so o h false =
           rw (o, le-ltb 3 slot h)
-          (kept-agrees (entry c bytes Done) es sheets slot (rw k) (rw k) (rw (k, g) (eq-eqb slot slot refl)) (λ i z. rw (k, g) (ne-eqb slot i (λ y. z (sym y)))) (omega arith) o ag)
+          (kept-agrees (entry c bytes Done) es sheets slot (topOf c) refl (rw k) (rw k) (rw (k, g) (eq-eqb slot slot refl))
+          (λ i z. rw (k, g) (ne-eqb slot i (λ y. z (sym y)))) (omega arith) o ag)
 
       pick : (b : Bool) → isOpen sheets ≡ b → Goal
       pick false o = rw o (refused NoneOpen (λ z. omega arith))
@@ -83,10 +86,7 @@ module _ (c : Card) (bytes : List ℕ) (es : List Entry) (sheets : List ℕ) (ag
 pub record Tells (h : Held) (l : List ℕ) (room : ℕ) (t : Turned Held) : Type 0 where
   pub stands : (c : Card) (all : ℕ) (before : List (List ℕ)) → Stands c all before (h .card) room
       → Stands c all (before ++ (take (t .size) l ∷ [])) (t .state .card) (room - length (t .reply))
-  pub agrees : (es : List Entry) → Agrees es (h .sheets) → Agrees (entryAt (h .card) (take (t .size) l) (getD (t .reply) 4 0) ∷ es) (t .state .sheets)
-
-pub word-front : (n : ℕ) (l : List ℕ) (i : ℕ) → i + 1 < n → wordAt (take n l) i ≡ wordAt l i
-word-front n l i h = rw (getD-take n l i 0 (omega arith), getD-take n l (i + 1) 0 h)
+  pub agrees : (es : List Entry) → Agrees es (h .sheets) → Agrees (entryOn (h .card) (take (t .size) l) (getD (t .reply) 4 0) ∷ es) (t .state .sheets)
 
 abbrev Goal : Held → List ℕ → List Entry → Type 0
 Goal h l es =
@@ -96,7 +96,8 @@ own-tells : (h : Held) (l : List ℕ) (room : ℕ) → Owns l → wordAt l 0 ≡
 own-tells h l room o q = record {
   stands = λ c all before s.
       let k = word-front (4 + payloadFor (wordAt l 2)) l 2 (omega arith) in
-      past-own c all before (take (4 + payloadFor (wordAt l 2)) l) (h .card) room (room - 5) (rw k (own-kind (wordAt l 2) (o .least) (o .most))) (omega arith) s;
+      past-own c all before (take (4 + payloadFor (wordAt l 2)) l) (h .card) room (room - 5) (rw k (own-kind (wordAt l 2) (o .least) (o .most)))
+      (omega arith) s;
   agrees = λ es ag.
       either-eq (λ (n : ℕ). Goal h l es) (wordAt l 2) 256 0 0 (opening es ag) (λ x.
       either-eq (λ (n : ℕ). Goal h l es) (wordAt l 2) 257 0 0 (keeping es ag) (λ y.
@@ -121,7 +122,8 @@ own-tells h l room o q = record {
     closing : (es : List Entry) → Agrees es (h .sheets) → wordAt l 2 ≡ 258 → Goal h l es
     closing es ag k = rw k (close-tells (h .card) (take 4 l) es (h .sheets) ag (word-front 4 l 2 (lit< tt) ∙ k))
 
-core-tells : (h : Held) (l : List ℕ) (room : ℕ) → turnOf (h .card) l room .refusal ≡ 0 → 0 < length l → Tells h l room (coreBy h (wordAt l 2) (turnOf (h .card) l room))
+core-tells : (h : Held) (l : List ℕ) (room : ℕ) → turnOf (h .card) l room .refusal ≡ 0 → 0 < length l
+    → Tells h l room (coreBy h (wordAt l 2) (turnOf (h .card) l room))
 core-tells h l room z p =
     let t = turnOf (h .card) l room in
     let c = core-took (h .card) l room z in
@@ -132,7 +134,7 @@ core-tells h l room z p =
     record {
       stands = λ c all before s. past-core c all before (h .card) l room z p (rw k (low-kind (wordAt l 2) (omega arith))) s;
       agrees = λ es ag.
-          let e : Entry = entryAt (h .card) r (getD (t .reply) 4 0) in
+          let e : Entry = entryOn (h .card) r (getD (t .reply) 4 0) in
           let q : Quiet e = other-quiet e (rw k (omega arith)) in
           rw (eq-eqb (t .refusal) 0 z)
           (either-eq (λ (s : List ℕ). Agrees (e ∷ es) s) (wordAt l 2) 5 (dropped (h .sheets)) (h .sheets)
@@ -144,7 +146,7 @@ tells h l room p = taken (Tells h l room) h l room (λ o q g. own-tells h l room
 
 -- ---- a run
 
-pub no-replies : (c : Card) (room : ℕ) (before rs : List (List ℕ)) (es : List Entry) → historyFrom c room before rs [] es ≡ es
+pub no-replies : (c : Card) (room : ℕ) (before rs : List (List ℕ)) (es : List Entry) → cardHistory c room before rs [] es ≡ es
 no-replies c room before [] es = refl
 no-replies c room before (r ∷ rs) es = refl
 
@@ -152,7 +154,8 @@ no-replies c room before (r ∷ rs) es = refl
 module _ (h : Held) (l : List ℕ) (room : ℕ) (z : lineOf h l room .refusal ≡ 0) (w : List ℕ) where
   pub its-records : recordsOf l ≡ take (lineOf h l room .size) l ∷ recordsOf (drop (lineOf h l room .size) l)
   its-records =
-      let f : lineOf h l room .size ≡ 2 + wordAt l 0 = taken (λ t. t .size ≡ 2 + wordAt l 0) h l room (λ o q g. omega arith) (λ y. core-took (h .card) l room y .framed) z in
+      let f : lineOf h l room .size ≡ 2 + wordAt l 0 = taken (λ t. t .size ≡ 2 + wordAt l 0) h l room (λ o q g. omega arith)
+      (λ y. core-took (h .card) l room y .framed) z in
       let i = lawful .within h l room z in
       first-of l (omega arith) ∙ ap (λ (n : ℕ). take n l ∷ recordsOf (drop n l)) (sym f)
 
@@ -165,7 +168,7 @@ module _ (h : Held) (l : List ℕ) (room : ℕ) (z : lineOf h l room .refusal �
 abbrev Follows : Held → List ℕ → ℕ → Outcome Held → Type 0
 Follows h l room o =
     (c : Card) (all : ℕ) (before : List (List ℕ)) (es : List Entry) → Stands c all before (h .card) room → Agrees es (h .sheets)
-    → Agrees (historyFrom c all before (recordsOf l) (recordsOf (o .written)) es) (o .state .sheets)
+    → Agrees (cardHistory c all before (recordsOf l) (recordsOf (o .written)) es) (o .state .sheets)
 
 pub follows : (h : Held) (l : List ℕ) (room : ℕ) → Follows h l room (runOf h l room)
 follows =
@@ -178,5 +181,6 @@ follows =
     let tell = tells h l room p z in
     let r : List ℕ = take (t .size) l in
     rw (its-records h l room z (o .written), its-replies h l room z (o .written))
-    (subst (λ (k : Card). Agrees (historyFrom c all (before ++ (r ∷ [])) (recordsOf (drop (t .size) l)) (recordsOf (o .written)) (entryAt k r (getD (t .reply) 4 0) ∷ es)) (o .state .sheets)) (sym (s .card-is))
-    (ih c all (before ++ (r ∷ [])) (entryAt (h .card) r (getD (t .reply) 4 0) ∷ es) (tell .stands c all before s) (tell .agrees es ag))))
+    (subst (λ (k : Card). Agrees (cardHistory c all (before ++ (r ∷ [])) (recordsOf (drop (t .size) l)) (recordsOf (o .written))
+    (entryOn k r (getD (t .reply) 4 0) ∷ es)) (o .state .sheets)) (sym (s .card-is))
+    (ih c all (before ++ (r ∷ [])) (entryOn (h .card) r (getD (t .reply) 4 0) ∷ es) (tell .stands c all before s) (tell .agrees es ag))))

@@ -1,169 +1,508 @@
--- 02, ask 11: what a file of one record leaves, kind by kind, for 0 and for each refusal in its order. The bytes of the `sheets` slice are written out place by place, a second time beside `ledger`'s account. Statements only: proofs/Rows.antt proves them. Assumes nothing.
-use Prim.Native.Nat.{ℕ, _+_, _*_, _-_, _/_, _%_, _^_, _≤_, _<_}
+-- 02, ask 11, `sheets_run` by literal bytes: the rows were worked out from 01 and 02 beside the library. Definitions
+-- and the statement only: proofs/Rows.antt proves it. Assumes nothing.
+use Prim.Native.Nat.{ℕ}
 use mathlib.Core.Path.{_≡_}
-use mathlib.Core.Bool.{true, false}
 use mathlib.Core.List.{List, [], _∷_, _++_}
-use lib.ListN.{length, getD, take, drop}
-use Rattle.terms.specs.Settings.{Settings}
-use Rattle.stack.specs.Stack.{tos, zeros}
-use Rattle.chip.specs.declared.State.{State}
-use Rattle.chip.specs.State.{busy, afterReset}
-use Rattle.memory.specs.declared.Memory.{Memory}
-use Rattle.memory.specs.Memory.{Card, cardWith, emptyMemory}
-use Rattle.little.specs.Little.{wordAt}
-use Rattle.files.specs.Run.{Turned, ended, took}
-use Rattle.records.specs.Record.{turnOf as coreTurn}
-use Rattle.ledger.specs.Ledger.{isSheets}
-use Rattle.sheets.specs.Step.{Held, held, lineOf, runOf}
+use lib.ListN.{replicate}
+use Rattle.evidence.specs.Bytes.{zeros}
+use Rattle.evidence.specs.Records.{joined}
+use Rattle.evidence.specs.Subjects.{sheetsCall}
 
--- ---- the records
+-- what a call is given, what it returns, and what the slices hold after
+pub record Row : Type 0 where
+  pub mode : ℕ
+  pub rule : ℕ
+  pub state : List ℕ
+  pub sheets : List ℕ
+  pub input : List ℕ
+  pub replies : List ℕ
+  pub report : List ℕ
+  pub result : ℕ
+  pub state-after : List ℕ
+  pub sheets-after : List ℕ
+  pub replies-after : List ℕ
+  pub report-after : List ℕ
 
--- kind 256 with the four bytes of a serial, kind 257 with a slot, kind 258
-abbrev pub openRecord : List ℕ → List ℕ
-openRecord serial = 6 ∷ 0 ∷ 0 ∷ 1 ∷ serial
+-- the call gives what the row says
+abbrev pub Gives : Row → Type 0
+Gives r =
+    sheetsCall (r .mode) (r .rule) (r .state) (r .sheets) (r .input) (r .replies) (r .report)
+    ≡ record {
+      result = r .result;
+      state = r .state-after;
+      sheets = r .sheets-after;
+      replies = r .replies-after;
+      report = r .report-after;
+    }
 
-abbrev pub keepRecord : ℕ → List ℕ
-keepRecord slot = 3 ∷ 0 ∷ 1 ∷ 1 ∷ slot ∷ []
+-- a call that is turned away: nothing but the report is written
+abbrev pub turnedAway : ℕ → ℕ → ℕ → List ℕ → List ℕ → List ℕ → Row
+turnedAway r mode rule state sheets input = record {
+  mode = mode;
+  rule = rule;
+  state = state;
+  sheets = sheets;
+  input = input;
+  replies = replicate 5 238;
+  report = zeros 9;
+  result = r;
+  state-after = state;
+  sheets-after = sheets;
+  replies-after = replicate 5 238;
+  report-after = r ∷ zeros 8;
+}
 
-abbrev pub closeRecord : List ℕ
-closeRecord = 2 ∷ 0 ∷ 2 ∷ 1 ∷ []
+-- one file under both modes and both rules, on 21 bytes of state with a half word pending and an error remembered: a
+-- reset, an inexact FDIV, PUPI, an FDIV with sr set, a word of two 16-bit halves, a recall and a status read
+abbrev pub bothModes : ℕ → ℕ → List ℕ → List ℕ → List ℕ → Row
+bothModes mode rule state sheets replies = record {
+  mode = mode;
+  rule = rule;
+  state = 17 ∷ 34 ∷ 51 ∷ 68 ∷ 85 ∷ 102 ∷ 119 ∷ 136 ∷ 153 ∷ 170 ∷ 187 ∷ 204 ∷ 221 ∷ 238 ∷ 255 ∷ 9 ∷ 1 ∷ 42 ∷ 1 ∷ 18
+      ∷ 19 ∷ [];
+  sheets = zeros 1303;
+  input = joined ((2 ∷ 0 ∷ 5 ∷ 0 ∷ []) ∷ (6 ∷ 0 ∷ 0 ∷ 1 ∷ 7 ∷ 0 ∷ 0 ∷ 200 ∷ []) ∷
+      (6 ∷ 0 ∷ 1 ∷ 0 ∷ 0 ∷ 0 ∷ 128 ∷ 1 ∷ []) ∷ (6 ∷ 0 ∷ 1 ∷ 0 ∷ 0 ∷ 0 ∷ 192 ∷ 2 ∷ []) ∷
+      (3 ∷ 0 ∷ 3 ∷ 0 ∷ 19 ∷ []) ∷ (3 ∷ 0 ∷ 1 ∷ 1 ∷ 0 ∷ []) ∷ (3 ∷ 0 ∷ 3 ∷ 0 ∷ 26 ∷ []) ∷
+      (3 ∷ 0 ∷ 1 ∷ 1 ∷ 1 ∷ []) ∷ (3 ∷ 0 ∷ 3 ∷ 0 ∷ 147 ∷ []) ∷ (3 ∷ 0 ∷ 1 ∷ 1 ∷ 2 ∷ []) ∷
+      (3 ∷ 0 ∷ 1 ∷ 0 ∷ 171 ∷ []) ∷ (3 ∷ 0 ∷ 1 ∷ 0 ∷ 205 ∷ []) ∷ (3 ∷ 0 ∷ 1 ∷ 1 ∷ 3 ∷ []) ∷ (2 ∷ 0 ∷ 2 ∷ 1 ∷ []) ∷
+      (2 ∷ 0 ∷ 7 ∷ 0 ∷ []) ∷ (2 ∷ 0 ∷ 4 ∷ 0 ∷ []) ∷ []);
+  replies = replicate 90 238;
+  report = zeros 9;
+  result = 0;
+  state-after = state;
+  sheets-after = sheets;
+  replies-after = replies;
+  report-after = 0 ∷ 85 ∷ 0 ∷ 0 ∷ 0 ∷ 83 ∷ 0 ∷ 0 ∷ 0 ∷ [];
+}
 
--- their replies: bit 15 of the kind, and the refusal
-abbrev pub openReply : ℕ → List ℕ
-openReply r = 3 ∷ 0 ∷ 0 ∷ 129 ∷ r ∷ []
+-- ---- the rows
 
-abbrev pub keepReply : ℕ → List ℕ
-keepReply r = 3 ∷ 0 ∷ 1 ∷ 129 ∷ r ∷ []
+-- two closed sheets, one serial twice, and one open
+abbrev pub twoClosed : Row
+twoClosed = record {
+  mode = 0;
+  rule = 0;
+  state = zeros 19;
+  sheets = zeros 1303;
+  input = joined ((6 ∷ 0 ∷ 0 ∷ 1 ∷ 1 ∷ 2 ∷ 3 ∷ 4 ∷ []) ∷ (6 ∷ 0 ∷ 1 ∷ 0 ∷ 233 ∷ 195 ∷ 167 ∷ 5 ∷ []) ∷
+      (3 ∷ 0 ∷ 1 ∷ 1 ∷ 0 ∷ []) ∷ (6 ∷ 0 ∷ 1 ∷ 0 ∷ 70 ∷ 210 ∷ 145 ∷ 123 ∷ []) ∷ (3 ∷ 0 ∷ 1 ∷ 1 ∷ 1 ∷ []) ∷
+      (3 ∷ 0 ∷ 3 ∷ 0 ∷ 26 ∷ []) ∷ (3 ∷ 0 ∷ 1 ∷ 1 ∷ 2 ∷ []) ∷ (3 ∷ 0 ∷ 3 ∷ 0 ∷ 16 ∷ []) ∷
+      (3 ∷ 0 ∷ 1 ∷ 1 ∷ 3 ∷ []) ∷ (2 ∷ 0 ∷ 2 ∷ 1 ∷ []) ∷ (6 ∷ 0 ∷ 0 ∷ 1 ∷ 1 ∷ 2 ∷ 3 ∷ 4 ∷ []) ∷
+      (3 ∷ 0 ∷ 1 ∷ 1 ∷ 3 ∷ []) ∷ (3 ∷ 0 ∷ 1 ∷ 1 ∷ 2 ∷ []) ∷ (6 ∷ 0 ∷ 1 ∷ 0 ∷ 179 ∷ 161 ∷ 240 ∷ 133 ∷ []) ∷
+      (3 ∷ 0 ∷ 1 ∷ 1 ∷ 1 ∷ []) ∷ (3 ∷ 0 ∷ 1 ∷ 1 ∷ 0 ∷ []) ∷ (6 ∷ 0 ∷ 1 ∷ 0 ∷ 199 ∷ 212 ∷ 229 ∷ 3 ∷ []) ∷
+      (3 ∷ 0 ∷ 1 ∷ 1 ∷ 0 ∷ []) ∷ (2 ∷ 0 ∷ 2 ∷ 1 ∷ []) ∷ (6 ∷ 0 ∷ 0 ∷ 1 ∷ 68 ∷ 51 ∷ 34 ∷ 17 ∷ []) ∷
+      (6 ∷ 0 ∷ 1 ∷ 0 ∷ 239 ∷ 205 ∷ 52 ∷ 18 ∷ []) ∷ (3 ∷ 0 ∷ 1 ∷ 1 ∷ 1 ∷ []) ∷ []);
+  replies = replicate 120 238;
+  report = zeros 9;
+  result = 0;
+  state-after = 18 ∷ 52 ∷ 205 ∷ 239 ∷ 3 ∷ 229 ∷ 212 ∷ 199 ∷ 133 ∷ 240 ∷ 161 ∷ 179 ∷ 2 ∷ 202 ∷ 51 ∷ 126 ∷ 0 ∷ 0 ∷ 0 ∷
+      [];
+  sheets-after = 2 ∷ 1 ∷ 2 ∷ 3 ∷ 4 ∷ 233 ∷ 195 ∷ 167 ∷ 5 ∷ 70 ∷ 210 ∷ 145 ∷ 123 ∷ 218 ∷ 15 ∷ 201 ∷ 2 ∷ 126 ∷ 51 ∷
+      202 ∷ 2 ∷ 1 ∷ 2 ∷ 3 ∷ 4 ∷ 199 ∷ 212 ∷ 229 ∷ 3 ∷ 179 ∷ 161 ∷ 240 ∷ 133 ∷ 126 ∷ 51 ∷ 202 ∷ 2 ∷ 126 ∷ 51 ∷ 202 ∷
+      2 ∷ (zeros 1240 ++ (1 ∷ 68 ∷ 51 ∷ 34 ∷ 17 ∷ 2 ∷ 0 ∷ 0 ∷ 0 ∷ 0 ∷ 239 ∷ 205 ∷ 52 ∷ 18 ∷ (zeros 8)));
+  replies-after = 3 ∷ 0 ∷ 0 ∷ 129 ∷ 0 ∷ 3 ∷ 0 ∷ 129 ∷ 0 ∷ 0 ∷ 3 ∷ 0 ∷ 1 ∷ 129 ∷ 0 ∷ 3 ∷ 0 ∷ 129 ∷ 0 ∷ 0 ∷ 3 ∷ 0 ∷ 1
+      ∷ 129 ∷ 0 ∷ 3 ∷ 0 ∷ 131 ∷ 0 ∷ 0 ∷ 3 ∷ 0 ∷ 1 ∷ 129 ∷ 0 ∷ 3 ∷ 0 ∷ 131 ∷ 0 ∷ 0 ∷ 3 ∷ 0 ∷ 1 ∷ 129 ∷ 0 ∷ 3 ∷ 0 ∷ 2
+      ∷ 129 ∷ 0 ∷ 3 ∷ 0 ∷ 0 ∷ 129 ∷ 0 ∷ 3 ∷ 0 ∷ 1 ∷ 129 ∷ 0 ∷ 3 ∷ 0 ∷ 1 ∷ 129 ∷ 0 ∷ 3 ∷ 0 ∷ 129 ∷ 0 ∷ 0 ∷ 3 ∷ 0 ∷ 1
+      ∷ 129 ∷ 0 ∷ 3 ∷ 0 ∷ 1 ∷ 129 ∷ 0 ∷ 3 ∷ 0 ∷ 129 ∷ 0 ∷ 0 ∷ 3 ∷ 0 ∷ 1 ∷ 129 ∷ 0 ∷ 3 ∷ 0 ∷ 2 ∷ 129 ∷ 0 ∷ 3 ∷ 0 ∷ 0
+      ∷ 129 ∷ 0 ∷ 3 ∷ 0 ∷ 129 ∷ 0 ∷ 0 ∷ 3 ∷ 0 ∷ 1 ∷ 129 ∷ 0 ∷ (replicate 10 238);
+  report-after = 0 ∷ 132 ∷ 0 ∷ 0 ∷ 0 ∷ 110 ∷ 0 ∷ 0 ∷ 0 ∷ [];
+}
 
-abbrev pub closeReply : ℕ → List ℕ
-closeReply r = 3 ∷ 0 ∷ 2 ∷ 129 ∷ r ∷ []
+-- a reset with a half word pending, an inexact FDIV and PUPI: mode 0, rule 0, 21 bytes of state
+abbrev pub underAm9511ACut : Row
+underAm9511ACut =
+    bothModes 0 0
+    (205 ∷ 171 ∷ 125 ∷ 217 ∷ 76 ∷ 175 ∷ (zeros 12 ++ (1 ∷ 0 ∷ 0 ∷ [])))
+    (1 ∷ 7 ∷ 0 ∷ 0 ∷ 200 ∷ 170 ∷ 170 ∷ 170 ∷ 127 ∷ 218 ∷ 15 ∷ 201 ∷ 2 ∷ 175 ∷ 76 ∷ 217 ∷ 125 ∷ 217 ∷ 125 ∷ 171 ∷ 205
+    ∷ (zeros 1282))
+    (3 ∷ 0 ∷ 133 ∷ 0 ∷ 0 ∷ 3 ∷ 0 ∷ 0 ∷ 129 ∷ 0 ∷ 3 ∷ 0 ∷ 129 ∷ 0 ∷ 0 ∷ 3 ∷ 0 ∷ 129 ∷ 0 ∷ 0 ∷ 3 ∷ 0 ∷ 131 ∷ 0 ∷ 0 ∷ 3
+    ∷ 0 ∷ 1 ∷ 129 ∷ 0 ∷ 3 ∷ 0 ∷ 131 ∷ 0 ∷ 0 ∷ 3 ∷ 0 ∷ 1 ∷ 129 ∷ 0 ∷ 3 ∷ 0 ∷ 131 ∷ 0 ∷ 0 ∷ 3 ∷ 0 ∷ 1 ∷ 129 ∷ 0 ∷ 3 ∷
+    0 ∷ 129 ∷ 0 ∷ 0 ∷ 3 ∷ 0 ∷ 129 ∷ 0 ∷ 0 ∷ 3 ∷ 0 ∷ 1 ∷ 129 ∷ 0 ∷ 3 ∷ 0 ∷ 2 ∷ 129 ∷ 0 ∷ 5 ∷ 0 ∷ 135 ∷ 0 ∷ 0 ∷ 0 ∷ 0
+    ∷ 4 ∷ 0 ∷ 132 ∷ 0 ∷ 0 ∷ 0 ∷ (replicate 7 238))
 
--- ---- an opening
+-- a reset with a half word pending, an inexact FDIV and PUPI: mode 0, rule 1, 21 bytes of state
+abbrev pub underAm9511ANearest : Row
+underAm9511ANearest =
+    bothModes 0 1
+    (205 ∷ 171 ∷ 125 ∷ 217 ∷ 76 ∷ 175 ∷ (zeros 12 ++ (1 ∷ 0 ∷ 0 ∷ [])))
+    (1 ∷ 7 ∷ 0 ∷ 0 ∷ 200 ∷ 171 ∷ 170 ∷ 170 ∷ 127 ∷ 219 ∷ 15 ∷ 201 ∷ 2 ∷ 175 ∷ 76 ∷ 217 ∷ 125 ∷ 217 ∷ 125 ∷ 171 ∷ 205
+    ∷ (zeros 1282))
+    (3 ∷ 0 ∷ 133 ∷ 0 ∷ 0 ∷ 3 ∷ 0 ∷ 0 ∷ 129 ∷ 0 ∷ 3 ∷ 0 ∷ 129 ∷ 0 ∷ 0 ∷ 3 ∷ 0 ∷ 129 ∷ 0 ∷ 0 ∷ 3 ∷ 0 ∷ 131 ∷ 0 ∷ 0 ∷ 3
+    ∷ 0 ∷ 1 ∷ 129 ∷ 0 ∷ 3 ∷ 0 ∷ 131 ∷ 0 ∷ 0 ∷ 3 ∷ 0 ∷ 1 ∷ 129 ∷ 0 ∷ 3 ∷ 0 ∷ 131 ∷ 0 ∷ 0 ∷ 3 ∷ 0 ∷ 1 ∷ 129 ∷ 0 ∷ 3 ∷
+    0 ∷ 129 ∷ 0 ∷ 0 ∷ 3 ∷ 0 ∷ 129 ∷ 0 ∷ 0 ∷ 3 ∷ 0 ∷ 1 ∷ 129 ∷ 0 ∷ 3 ∷ 0 ∷ 2 ∷ 129 ∷ 0 ∷ 5 ∷ 0 ∷ 135 ∷ 0 ∷ 0 ∷ 0 ∷ 0
+    ∷ 4 ∷ 0 ∷ 132 ∷ 0 ∷ 0 ∷ 0 ∷ (replicate 7 238))
 
--- 20 while one is open, which stays
-abbrev pub StillOpenRow : Type 0
-StillOpenRow =
-    (h : Held) (serial : List ℕ) (room : ℕ) → length serial ≡ 4 → 5 ≤ room → getD (h .sheets) 1281 0 ≡ 1
-    → runOf h (openRecord serial) room ≡ took h 8 (openReply 20)
+-- a reset with a half word pending, an inexact FDIV and PUPI: mode 1, rule 0, 21 bytes of state
+abbrev pub underOlderCut : Row
+underOlderCut =
+    bothModes 1 0
+    (205 ∷ 171 ∷ 125 ∷ 217 ∷ 76 ∷ 175 ∷ 34 ∷ 51 ∷ 68 ∷ 85 ∷ 102 ∷ 119 ∷ 136 ∷ 153 ∷ 0 ∷ 0 ∷ 0 ∷ 0 ∷ 1 ∷ 0 ∷ 0 ∷ [])
+    (1 ∷ 7 ∷ 0 ∷ 0 ∷ 200 ∷ 170 ∷ 170 ∷ 170 ∷ 127 ∷ 218 ∷ 15 ∷ 201 ∷ 2 ∷ 175 ∷ 76 ∷ 217 ∷ 125 ∷ 217 ∷ 125 ∷ 171 ∷ 205
+    ∷ (zeros 1282))
+    (3 ∷ 0 ∷ 133 ∷ 0 ∷ 0 ∷ 3 ∷ 0 ∷ 0 ∷ 129 ∷ 0 ∷ 3 ∷ 0 ∷ 129 ∷ 0 ∷ 0 ∷ 3 ∷ 0 ∷ 129 ∷ 0 ∷ 0 ∷ 3 ∷ 0 ∷ 131 ∷ 0 ∷ 0 ∷ 3
+    ∷ 0 ∷ 1 ∷ 129 ∷ 0 ∷ 3 ∷ 0 ∷ 131 ∷ 0 ∷ 0 ∷ 3 ∷ 0 ∷ 1 ∷ 129 ∷ 0 ∷ 3 ∷ 0 ∷ 131 ∷ 0 ∷ 0 ∷ 3 ∷ 0 ∷ 1 ∷ 129 ∷ 0 ∷ 3 ∷
+    0 ∷ 129 ∷ 0 ∷ 0 ∷ 3 ∷ 0 ∷ 129 ∷ 0 ∷ 0 ∷ 3 ∷ 0 ∷ 1 ∷ 129 ∷ 0 ∷ 3 ∷ 0 ∷ 2 ∷ 129 ∷ 0 ∷ 5 ∷ 0 ∷ 135 ∷ 0 ∷ 0 ∷ 0 ∷ 0
+    ∷ 4 ∷ 0 ∷ 132 ∷ 0 ∷ 0 ∷ 0 ∷ (replicate 7 238))
 
--- else the list stays, and the 22 bytes behind it are: open, the serial, nothing kept, four words of zero
-abbrev pub OpenRow : Type 0
-OpenRow =
-    (h : Held) (serial : List ℕ) (room : ℕ) → length (h .sheets) ≡ 1303 → length serial ≡ 4 → 5 ≤ room → getD (h .sheets) 1281 0 ≡ 0
-    → runOf h (openRecord serial) room ≡ took (held (h .card) (take 1281 (h .sheets) ++ (1 ∷ (serial ++ zeros 17)))) 8 (openReply 0)
+-- a reset with a half word pending, an inexact FDIV and PUPI: mode 1, rule 1, 21 bytes of state
+abbrev pub underOlderNearest : Row
+underOlderNearest =
+    bothModes 1 1
+    (205 ∷ 171 ∷ 125 ∷ 217 ∷ 76 ∷ 175 ∷ 34 ∷ 51 ∷ 68 ∷ 85 ∷ 102 ∷ 119 ∷ 136 ∷ 153 ∷ 0 ∷ 0 ∷ 0 ∷ 0 ∷ 1 ∷ 0 ∷ 0 ∷ [])
+    (1 ∷ 7 ∷ 0 ∷ 0 ∷ 200 ∷ 171 ∷ 170 ∷ 170 ∷ 127 ∷ 219 ∷ 15 ∷ 201 ∷ 2 ∷ 175 ∷ 76 ∷ 217 ∷ 125 ∷ 217 ∷ 125 ∷ 171 ∷ 205
+    ∷ (zeros 1282))
+    (3 ∷ 0 ∷ 133 ∷ 0 ∷ 0 ∷ 3 ∷ 0 ∷ 0 ∷ 129 ∷ 0 ∷ 3 ∷ 0 ∷ 129 ∷ 0 ∷ 0 ∷ 3 ∷ 0 ∷ 129 ∷ 0 ∷ 0 ∷ 3 ∷ 0 ∷ 131 ∷ 0 ∷ 0 ∷ 3
+    ∷ 0 ∷ 1 ∷ 129 ∷ 0 ∷ 3 ∷ 0 ∷ 131 ∷ 0 ∷ 0 ∷ 3 ∷ 0 ∷ 1 ∷ 129 ∷ 0 ∷ 3 ∷ 0 ∷ 131 ∷ 0 ∷ 0 ∷ 3 ∷ 0 ∷ 1 ∷ 129 ∷ 0 ∷ 3 ∷
+    0 ∷ 129 ∷ 0 ∷ 0 ∷ 3 ∷ 0 ∷ 129 ∷ 0 ∷ 0 ∷ 3 ∷ 0 ∷ 1 ∷ 129 ∷ 0 ∷ 3 ∷ 0 ∷ 2 ∷ 129 ∷ 0 ∷ 5 ∷ 0 ∷ 135 ∷ 0 ∷ 0 ∷ 0 ∷ 0
+    ∷ 4 ∷ 0 ∷ 132 ∷ 0 ∷ 0 ∷ 0 ∷ (replicate 7 238))
 
--- ---- a keep
+-- 20 to 24 in their replies, the run going on
+abbrev pub inReplies : Row
+inReplies = record {
+  mode = 0;
+  rule = 0;
+  state = zeros 19;
+  sheets = zeros 1303;
+  input = joined ((3 ∷ 0 ∷ 1 ∷ 1 ∷ 0 ∷ []) ∷ (3 ∷ 0 ∷ 1 ∷ 1 ∷ 9 ∷ []) ∷ (2 ∷ 0 ∷ 2 ∷ 1 ∷ []) ∷
+      (6 ∷ 0 ∷ 0 ∷ 1 ∷ 9 ∷ 8 ∷ 7 ∷ 6 ∷ []) ∷ (6 ∷ 0 ∷ 0 ∷ 1 ∷ 1 ∷ 1 ∷ 1 ∷ 1 ∷ []) ∷ (3 ∷ 0 ∷ 1 ∷ 1 ∷ 4 ∷ []) ∷
+      (3 ∷ 0 ∷ 1 ∷ 0 ∷ 90 ∷ []) ∷ (3 ∷ 0 ∷ 1 ∷ 1 ∷ 4 ∷ []) ∷ (3 ∷ 0 ∷ 1 ∷ 1 ∷ 0 ∷ []) ∷
+      (3 ∷ 0 ∷ 1 ∷ 0 ∷ 165 ∷ []) ∷ (3 ∷ 0 ∷ 1 ∷ 1 ∷ 0 ∷ []) ∷ (3 ∷ 0 ∷ 1 ∷ 1 ∷ 1 ∷ []) ∷
+      (3 ∷ 0 ∷ 1 ∷ 1 ∷ 2 ∷ []) ∷ (2 ∷ 0 ∷ 2 ∷ 1 ∷ []) ∷ (3 ∷ 0 ∷ 1 ∷ 1 ∷ 3 ∷ []) ∷ (2 ∷ 0 ∷ 2 ∷ 1 ∷ []) ∷ []);
+  replies = replicate 80 238;
+  report = zeros 9;
+  result = 0;
+  state-after = 165 ∷ 90 ∷ (zeros 17);
+  sheets-after = 1 ∷ 9 ∷ 8 ∷ 7 ∷ 6 ∷ 0 ∷ 0 ∷ 90 ∷ 165 ∷ 0 ∷ 0 ∷ 90 ∷ 165 ∷ 0 ∷ 0 ∷ 90 ∷ 165 ∷ 0 ∷ 0 ∷ 90 ∷ 165 ∷
+      (zeros 1282);
+  replies-after = 3 ∷ 0 ∷ 1 ∷ 129 ∷ 21 ∷ 3 ∷ 0 ∷ 1 ∷ 129 ∷ 21 ∷ 3 ∷ 0 ∷ 2 ∷ 129 ∷ 21 ∷ 3 ∷ 0 ∷ 0 ∷ 129 ∷ 0 ∷ 3 ∷ 0 ∷
+      0 ∷ 129 ∷ 20 ∷ 3 ∷ 0 ∷ 1 ∷ 129 ∷ 22 ∷ 3 ∷ 0 ∷ 129 ∷ 0 ∷ 0 ∷ 3 ∷ 0 ∷ 1 ∷ 129 ∷ 22 ∷ 3 ∷ 0 ∷ 1 ∷ 129 ∷ 23 ∷ 3 ∷
+      0 ∷ 129 ∷ 0 ∷ 0 ∷ 3 ∷ 0 ∷ 1 ∷ 129 ∷ 0 ∷ 3 ∷ 0 ∷ 1 ∷ 129 ∷ 0 ∷ 3 ∷ 0 ∷ 1 ∷ 129 ∷ 0 ∷ 3 ∷ 0 ∷ 2 ∷ 129 ∷ 24 ∷ 3 ∷
+      0 ∷ 1 ∷ 129 ∷ 0 ∷ 3 ∷ 0 ∷ 2 ∷ 129 ∷ 0 ∷ [];
+  report-after = 0 ∷ 83 ∷ 0 ∷ 0 ∷ 0 ∷ 80 ∷ 0 ∷ 0 ∷ 0 ∷ [];
+}
 
--- 21 with none open, whatever the slot and the stack
-abbrev pub KeepNoneRow : Type 0
-KeepNoneRow =
-    (h : Held) (slot room : ℕ) → 5 ≤ room → getD (h .sheets) 1281 0 ≡ 0
-    → runOf h (keepRecord slot) room ≡ took h 5 (keepReply 21)
+-- 63 sheets and one to close make 64; the next close is 25 and its sheet stays open
+abbrev pub sixtyFour : Row
+sixtyFour = record {
+  mode = 0;
+  rule = 0;
+  state = zeros 19;
+  sheets = 63 ∷ (replicate 1260 7 ++ (zeros 20 ++ (1 ∷ 5 ∷ 6 ∷ 7 ∷ 8 ∷ 15 ∷ 101 ∷ 102 ∷ 103 ∷ 104 ∷ 105 ∷ 106 ∷ 107
+      ∷ 108 ∷ 109 ∷ 110 ∷ 111 ∷ 112 ∷ 113 ∷ 114 ∷ 115 ∷ 116 ∷ [])));
+  input = joined ((2 ∷ 0 ∷ 2 ∷ 1 ∷ []) ∷ (6 ∷ 0 ∷ 0 ∷ 1 ∷ 3 ∷ 3 ∷ 3 ∷ 3 ∷ []) ∷ (3 ∷ 0 ∷ 1 ∷ 1 ∷ 0 ∷ []) ∷
+      (3 ∷ 0 ∷ 1 ∷ 1 ∷ 1 ∷ []) ∷ (3 ∷ 0 ∷ 1 ∷ 1 ∷ 2 ∷ []) ∷ (3 ∷ 0 ∷ 1 ∷ 1 ∷ 3 ∷ []) ∷ (2 ∷ 0 ∷ 2 ∷ 1 ∷ []) ∷ []);
+  replies = replicate 35 238;
+  report = zeros 9;
+  result = 0;
+  state-after = zeros 19;
+  sheets-after = 64 ∷ (replicate 1260 7 ++ (5 ∷ 6 ∷ 7 ∷ 8 ∷ 101 ∷ 102 ∷ 103 ∷ 104 ∷ 105 ∷ 106 ∷ 107 ∷ 108 ∷ 109 ∷
+      110 ∷ 111 ∷ 112 ∷ 113 ∷ 114 ∷ 115 ∷ 116 ∷ 1 ∷ 3 ∷ 3 ∷ 3 ∷ 3 ∷ 15 ∷ (zeros 16)));
+  replies-after = 3 ∷ 0 ∷ 2 ∷ 129 ∷ 0 ∷ 3 ∷ 0 ∷ 0 ∷ 129 ∷ 0 ∷ 3 ∷ 0 ∷ 1 ∷ 129 ∷ 0 ∷ 3 ∷ 0 ∷ 1 ∷ 129 ∷ 0 ∷ 3 ∷ 0 ∷ 1
+      ∷ 129 ∷ 0 ∷ 3 ∷ 0 ∷ 1 ∷ 129 ∷ 0 ∷ 3 ∷ 0 ∷ 2 ∷ 129 ∷ 25 ∷ [];
+  report-after = 0 ∷ 36 ∷ 0 ∷ 0 ∷ 0 ∷ 35 ∷ 0 ∷ 0 ∷ 0 ∷ [];
+}
 
--- 22 for a slot over 3, with a half word pending too
-abbrev pub KeepSlotRow : Type 0
-KeepSlotRow =
-    (h : Held) (slot room : ℕ) → 5 ≤ room → getD (h .sheets) 1281 0 ≡ 1 → 3 < slot
-    → runOf h (keepRecord slot) room ≡ took h 5 (keepReply 22)
+-- 64 sheets: 25, and the reset behind it drops the open sheet
+abbrev pub listFull : Row
+listFull = record {
+  mode = 1;
+  rule = 1;
+  state = zeros 19;
+  sheets = 64 ∷ (replicate 1280 7 ++ (1 ∷ 5 ∷ 6 ∷ 7 ∷ 8 ∷ 15 ∷ 101 ∷ 102 ∷ 103 ∷ 104 ∷ 105 ∷ 106 ∷ 107 ∷ 108 ∷ 109 ∷
+      110 ∷ 111 ∷ 112 ∷ 113 ∷ 114 ∷ 115 ∷ 116 ∷ []));
+  input = joined ((2 ∷ 0 ∷ 2 ∷ 1 ∷ []) ∷ (2 ∷ 0 ∷ 5 ∷ 0 ∷ []) ∷ (2 ∷ 0 ∷ 2 ∷ 1 ∷ []) ∷ []);
+  replies = replicate 15 238;
+  report = zeros 9;
+  result = 0;
+  state-after = zeros 19;
+  sheets-after = 64 ∷ (replicate 1280 7 ++ (zeros 22));
+  replies-after = 3 ∷ 0 ∷ 2 ∷ 129 ∷ 25 ∷ 3 ∷ 0 ∷ 133 ∷ 0 ∷ 0 ∷ 3 ∷ 0 ∷ 2 ∷ 129 ∷ 21 ∷ [];
+  report-after = 0 ∷ 12 ∷ 0 ∷ 0 ∷ 0 ∷ 15 ∷ 0 ∷ 0 ∷ 0 ∷ [];
+}
 
--- 23 with a half word pending
-abbrev pub KeepHalfRow : Type 0
-KeepHalfRow =
-    (h : Held) (slot room : ℕ) → 5 ≤ room → getD (h .sheets) 1281 0 ≡ 1 → slot ≤ 3 → h .card .chip .pending ≡ true
-    → runOf h (keepRecord slot) room ≡ took h 5 (keepReply 23)
+-- reset drops the open sheet; a keep then finds none
+abbrev pub resetDrops : Row
+resetDrops = record {
+  mode = 0;
+  rule = 0;
+  state = zeros 19;
+  sheets = 2 ∷ (replicate 20 9 ++ (replicate 20 8 ++ (zeros 1240 ++ (1 ∷ 5 ∷ 6 ∷ 7 ∷ 8 ∷ 3 ∷ 201 ∷ 202 ∷ 203 ∷ 204 ∷
+      205 ∷ 206 ∷ 207 ∷ 208 ∷ (zeros 8)))));
+  input = joined ((2 ∷ 0 ∷ 5 ∷ 0 ∷ []) ∷ (3 ∷ 0 ∷ 1 ∷ 1 ∷ 0 ∷ []) ∷ []);
+  replies = replicate 10 238;
+  report = zeros 9;
+  result = 0;
+  state-after = zeros 19;
+  sheets-after = 2 ∷ (replicate 20 9 ++ (replicate 20 8 ++ (zeros 1262)));
+  replies-after = 3 ∷ 0 ∷ 133 ∷ 0 ∷ 0 ∷ 3 ∷ 0 ∷ 1 ∷ 129 ∷ 21 ∷ [];
+  report-after = 0 ∷ 9 ∷ 0 ∷ 0 ∷ 0 ∷ 10 ∷ 0 ∷ 0 ∷ 0 ∷ [];
+}
 
--- else the 32-bit TOS stands in the slot, lowest byte first, and bit k of byte 1,286 is set for slot k; the list, the serial, the other words and bits stay
-pub record KeptAt (old new : List ℕ) (slot top : ℕ) : Type 0 where
-  pub same-length : length new ≡ 1303
-  pub front-stays : take 1286 new ≡ take 1286 old
-  pub few : getD new 1286 0 < 16
-  pub slot-kept : getD new 1286 0 / 2 ^ slot % 2 ≡ 1
-  pub other-slots : (k : ℕ) → k < 4 → (k ≡ slot → ⊥) → getD new 1286 0 / 2 ^ k % 2 ≡ getD old 1286 0 / 2 ^ k % 2
-  pub word-is : take 4 (drop (1287 + 4 * slot) new) ≡ top % 256 ∷ top / 256 % 256 ∷ top / 65536 % 256 ∷ top / 16777216 % 256 ∷ []
-  pub other-words : (k : ℕ) → k < 4 → (k ≡ slot → ⊥) → take 4 (drop (1287 + 4 * k) new) ≡ take 4 (drop (1287 + 4 * k) old)
+-- a reset that 8 stops drops nothing
+abbrev pub resetStopped : Row
+resetStopped = record {
+  mode = 0;
+  rule = 0;
+  state = zeros 19;
+  sheets = 2 ∷ (replicate 20 9 ++ (replicate 20 8 ++ (zeros 1240 ++ (1 ∷ 5 ∷ 6 ∷ 7 ∷ 8 ∷ 3 ∷ 201 ∷ 202 ∷ 203 ∷ 204 ∷
+      205 ∷ 206 ∷ 207 ∷ 208 ∷ (zeros 8)))));
+  input = joined ((4 ∷ 0 ∷ 1 ∷ 0 ∷ 1 ∷ 2 ∷ []) ∷ (2 ∷ 0 ∷ 5 ∷ 0 ∷ []) ∷ []);
+  replies = replicate 9 238;
+  report = zeros 9;
+  result = 8;
+  state-after = 2 ∷ 1 ∷ (zeros 17);
+  sheets-after = 2 ∷ (replicate 20 9 ++ (replicate 20 8 ++ (zeros 1240 ++ (1 ∷ 5 ∷ 6 ∷ 7 ∷ 8 ∷ 3 ∷ 201 ∷ 202 ∷ 203 ∷
+      204 ∷ 205 ∷ 206 ∷ 207 ∷ 208 ∷ (zeros 8)))));
+  replies-after = 3 ∷ 0 ∷ 129 ∷ 0 ∷ 0 ∷ 238 ∷ 238 ∷ 238 ∷ 238 ∷ [];
+  report-after = 8 ∷ 6 ∷ 0 ∷ 0 ∷ 0 ∷ 5 ∷ 0 ∷ 0 ∷ 0 ∷ [];
+}
 
-abbrev pub KeepRow : Type 0
-KeepRow =
-    (h : Held) (slot room : ℕ) → isSheets (h .sheets) ≡ true → 5 ≤ room → getD (h .sheets) 1281 0 ≡ 1 → slot ≤ 3 → h .card .chip .pending ≡ false
-    → (new : List ℕ) × (runOf h (keepRecord slot) room ≡ took (held (h .card) new) 5 (keepReply 0)) × KeptAt (h .sheets) new slot (tos 4 (h .card .chip .stack))
+-- 5 for a kind that neither library has, before its payload (7) and the room (8)
+abbrev pub noKind : Row
+noKind = record {
+  mode = 0;
+  rule = 0;
+  state = zeros 19;
+  sheets = 2 ∷ (replicate 20 9 ++ (replicate 20 8 ++ (zeros 1240 ++ (1 ∷ 5 ∷ 6 ∷ 7 ∷ 8 ∷ 3 ∷ 201 ∷ 202 ∷ 203 ∷ 204 ∷
+      205 ∷ 206 ∷ 207 ∷ 208 ∷ (zeros 8)))));
+  input = joined ((4 ∷ 0 ∷ 1 ∷ 0 ∷ 1 ∷ 2 ∷ []) ∷ (3 ∷ 0 ∷ 3 ∷ 1 ∷ 1 ∷ []) ∷ []);
+  replies = replicate 5 238;
+  report = zeros 9;
+  result = 5;
+  state-after = 2 ∷ 1 ∷ (zeros 17);
+  sheets-after = 2 ∷ (replicate 20 9 ++ (replicate 20 8 ++ (zeros 1240 ++ (1 ∷ 5 ∷ 6 ∷ 7 ∷ 8 ∷ 3 ∷ 201 ∷ 202 ∷ 203 ∷
+      204 ∷ 205 ∷ 206 ∷ 207 ∷ 208 ∷ (zeros 8)))));
+  replies-after = 3 ∷ 0 ∷ 129 ∷ 0 ∷ 0 ∷ [];
+  report-after = 5 ∷ 6 ∷ 0 ∷ 0 ∷ 0 ∷ 5 ∷ 0 ∷ 0 ∷ 0 ∷ [];
+}
 
--- ---- a closing
+-- 6 for a keep that is cut, before its kind
+abbrev pub cutShort : Row
+cutShort = record {
+  mode = 0;
+  rule = 0;
+  state = zeros 19;
+  sheets = 2 ∷ (replicate 20 9 ++ (replicate 20 8 ++ (zeros 1240 ++ (1 ∷ 5 ∷ 6 ∷ 7 ∷ 8 ∷ 3 ∷ 201 ∷ 202 ∷ 203 ∷ 204 ∷
+      205 ∷ 206 ∷ 207 ∷ 208 ∷ (zeros 8)))));
+  input = 3 ∷ 0 ∷ 1 ∷ 1 ∷ 2 ∷ 3 ∷ 0 ∷ 1 ∷ 1 ∷ [];
+  replies = replicate 9 238;
+  report = zeros 9;
+  result = 6;
+  state-after = zeros 19;
+  sheets-after = 2 ∷ (replicate 20 9 ++ (replicate 20 8 ++ (zeros 1240 ++ (1 ∷ 5 ∷ 6 ∷ 7 ∷ 8 ∷ 7 ∷ 201 ∷ 202 ∷ 203 ∷
+      204 ∷ 205 ∷ 206 ∷ 207 ∷ 208 ∷ (zeros 8)))));
+  replies-after = 3 ∷ 0 ∷ 1 ∷ 129 ∷ 0 ∷ 238 ∷ 238 ∷ 238 ∷ 238 ∷ [];
+  report-after = 6 ∷ 5 ∷ 0 ∷ 0 ∷ 0 ∷ 5 ∷ 0 ∷ 0 ∷ 0 ∷ [];
+}
 
--- 21 with none open
-abbrev pub CloseNoneRow : Type 0
-CloseNoneRow =
-    (h : Held) (room : ℕ) → 5 ≤ room → getD (h .sheets) 1281 0 ≡ 0
-    → runOf h closeRecord room ≡ took h 4 (closeReply 21)
+-- 6 for a cut record of no kind
+abbrev pub cutUnknown : Row
+cutUnknown = record {
+  mode = 0;
+  rule = 0;
+  state = zeros 19;
+  sheets = 2 ∷ (replicate 20 9 ++ (replicate 20 8 ++ (zeros 1240 ++ (1 ∷ 5 ∷ 6 ∷ 7 ∷ 8 ∷ 3 ∷ 201 ∷ 202 ∷ 203 ∷ 204 ∷
+      205 ∷ 206 ∷ 207 ∷ 208 ∷ (zeros 8)))));
+  input = 3 ∷ 0 ∷ 1 ∷ 1 ∷ 2 ∷ 4 ∷ 0 ∷ 3 ∷ 1 ∷ [];
+  replies = replicate 9 238;
+  report = zeros 9;
+  result = 6;
+  state-after = zeros 19;
+  sheets-after = 2 ∷ (replicate 20 9 ++ (replicate 20 8 ++ (zeros 1240 ++ (1 ∷ 5 ∷ 6 ∷ 7 ∷ 8 ∷ 7 ∷ 201 ∷ 202 ∷ 203 ∷
+      204 ∷ 205 ∷ 206 ∷ 207 ∷ 208 ∷ (zeros 8)))));
+  replies-after = 3 ∷ 0 ∷ 1 ∷ 129 ∷ 0 ∷ 238 ∷ 238 ∷ 238 ∷ 238 ∷ [];
+  report-after = 6 ∷ 5 ∷ 0 ∷ 0 ∷ 0 ∷ 5 ∷ 0 ∷ 0 ∷ 0 ∷ [];
+}
 
--- 24 with a slot not kept: the sheet stays open
-abbrev pub CloseLacksRow : Type 0
-CloseLacksRow =
-    (h : Held) (room : ℕ) → 5 ≤ room → getD (h .sheets) 1281 0 ≡ 1 → getD (h .sheets) 1286 0 < 15
-    → runOf h closeRecord room ≡ took h 4 (closeReply 24)
+-- 7 for a length over 242 of kind 256, though bytes are missing
+abbrev pub badLength : Row
+badLength = record {
+  mode = 0;
+  rule = 0;
+  state = zeros 19;
+  sheets = 2 ∷ (replicate 20 9 ++ (replicate 20 8 ++ (zeros 1240 ++ (1 ∷ 5 ∷ 6 ∷ 7 ∷ 8 ∷ 3 ∷ 201 ∷ 202 ∷ 203 ∷ 204 ∷
+      205 ∷ 206 ∷ 207 ∷ 208 ∷ (zeros 8)))));
+  input = 5 ∷ 0 ∷ 1 ∷ 0 ∷ 1 ∷ 2 ∷ 3 ∷ 243 ∷ 0 ∷ 0 ∷ 1 ∷ 5 ∷ [];
+  replies = replicate 9 238;
+  report = zeros 9;
+  result = 7;
+  state-after = 3 ∷ 2 ∷ 1 ∷ (zeros 13 ++ (1 ∷ 0 ∷ 0 ∷ []));
+  sheets-after = 2 ∷ (replicate 20 9 ++ (replicate 20 8 ++ (zeros 1240 ++ (1 ∷ 5 ∷ 6 ∷ 7 ∷ 8 ∷ 3 ∷ 201 ∷ 202 ∷ 203 ∷
+      204 ∷ 205 ∷ 206 ∷ 207 ∷ 208 ∷ (zeros 8)))));
+  replies-after = 3 ∷ 0 ∷ 129 ∷ 0 ∷ 0 ∷ 238 ∷ 238 ∷ 238 ∷ 238 ∷ [];
+  report-after = 7 ∷ 7 ∷ 0 ∷ 0 ∷ 0 ∷ 5 ∷ 0 ∷ 0 ∷ 0 ∷ [];
+}
 
--- 25 where the list holds 64: the sheet stays open
-abbrev pub CloseFullRow : Type 0
-CloseFullRow =
-    (h : Held) (room : ℕ) → 5 ≤ room → getD (h .sheets) 1281 0 ≡ 1 → getD (h .sheets) 1286 0 ≡ 15 → getD (h .sheets) 0 0 ≡ 64
-    → runOf h closeRecord room ≡ took h 4 (closeReply 25)
+-- 7 for an opening of three bytes, before the room (8)
+abbrev pub badOpen : Row
+badOpen = record {
+  mode = 0;
+  rule = 0;
+  state = zeros 19;
+  sheets = 2 ∷ (replicate 20 9 ++ (replicate 20 8 ++ (zeros 1240 ++ (1 ∷ 5 ∷ 6 ∷ 7 ∷ 8 ∷ 3 ∷ 201 ∷ 202 ∷ 203 ∷ 204 ∷
+      205 ∷ 206 ∷ 207 ∷ 208 ∷ (zeros 8)))));
+  input = joined ((5 ∷ 0 ∷ 1 ∷ 0 ∷ 1 ∷ 2 ∷ 3 ∷ []) ∷ (5 ∷ 0 ∷ 0 ∷ 1 ∷ 1 ∷ 2 ∷ 3 ∷ []) ∷ []);
+  replies = replicate 5 238;
+  report = zeros 9;
+  result = 7;
+  state-after = 3 ∷ 2 ∷ 1 ∷ (zeros 13 ++ (1 ∷ 0 ∷ 0 ∷ []));
+  sheets-after = 2 ∷ (replicate 20 9 ++ (replicate 20 8 ++ (zeros 1240 ++ (1 ∷ 5 ∷ 6 ∷ 7 ∷ 8 ∷ 3 ∷ 201 ∷ 202 ∷ 203 ∷
+      204 ∷ 205 ∷ 206 ∷ 207 ∷ 208 ∷ (zeros 8)))));
+  replies-after = 3 ∷ 0 ∷ 129 ∷ 0 ∷ 0 ∷ [];
+  report-after = 7 ∷ 7 ∷ 0 ∷ 0 ∷ 0 ∷ 5 ∷ 0 ∷ 0 ∷ 0 ∷ [];
+}
 
--- else the serial and the four words stand in the next place, the number is one more, none is open: its 22 bytes are zero; all other places are as they were
-pub record ClosedAt (old new : List ℕ) (n : ℕ) : Type 0 where
-  pub same-length : length new ≡ 1303
-  pub one-more : getD new 0 0 ≡ n + 1
-  pub earlier-stay : take (20 * n) (drop 1 new) ≡ take (20 * n) (drop 1 old)
-  pub line-is : take 20 (drop (1 + 20 * n) new) ≡ take 4 (drop 1282 old) ++ take 16 (drop 1287 old)
-  pub later-stay : take (1260 - 20 * n) (drop (21 + 20 * n) new) ≡ take (1260 - 20 * n) (drop (21 + 20 * n) old)
-  pub none-open : drop 1281 new ≡ zeros 22
+-- 7 for a keep of no bytes
+abbrev pub badKeep : Row
+badKeep = record {
+  mode = 0;
+  rule = 0;
+  state = zeros 19;
+  sheets = 2 ∷ (replicate 20 9 ++ (replicate 20 8 ++ (zeros 1240 ++ (1 ∷ 5 ∷ 6 ∷ 7 ∷ 8 ∷ 3 ∷ 201 ∷ 202 ∷ 203 ∷ 204 ∷
+      205 ∷ 206 ∷ 207 ∷ 208 ∷ (zeros 8)))));
+  input = joined ((2 ∷ 0 ∷ 1 ∷ 1 ∷ []) ∷ []);
+  replies = replicate 5 238;
+  report = zeros 9;
+  result = 7;
+  state-after = zeros 19;
+  sheets-after = 2 ∷ (replicate 20 9 ++ (replicate 20 8 ++ (zeros 1240 ++ (1 ∷ 5 ∷ 6 ∷ 7 ∷ 8 ∷ 3 ∷ 201 ∷ 202 ∷ 203 ∷
+      204 ∷ 205 ∷ 206 ∷ 207 ∷ 208 ∷ (zeros 8)))));
+  replies-after = 238 ∷ 238 ∷ 238 ∷ 238 ∷ 238 ∷ [];
+  report-after = 7 ∷ (zeros 8);
+}
 
-abbrev pub CloseRow : Type 0
-CloseRow =
-    (h : Held) (room : ℕ) → length (h .sheets) ≡ 1303 → 5 ≤ room → getD (h .sheets) 1281 0 ≡ 1 → getD (h .sheets) 1286 0 ≡ 15 → getD (h .sheets) 0 0 < 64
-    → (new : List ℕ) × (runOf h closeRecord room ≡ took (held (h .card) new) 4 (closeReply 0)) × ClosedAt (h .sheets) new (getD (h .sheets) 0 0)
+-- 7 for a close of one byte, before the room (8)
+abbrev pub badClose : Row
+badClose = record {
+  mode = 1;
+  rule = 0;
+  state = zeros 19;
+  sheets = 2 ∷ (replicate 20 9 ++ (replicate 20 8 ++ (zeros 1240 ++ (1 ∷ 5 ∷ 6 ∷ 7 ∷ 8 ∷ 3 ∷ 201 ∷ 202 ∷ 203 ∷ 204 ∷
+      205 ∷ 206 ∷ 207 ∷ 208 ∷ (zeros 8)))));
+  input = joined ((3 ∷ 0 ∷ 1 ∷ 0 ∷ 1 ∷ []) ∷ (3 ∷ 0 ∷ 2 ∷ 1 ∷ 1 ∷ []) ∷ []);
+  replies = replicate 5 238;
+  report = zeros 9;
+  result = 7;
+  state-after = 1 ∷ (zeros 15 ++ (1 ∷ 0 ∷ 0 ∷ []));
+  sheets-after = 2 ∷ (replicate 20 9 ++ (replicate 20 8 ++ (zeros 1240 ++ (1 ∷ 5 ∷ 6 ∷ 7 ∷ 8 ∷ 3 ∷ 201 ∷ 202 ∷ 203 ∷
+      204 ∷ 205 ∷ 206 ∷ 207 ∷ 208 ∷ (zeros 8)))));
+  replies-after = 3 ∷ 0 ∷ 129 ∷ 0 ∷ 0 ∷ [];
+  report-after = 7 ∷ 5 ∷ 0 ∷ 0 ∷ 0 ∷ 5 ∷ 0 ∷ 0 ∷ 0 ∷ [];
+}
 
--- ---- reset
+-- 8 with no room for the reply, before 21
+abbrev pub noRoom : Row
+noRoom = record {
+  mode = 0;
+  rule = 1;
+  state = zeros 19;
+  sheets = zeros 1303;
+  input = joined ((3 ∷ 0 ∷ 1 ∷ 1 ∷ 0 ∷ []) ∷ (3 ∷ 0 ∷ 3 ∷ 0 ∷ 26 ∷ []) ∷ (3 ∷ 0 ∷ 1 ∷ 1 ∷ 0 ∷ []) ∷ []);
+  replies = replicate 14 238;
+  report = zeros 9;
+  result = 8;
+  state-after = 2 ∷ 201 ∷ 15 ∷ 219 ∷ (zeros 15);
+  sheets-after = zeros 1303;
+  replies-after = 3 ∷ 0 ∷ 1 ∷ 129 ∷ 21 ∷ 3 ∷ 0 ∷ 131 ∷ 0 ∷ 0 ∷ 238 ∷ 238 ∷ 238 ∷ 238 ∷ [];
+  report-after = 8 ∷ 10 ∷ 0 ∷ 0 ∷ 0 ∷ 10 ∷ 0 ∷ 0 ∷ 0 ∷ [];
+}
 
--- in both modes, open or not: the 22 bytes are zero, the list stays
-abbrev pub ResetRow : Type 0
-ResetRow =
-    (on : Settings) (s : State) (m : Memory) (sheets : List ℕ) (room : ℕ) → busy s ≡ false → length sheets ≡ 1303 → 5 ≤ room
-    → runOf (held (cardWith on s m) sheets) (2 ∷ 0 ∷ 5 ∷ 0 ∷ []) room
-    ≡ took (held (cardWith on (afterReset (on .mode) s) emptyMemory) (take 1281 sheets ++ zeros 22)) 4 (3 ∷ 0 ∷ 133 ∷ 0 ∷ 0 ∷ [])
+-- 14 writes nothing, whatever else is wrong
+abbrev pub noReport : Row
+noReport = record {
+  mode = 2;
+  rule = 2;
+  state = zeros 16 ++ (2 ∷ 0 ∷ 0 ∷ []);
+  sheets = zeros 1303;
+  input = joined ((3 ∷ 0 ∷ 1 ∷ 0 ∷ 1 ∷ []) ∷ []);
+  replies = replicate 5 238;
+  report = zeros 8;
+  result = 14;
+  state-after = zeros 16 ++ (2 ∷ 0 ∷ 0 ∷ []);
+  sheets-after = zeros 1303;
+  replies-after = 238 ∷ 238 ∷ 238 ∷ 238 ∷ 238 ∷ [];
+  report-after = zeros 8;
+}
 
--- every other record of the core, and a reset that 8 stops, leaves every byte of the slice
-abbrev pub OthersRow : Type 0
-OthersRow =
-    (h : Held) (l : List ℕ) (room : ℕ) → 0 < length l → wordAt l 2 < 256 → (wordAt l 2 ≡ 5 → coreTurn (h .card) l room .refusal ≡ 0 → ⊥)
-    → lineOf h l room .state .sheets ≡ h .sheets
+-- 16, whatever else is wrong but the report
+abbrev pub noMode : Row
+noMode = turnedAway 16 2 2 (zeros 16 ++ (2 ∷ 0 ∷ 0 ∷ [])) (zeros 1303) (3 ∷ 0 ∷ 1 ∷ 0 ∷ 1 ∷ [])
 
--- a record of another kind, whole or not, is the core's: its refusal, its bytes, its reply and the card after it
-pub record CoreTurn (line : Turned Held) (core : Turned Card) : Type 0 where
-  pub refusal-is : line .refusal ≡ core .refusal
-  pub card-is : line .state .card ≡ core .state
-  pub size-is : line .size ≡ core .size
-  pub reply-is : line .reply ≡ core .reply
+-- 17 before 13
+abbrev pub noRule : Row
+noRule = turnedAway 17 1 2 (zeros 16 ++ (2 ∷ 0 ∷ 0 ∷ [])) (zeros 1303) (3 ∷ 0 ∷ 1 ∷ 0 ∷ 1 ∷ [])
 
-abbrev pub CoreRow : Type 0
-CoreRow = (h : Held) (l : List ℕ) (room : ℕ) → (256 ≤ wordAt l 2 → 258 < wordAt l 2) → CoreTurn (lineOf h l room) (coreTurn (h .card) l room)
+-- 13 for the state
+abbrev pub noState : Row
+noState = turnedAway 13 1 1 (zeros 16 ++ (2 ∷ 0 ∷ 0 ∷ [])) (zeros 1303) (3 ∷ 0 ∷ 1 ∷ 0 ∷ 1 ∷ [])
 
--- ---- the records that stop a run, with nothing done
+-- 13 for a state of 20 bytes
+abbrev pub shortState : Row
+shortState = turnedAway 13 0 0 (zeros 20) (zeros 1303) (3 ∷ 0 ∷ 1 ∷ 0 ∷ 1 ∷ [])
 
--- 8 where the reply has no room, before 20 to 25
-abbrev pub NoRoomRow : Type 0
-NoRoomRow =
-    (h : Held) (room : ℕ) → room < 5
-    → ((serial : List ℕ) → length serial ≡ 4 → runOf h (openRecord serial) room ≡ ended 8 h)
-    × ((slot : ℕ) → runOf h (keepRecord slot) room ≡ ended 8 h)
-    × (runOf h closeRecord room ≡ ended 8 h)
+-- 13 for bits of the memory without a code
+abbrev pub noMemory : Row
+noMemory = turnedAway 13 0 0 (zeros 19 ++ (2 ∷ 0 ∷ [])) (zeros 1303) (3 ∷ 0 ∷ 1 ∷ 0 ∷ 1 ∷ [])
 
--- 7 for another payload, before 8
-abbrev pub PayloadRow : Type 0
-PayloadRow =
-    (h : Held) (kind : ℕ) (payload : List ℕ) (room : ℕ) → kind < 3 → length payload ≤ 240 → (length payload ≡ getD (4 ∷ 1 ∷ 0 ∷ []) kind 0 → ⊥)
-    → runOf h ((2 + length payload) ∷ 0 ∷ kind ∷ 1 ∷ payload) room ≡ ended 7 h
+-- 13 for a number over 64
+abbrev pub sixtyFive : Row
+sixtyFive = turnedAway 13 0 0 (zeros 19) (65 ∷ (zeros 1302)) (3 ∷ 0 ∷ 1 ∷ 0 ∷ 1 ∷ [])
 
--- 5 for a kind that neither library has, before 7
-abbrev pub NoKindRow : Type 0
-NoKindRow =
-    (h : Held) (low high : ℕ) (payload : List ℕ) (room : ℕ) → low < 256 → length payload ≤ 240 → (0 < low + high * 256 → 8 < low + high * 256) → (256 ≤ low + high * 256 → 258 < low + high * 256)
-    → runOf h ((2 + length payload) ∷ 0 ∷ low ∷ high ∷ payload) room ≡ ended 5 h
+-- 13 for open over 1
+abbrev pub openTwo : Row
+openTwo = turnedAway 13 0 0 (zeros 19) (zeros 1281 ++ (2 ∷ (zeros 21))) (3 ∷ 0 ∷ 1 ∷ 0 ∷ 1 ∷ [])
+
+-- 13 for kept over 15
+abbrev pub keptSixteen : Row
+keptSixteen = turnedAway 13 0 0 (zeros 19) (zeros 1286 ++ (16 ∷ (zeros 16))) (3 ∷ 0 ∷ 1 ∷ 0 ∷ 1 ∷ [])
+
+-- 13 for 1,302 bytes of sheets
+abbrev pub shortSheets : Row
+shortSheets = turnedAway 13 0 0 (zeros 19) (zeros 1302) (3 ∷ 0 ∷ 1 ∷ 0 ∷ 1 ∷ [])
+
+-- 13 for the sheets before 9
+abbrev pub sheetsFirst : Row
+sheetsFirst = turnedAway 13 0 0 (zeros 19) (zeros 1302) (zeros 12289)
+
+-- 9 for 12,289 bytes
+abbrev pub longInput : Row
+longInput = turnedAway 9 0 0 (zeros 19) (zeros 1303) (zeros 12289)
+
+-- no bytes end at once with 0
+abbrev pub emptyInput : Row
+emptyInput = record {
+  mode = 0;
+  rule = 0;
+  state = zeros 19;
+  sheets = 2 ∷ (replicate 20 9 ++ (replicate 20 8 ++ (zeros 1240 ++ (1 ∷ 5 ∷ 6 ∷ 7 ∷ 8 ∷ 3 ∷ 201 ∷ 202 ∷ 203 ∷ 204 ∷
+      205 ∷ 206 ∷ 207 ∷ 208 ∷ (zeros 8)))));
+  input = [];
+  replies = replicate 5 238;
+  report = zeros 9;
+  result = 0;
+  state-after = zeros 19;
+  sheets-after = 2 ∷ (replicate 20 9 ++ (replicate 20 8 ++ (zeros 1240 ++ (1 ∷ 5 ∷ 6 ∷ 7 ∷ 8 ∷ 3 ∷ 201 ∷ 202 ∷ 203 ∷
+      204 ∷ 205 ∷ 206 ∷ 207 ∷ 208 ∷ (zeros 8)))));
+  replies-after = 238 ∷ 238 ∷ 238 ∷ 238 ∷ 238 ∷ [];
+  report-after = zeros 9;
+}
+
+-- ---- the statement
+
+-- the table
+abbrev pub rows : List Row
+rows =
+    twoClosed ∷ underAm9511ACut ∷ underAm9511ANearest ∷ underOlderCut ∷ underOlderNearest ∷ inReplies ∷ sixtyFour ∷
+    listFull ∷ resetDrops ∷ resetStopped ∷ noKind ∷ cutShort ∷ cutUnknown ∷ badLength ∷ badOpen ∷ badKeep ∷ badClose
+    ∷ noRoom ∷ noReport ∷ noMode ∷ noRule ∷ noState ∷ shortState ∷ noMemory ∷ sixtyFive ∷ openTwo ∷ keptSixteen ∷
+    shortSheets ∷ sheetsFirst ∷ longInput ∷ emptyInput ∷ []
+
+-- every row of a table holds
+abbrev pub AllGive : List Row → Type 0
+AllGive [] = Unit
+AllGive (r ∷ rs) = Gives r × AllGive rs
+
+-- all of them
+abbrev pub SheetsRows : Type 0
+SheetsRows = AllGive rows

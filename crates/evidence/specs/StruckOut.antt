@@ -1,23 +1,23 @@
--- 02, ask 11: the core sees a file as if kinds 256 to 258 were struck out. Definitions and statements only: proofs/StruckOut.antt proves them. Assumes nothing.
-use Prim.Native.Nat.{ℕ, _≤_}
+-- 02, ask 11: the core sees a file as if kinds 256 to 258 were struck out. Definitions and the statement only:
+-- proofs/Calls.antt proves it. Assumes nothing.
+use Prim.Native.Nat.{ℕ}
 use mathlib.Core.Path.{_≡_}
 use mathlib.Core.List.{List}
-use lib.ListN.{length}
-use Rattle.memory.specs.Memory.{Card}
-use Rattle.records.specs.Run.{Outcome, runOf as coreRun}
-use Rattle.sheets.specs.Step.{held, runOf}
-use Rattle.evidence.specs.Whole.{recordsOf, joined, struck, struckReplies}
+use Rattle.evidence.specs.Records.{recordsOf, joined, struck, struckReplies}
+use Rattle.evidence.specs.SheetsCall.{repliesIn}
+use Rattle.evidence.specs.Subjects.{CoreAnswer, coreCall, SheetsAnswer, sheetsCall}
 
--- what the core leaves of a file alone, beside what the run with sheets left of the whole
-pub record Struck (core : Outcome) (file written : List ℕ) (card : Card) : Type 0 where
-  pub refusal-is : core .refusal ≡ 0
-  pub card-is : core .state ≡ card
-  pub taken-is : core .taken ≡ length file
-  pub written-is : core .written ≡ written
+-- what the core leaves of a file that is struck out, beside what the run with sheets left of the whole
+pub record Struck (core : CoreAnswer) (all : SheetsAnswer) : Type 0 where
+  pub result-is : core .result ≡ 0
+  pub state-is : core .state ≡ all .state
+  pub replies-are : repliesIn (core .replies) (core .report)
+      ≡ joined (struckReplies (recordsOf (repliesIn (all .replies) (all .report))))
 
--- a file that ends with 0, in as much room or more
+-- "In a file that ends with 0, the core's own replies and state are those it gives with kinds 256 to 258 struck out"
 abbrev pub StruckOut : Type 0
 StruckOut =
-    (c : Card) (sheets l : List ℕ) (room : ℕ) → runOf (held c sheets) l room .refusal ≡ 0 → (more : ℕ) → room ≤ more
-    → Struck (coreRun c (joined (struck (recordsOf l))) more) (joined (struck (recordsOf l)))
-    (joined (struckReplies (recordsOf (runOf (held c sheets) l room .written)))) (runOf (held c sheets) l room .state .card)
+    (mode rule : ℕ) (state sheets input replies report : List ℕ)
+    → sheetsCall mode rule state sheets input replies report .result ≡ 0
+    → Struck (coreCall mode rule state (joined (struck (recordsOf input))) replies report)
+    (sheetsCall mode rule state sheets input replies report)

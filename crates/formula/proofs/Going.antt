@@ -1,20 +1,20 @@
 -- The loop of sums and products: a left operand that grows by one sign and one right operand a turn. Assumes nothing.
-use mathlib.Core.Path.{_≡_, refl, sym, _∙_, ap, subst}
-use mathlib.Core.Bool.{Bool, true, false, _&&_}
+use mathlib.Core.Path.{_≡_, refl, sym, _∙_, ap}
 use mathlib.Core.Logic.{⊎-elim}
-use mathlib.Core.List.{List, [], _∷_, _++_, append-assoc}
-use Prim.Native.Nat.{ℕ, zero, suc, _+_, _*_, _-_, _≤_, _<_, max}
+use mathlib.Core.List.{List, [], _∷_, _++_}
+use Prim.Native.Nat.{ℕ, zero, suc, _+_, _-_, _≤_, _<_}
 use native.Mathlib.Omega.{arith}
-use lib.ListN.{length, drop, getD, length-append, length-drop, drop-of-length-le, List·getD-eq-default}
+use lib.ListN.{length, drop, getD, set, length-append, length-drop, drop-of-length-le, List·getD-eq-default}
 use lib.Seq.{sets}
-use Rattle.formula.specs.Formula.{Operator, Plus, Less, Times, Over, Formula, Joined, needOf}
+use Rattle.formula.specs.Formula.{Operator, Plus, Less, Times, Over, Formula, Joined}
 use Rattle.formula.specs.Reader.{Read, Found, Outside, Reader, then, Sign, Joins, Ends, more, joinedBy}
-use Rattle.formula.specs.File.{codeOf, properIn, commandRecord, fileOf}
-use Rattle.formula.specs.Told.{joinedOf, signCode, Asks, Tells, Told, Reads}
-use Rattle.formula.specs.declared.parts.Part.{Part}
+use Rattle.formula.specs.File.{codeOf}
+use Rattle.formula.specs.Postfix.{postfixOf}
+use Rattle.formula.specs.Told.{mostText, atOf, endOf, nowhere, longerOf, signCode, Asks, Tells, Reads}
 use Rattle.formula.proofs.Cases.{never, ends-never, more-ends, more-joins}
 use Rattle.formula.proofs.Stores.{sets-append, sets-over}
-use Rattle.formula.proofs.Reading.{from, side, joined-is, joined-none, joined-at, reads-as}
+use Rattle.formula.proofs.Places.{place-is, nowhere-at, longer-none, longer-is, next-at, next-end, longer-at, longer-end}
+use Rattle.formula.proofs.Reading.{from, side, somewhere, reads-as}
 
 -- ---- the sign after an operand
 pub ends-code : (sign : ℕ → Sign) (text : List ℕ) (k b code : ℕ) → b ≡ getD text k 0 → code ≡ signCode (sign b) → code ≡ 0 → sign (getD text k 0) ≡ Ends
@@ -68,41 +68,42 @@ module _ (sign : ℕ → Sign) (operand : Reader) (text : List ℕ) where
       ap (more sign operand (suc n) f) (from text k l) ∙ more-joins sign operand n f (getD text k 0) (drop (k + 1) text) o e
       ∙ ap (λ (m : ℕ). then (operand (drop (k + 1) text)) (λ r rest. more sign operand m (Joined o f r) rest)) (sym m)
 
--- ---- the loop: `start` is what the first operand left, `least` the end of its file
-pub record Going (sign : ℕ → Sign) (operand : Reader) (letters text : List ℕ) (at end : ℕ) (start after : List ℕ) (least : ℕ) (p : Part) : Type 0 where
+-- ---- the loop: `start` is what the first operand left, `least` the end of its postfix
+pub record Going (sign : ℕ → Sign) (operand : Reader) (text : List ℕ) (place : ℕ) (start after : List ℕ) (least p : ℕ) : Type 0 where
   pub so-far : Read
   pub turns : ℕ
-  pub enough : length text - p .at ≤ turns
-  pub goes : joinedBy sign operand (drop at text) ≡ then so-far (λ l rest. more sign operand turns l rest)
-  pub reads : Reads letters text at end start after so-far p
-  pub same : length after ≡ length start
-  pub since : least ≤ p .end
+  pub enough : length text - atOf p ≤ turns
+  pub goes : joinedBy sign operand (drop (atOf place) text) ≡ then so-far (λ l rest. more sign operand turns l rest)
+  pub reads : Reads text place start after so-far p
+  pub since : (p ≡ nowhere → ⊥) → least ≤ endOf p
 
--- the same part, its file stored over something else
-retold : {letters text : List ℕ} {end : ℕ} {before after start left : List ℕ} {f : Formula} {rest : List ℕ} {p : Part} → Tells letters text end before after f rest p
-    → left ≡ sets start end (fileOf letters f) → Tells letters text end start left f rest p
-retold T e = record { whole-is = T .whole-is; rest-is = T .rest-is; end-is = T .end-is; need-is = T .need-is; proper-is = T .proper-is; file-is = e }
+-- the same part, its postfix stored over something else
+retold : {text : List ℕ} {place : ℕ} {before after start left : List ℕ} {f : Formula} {rest : List ℕ} {p : ℕ} → Tells text place before after f rest p
+    → left ≡ sets start (endOf place) (postfixOf f) → Tells text place start left f rest p
+retold T e = record { rest-is = T .rest-is; end-is = T .end-is; stored-is = e; later = T .later; inside = T .inside; few = T .few }
 
-module _ {sign : ℕ → Sign} {operand : Reader} {letters text : List ℕ} {at end : ℕ} where
+-- the place behind the sign
+next : {sign : ℕ → Sign} {text : List ℕ} {code : ℕ} (p : ℕ) → length text ≤ mostText → Joining sign text (atOf p) code → (atOf (p + 1) ≡ atOf p + 1) × (endOf (p + 1) ≡ endOf p)
+next p short J = (next-at p (omega (arith, J .inside)), next-end p (omega (arith, J .inside)))
+
+module _ {sign : ℕ → Sign} {operand : Reader} {text : List ℕ} {place : ℕ} (short : length text ≤ mostText) where
   -- the first operand
-  pub going-starts : {before start : List ℕ} {p : Part} → Reads letters text at end before start (operand (drop at text)) p → Going sign operand letters text at end start start (p .end) p
-  going-starts {before} {start} {p} R = go (operand (drop at text)) refl R
+  pub going-starts : {before start : List ℕ} {p : ℕ} → Reads text place before start (operand (drop (atOf place) text)) p → Going sign operand text place start start (endOf p) p
+  going-starts {before} {start} {p} R = go (operand (drop (atOf place) text)) refl R
     where
-      go : (x : Read) → operand (drop at text) ≡ x → Reads letters text at end before start x p → Going sign operand letters text at end start start (p .end) p
+      go : (x : Read) → operand (drop (atOf place) text) ≡ x → Reads text place before start x p → Going sign operand text place start start (endOf p) p
       go (Found f rest) e R =
           let T = R .told in
-          let n : length rest ≡ length text - p .at = ap length (T .rest-is) ∙ length-drop (p .at) text in
+          let n : length rest ≡ length text - atOf p = ap length (T .rest-is) ∙ length-drop (atOf p) text in
           record {
             so-far = Found f rest;
             turns = length rest;
             enough = omega arith;
             goes = ap (λ (x : Read). then x (λ l u. more sign operand (length u) l u)) e;
             reads = record {
-              told = retold T (T .file-is ∙ sym (ap (λ (l : List ℕ). sets l end (fileOf letters f)) (T .file-is) ∙ sets-over (fileOf letters f) (fileOf letters f) before end (omega arith)));
-              within = R .within;
+              told = retold T (T .stored-is ∙ sym (ap (λ (l : List ℕ). sets l (endOf place) (postfixOf f)) (T .stored-is) ∙ sets-over (postfixOf f) (postfixOf f) before (endOf place) (omega arith)));
             };
-            same = refl;
-            since = omega arith;
+            since = λ h. omega arith;
           }
       go Outside e R =
           record {
@@ -110,106 +111,136 @@ module _ {sign : ℕ → Sign} {operand : Reader} {letters text : List ℕ} {at 
             turns = length text;
             enough = omega arith;
             goes = ap (λ (x : Read). then x (λ l u. more sign operand (length u) l u)) e;
-            reads = record { told = R .told; within = R .within };
-            same = refl;
-            since = omega arith;
+            reads = record { told = R .told };
+            since = λ h. omega arith;
           }
 
   -- no sign follows
-  pub going-ends : {before start after : List ℕ} {q p : Part} → Reads letters text at end before start (operand (drop at text)) q → Going sign operand letters text at end start after (q .end) p
-      → sign (getD text (p .at) 0) ≡ Ends → Reads letters text at end before after (joinedBy sign operand (drop at text)) p
-  going-ends {before} {start} {after} {q} {p} Q G e = go (G .so-far) (G .goes) (G .reads) (operand (drop at text)) refl Q
+  pub going-ends : {before start after : List ℕ} {q p : ℕ} → Reads text place before start (operand (drop (atOf place) text)) q → Going sign operand text place start after (endOf q) p
+      → sign (getD text (atOf p) 0) ≡ Ends → Reads text place before after (joinedBy sign operand (drop (atOf place) text)) p
+  going-ends {before} {start} {after} {q} {p} Q G e = go (G .so-far) (G .goes) (G .reads) (operand (drop (atOf place) text)) refl Q
     where
-      go : (x : Read) → joinedBy sign operand (drop at text) ≡ then x (λ l rest. more sign operand (G .turns) l rest) → Reads letters text at end start after x p
-          → (y : Read) → operand (drop at text) ≡ y → Reads letters text at end before start y q → Reads letters text at end before after (joinedBy sign operand (drop at text)) p
-      go Outside g R y f Q = reads-as letters text at end before after g (record { told = R .told; within = R .within })
+      go : (x : Read) → joinedBy sign operand (drop (atOf place) text) ≡ then x (λ l rest. more sign operand (G .turns) l rest) → Reads text place start after x p
+          → (y : Read) → operand (drop (atOf place) text) ≡ y → Reads text place before start y q → Reads text place before after (joinedBy sign operand (drop (atOf place) text)) p
+      go Outside g R y f Q = reads-as text place before after g (record { told = R .told })
       go (Found l rest) g R Outside f Q =
-          let h = ap (λ (r : List ℕ). more sign operand (G .turns) l r) (R .told .rest-is) ∙ ended sign operand text (G .turns) l (p .at) e in
+          let h = ap (λ (r : List ℕ). more sign operand (G .turns) l r) (R .told .rest-is) ∙ ended sign operand text (G .turns) l (atOf p) e in
           never (sym (ap (λ (x : Read). then x (λ l u. more sign operand (length u) l u)) f) ∙ g ∙ h)
       go (Found l rest) g R (Found k left) f Q =
           let T = R .told in
           let S = Q .told in
-          let n : length (fileOf letters k) ≤ length (fileOf letters l) = omega (arith, G .since, T .end-is, S .end-is) in
-          reads-as letters text at end before after
-          (g ∙ ap (λ (r : List ℕ). more sign operand (G .turns) l r) (T .rest-is) ∙ ended sign operand text (G .turns) l (p .at) e ∙ ap (Found l) (sym (T .rest-is)))
+          let n : length (postfixOf k) ≤ length (postfixOf l) = omega (arith, G .since (somewhere text p short (T .inside)), T .end-is, S .end-is) in
+          reads-as text place before after
+          (g ∙ ap (λ (r : List ℕ). more sign operand (G .turns) l r) (T .rest-is) ∙ ended sign operand text (G .turns) l (atOf p) e ∙ ap (Found l) (sym (T .rest-is)))
           (record {
-            told = retold T (T .file-is ∙ ap (λ (r : List ℕ). sets r end (fileOf letters l)) (S .file-is) ∙ sets-over (fileOf letters k) (fileOf letters l) before end n);
-            within = R .within;
+            told = retold T (T .stored-is ∙ ap (λ (r : List ℕ). sets r (endOf place) (postfixOf l)) (S .stored-is) ∙ sets-over (postfixOf k) (postfixOf l) before (endOf place) n);
           })
 
   -- a sign and its right operand
-  pub going-on : {start after middle left : List ℕ} {least code : ℕ} {p q r : Part} → Going sign operand letters text at end start after least p → Joining sign text (p .at) code
-      → Reads letters text (p .at + 1) (p .end) after middle (operand (drop (p .at + 1) text)) q → length middle ≡ length after → length left ≡ length middle
-      → (q .whole ≡ true → left ≡ sets middle (q .end) (commandRecord code)) → r ≡ joinedOf p q → Going sign operand letters text at end start left least r
-  unfolding fileOf needOf properIn
-  going-on {start} {after} {middle} {left} {least} {code} {p} {q} {r} G J Q m n w is = go (G .so-far) (G .goes) (G .reads) (operand (drop (p .at + 1) text)) refl Q
+  pub going-on : {start after middle left : List ℕ} {least code : ℕ} {p q r : ℕ} → Going sign operand text place start after least p → Joining sign text (atOf p) code
+      → Reads text (p + 1) after middle (operand (drop (atOf (p + 1)) text)) q
+      → ((q ≡ nowhere → ⊥) → left ≡ set middle (endOf q) code) → r ≡ longerOf q → Going sign operand text place start left least r
+  unfolding postfixOf
+  going-on {start} {after} {middle} {left} {least} {code} {p} {q} {r} G J Q w is = go (G .so-far) (G .goes) (G .reads) (operand (drop (atOf (p + 1)) text)) refl Q
     where
       o : Operator
       o = J .operator
 
-      go : (x : Read) → joinedBy sign operand (drop at text) ≡ then x (λ l rest. more sign operand (G .turns) l rest) → Reads letters text at end start after x p
-          → (y : Read) → operand (drop (p .at + 1) text) ≡ y → Reads letters text (p .at + 1) (p .end) after middle y q → Going sign operand letters text at end start left least r
-      go Outside g R y f Q = absurd (omega (arith, J .inside, R .told .at-is))
+      there : drop (atOf (p + 1)) text ≡ drop (atOf p + 1) text
+      there = ap (λ (k : ℕ). drop k text) (next p short J .0)
+
+      go : (x : Read) → joinedBy sign operand (drop (atOf place) text) ≡ then x (λ l rest. more sign operand (G .turns) l rest) → Reads text place start after x p
+          → (y : Read) → operand (drop (atOf (p + 1)) text) ≡ y → Reads text (p + 1) after middle y q → Going sign operand text place start left least r
+      go Outside g R y f Q = absurd (let z = ap atOf (R .told) ∙ nowhere-at in omega (arith, J .inside))
       go (Found l rest) g R Outside f Q =
-          subst (λ (u : Part). Going sign operand letters text at end start left least u) (sym (is ∙ joined-none p q (Q .told .whole-is))) (record {
+          record {
             so-far = Outside;
             turns = length text;
             enough = omega arith;
-            goes = g ∙ ap (λ (s : List ℕ). more sign operand (G .turns) l s) (R .told .rest-is) ∙ turned sign operand text (G .turns) l o (p .at) (J .sign-is) (J .inside) (G .enough)
-                ∙ ap (λ (x : Read). then x (λ r rest. more sign operand (G .turns - 1) (Joined o l r) rest)) f;
-            reads = record {
-              told = Q .told;
-              within = record {
-                low = omega (arith, R .within .low, Q .within .low);
-                inside = Q .within .inside;
-                grown = omega (arith, R .within .grown, Q .within .grown);
-                few = omega (arith, R .within .few, Q .within .few);
-              };
-            };
-            same = n ∙ m ∙ G .same;
-            since = omega (arith, G .since, Q .within .grown);
-          })
+            goes = g ∙ ap (λ (s : List ℕ). more sign operand (G .turns) l s) (R .told .rest-is) ∙ turned sign operand text (G .turns) l o (atOf p) (J .sign-is) (J .inside) (G .enough)
+                ∙ ap (λ (x : Read). then x (λ r rest. more sign operand (G .turns - 1) (Joined o l r) rest)) (ap operand (sym there) ∙ f);
+            reads = record { told = is ∙ longer-none q (Q .told) };
+            since = λ h. absurd (h (is ∙ longer-none q (Q .told)));
+          }
       go (Found l rest) g R (Found k u) f Q =
           let T = R .told in
           let S = Q .told in
-          let a = fileOf letters l in
-          let b = fileOf letters k in
-          let c = commandRecord (codeOf o) in
-          subst (λ (v : Part). Going sign operand letters text at end start left least v) (sym (is ∙ joined-is p q (S .whole-is))) (record {
+          let a = postfixOf l in
+          let b = postfixOf k in
+          let c : List ℕ = codeOf o ∷ [] in
+          let some = somewhere text q short (S .inside) in
+          let is' = is ∙ longer-is q some in
+          let ra = ap atOf is' ∙ longer-at q in
+          let re = ap endOf is' ∙ longer-end q in
+          let pa = next p short J .0 in
+          let pe = next p short J .1 in
+          record {
             so-far = Found (Joined o l k) u;
             turns = G .turns - 1;
-            enough = omega (arith, J .inside, G .enough, Q .within .low);
-            goes = g ∙ ap (λ (s : List ℕ). more sign operand (G .turns) l s) (T .rest-is) ∙ turned sign operand text (G .turns) l o (p .at) (J .sign-is) (J .inside) (G .enough)
-                ∙ ap (λ (x : Read). then x (λ r rest. more sign operand (G .turns - 1) (Joined o l r) rest)) f;
+            enough = omega (arith, J .inside, G .enough, S .later);
+            goes = g ∙ ap (λ (s : List ℕ). more sign operand (G .turns) l s) (T .rest-is) ∙ turned sign operand text (G .turns) l o (atOf p) (J .sign-is) (J .inside) (G .enough)
+                ∙ ap (λ (x : Read). then x (λ r rest. more sign operand (G .turns - 1) (Joined o l r) rest)) (ap operand (sym there) ∙ f);
             reads = record {
               told = record {
-                whole-is = refl;
-                rest-is = S .rest-is;
+                rest-is = S .rest-is ∙ ap (λ (i : ℕ). drop i text) (sym ra);
                 end-is = omega (arith, T .end-is, S .end-is, length-append a (b ++ c), length-append b c);
-                need-is = omega (arith, T .need-is, S .need-is);
-                proper-is = ap (λ (t : Bool). t && q .proper) (T .proper-is) ∙ ap (λ (t : Bool). properIn letters l && t) (S .proper-is);
-                file-is = w (S .whole-is) ∙ ap (λ (x : ℕ). sets middle (q .end) (commandRecord x)) (J .code-is) ∙ ap (λ (s : List ℕ). sets s (q .end) c) (S .file-is)
-                    ∙ sets-append b c after (p .end) (q .end) (S .end-is)
-                    ∙ ap (λ (s : List ℕ). sets s (p .end) (b ++ c)) (T .file-is)
-                    ∙ sets-append a (b ++ c) start end (p .end) (T .end-is);
-              };
-              within = record {
-                low = omega (arith, R .within .low, Q .within .low);
-                inside = Q .within .inside;
-                grown = omega (arith, R .within .grown, Q .within .grown);
-                few = omega (arith, R .within .few, Q .within .few);
+                stored-is = w some ∙ ap (λ (x : ℕ). set middle (endOf q) x) (J .code-is)
+                    ∙ ap (λ (s : List ℕ). sets s (endOf q) c) (S .stored-is ∙ ap (λ (i : ℕ). sets after i b) pe)
+                    ∙ sets-append b c after (endOf p) (endOf q) (omega (arith, S .end-is))
+                    ∙ ap (λ (s : List ℕ). sets s (endOf p) (b ++ c)) (T .stored-is)
+                    ∙ sets-append a (b ++ c) start (endOf place) (endOf p) (T .end-is);
+                later = omega (arith, T .later, S .later);
+                inside = omega (arith, S .inside);
+                few = omega (arith, T .few, S .few);
               };
             };
-            same = n ∙ m ∙ G .same;
-            since = omega (arith, G .since, Q .within .grown);
-          })
+            since = λ h. omega (arith, G .since (somewhere text p short (T .inside)), S .end-is);
+          }
 
   -- what the right operand asks
-  pub going-asks : {start after : List ℕ} {least code : ℕ} {p : Part} → Asks text letters at end → Going sign operand letters text at end start after least p → Joining sign text (p .at) code
-      → Asks text letters (p .at + 1) (p .end)
-  going-asks A G J = record { eight-words = A .eight-words; short = A .short; inside = omega (arith, J .inside); few = omega (arith, A .few, G .reads .within .few) }
+  pub going-asks : {start after : List ℕ} {least code p : ℕ} → Asks text place → Going sign operand text place start after least p → Joining sign text (atOf p) code
+      → Asks text (p + 1)
+  going-asks {start} {after} {least} {code} {p} A G J = go (G .so-far) (G .reads)
+    where
+      go : (x : Read) → Reads text place start after x p → Asks text (p + 1)
+      go Outside R = absurd (let z = ap atOf (R .told) ∙ nowhere-at in omega (arith, J .inside))
+      go (Found l rest) R =
+          let pa = next p short J .0 in
+          let pe = next p short J .1 in
+          record { short = short; inside = omega (arith, J .inside); few = omega (arith, A .few, R .told .few) }
+
+  -- and where it reads from: there is room for one more byte of postfix
+  pub going-later : {start after : List ℕ} {least code p : ℕ} → Asks text place → Going sign operand text place start after least p → Joining sign text (atOf p) code
+      → (atOf place < length text) × (atOf place < atOf (p + 1)) × (endOf (p + 1) < atOf (p + 1))
+  going-later {start} {after} {least} {code} {p} A G J = go (G .so-far) (G .reads)
+    where
+      go : (x : Read) → Reads text place start after x p → (atOf place < length text) × (atOf place < atOf (p + 1)) × (endOf (p + 1) < atOf (p + 1))
+      go Outside R = absurd (let z = ap atOf (R .told) ∙ nowhere-at in omega (arith, J .inside))
+      go (Found l rest) R =
+          let pa = next p short J .0 in
+          let pe = next p short J .1 in
+          (omega (arith, J .inside, R .told .later), omega (arith, R .told .later), omega (arith, A .few, R .told .few))
+
+-- the place after a reading that began with such room has it too
+pub reads-small : {text before after : List ℕ} {place r : ℕ} (x : Read) → length text ≤ mostText → endOf place < atOf place → Reads text place before after x r → r < 131072
+reads-small {r = r} Outside short h R = omega (arith, R .told)
+reads-small {text} {place = place} {r = r} (Found f rest) short h R =
+    let T = R .told in
+    let z = place-is r in
+    omega (arith, T .few, T .inside)
+
+-- a place in a text, with no more postfix than text before it, is a small number
+pub asks-small : {text : List ℕ} {place : ℕ} → Asks text place → place < 200000
+asks-small {text} {place} A = let z = place-is place in omega (arith, A .few, A .inside, A .short)
 
 -- the text that is left falls
-pub going-less : {sign : ℕ → Sign} {letters text after middle : List ℕ} {x : Read} {code : ℕ} (p : Part) {q r : Part} → Joining sign text (p .at) code
-    → Reads letters text (p .at + 1) (p .end) after middle x q → r ≡ joinedOf p q → length text - r .at < length text - p .at
-going-less p {q = q} J Q is = let e = ap (λ (u : Part). u .at) is ∙ joined-at p q in omega (arith, J .inside, Q .within .low)
+pub going-less : {sign : ℕ → Sign} {text after middle : List ℕ} {x : Read} {code : ℕ} (p : ℕ) {q r : ℕ} → length text ≤ mostText → Joining sign text (atOf p) code
+    → Reads text (p + 1) after middle x q → r ≡ longerOf q → length text - atOf r < length text - atOf p
+going-less {text = text} {after} {middle} {x} p {q} {r} short J Q is = go x Q
+  where
+    go : (x : Read) → Reads text (p + 1) after middle x q → length text - atOf r < length text - atOf p
+    go Outside Q = let z = ap atOf (is ∙ longer-none q (Q .told)) ∙ nowhere-at in omega (arith, J .inside)
+    go (Found f rest) Q =
+        let z = ap atOf (is ∙ longer-is q (somewhere text q short (Q .told .inside))) ∙ longer-at q in
+        let pa = next-at p (omega (arith, J .inside)) in
+        omega (arith, J .inside, Q .told .later)

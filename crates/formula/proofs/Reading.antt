@@ -1,25 +1,26 @@
--- What a leaf, a minus and brackets tell of their part, by what the reader finds there. Assumes nothing.
+-- Readings: what a leaf, a minus and brackets make of a place, and where a factor begins. Assumes nothing.
 use mathlib.Core.Path.{_≡_, refl, sym, _∙_, ap, subst}
-use mathlib.Core.Bool.{Bool, true, false, cond, _&&_}
+use mathlib.Core.Bool.{Bool, true, false}
 use mathlib.Core.Logic.{_⊎_, inl, inr, ⊎-elim}
-use mathlib.Core.List.{List, [], _∷_, _++_, append-nil}
-use Prim.Native.Nat.{ℕ, zero, suc, _+_, _*_, _-_, _≤_, _<_, max}
+use mathlib.Core.List.{List, [], _∷_}
+use Prim.Native.Nat.{ℕ, suc, _+_, _-_, _≤_, _<_}
 use native.Mathlib.Omega.{arith}
 use native.Mathlib.Nat.{add-zero, pos-of-ne-zero}
 use native.Mathlib.Numerals.{add-one}
 use borrow.Author.Tests.{eq-eqb, ne-eqb, le-leb, lt-leb, ltb-true, ltb-false, eqb-true, eqb-false}
 use lib.Dec.{eqb, ltb}
-use lib.ListN.{length, take, drop, getD, length-append, length-drop, drop-of-length-le, List·getD-eq-default}
-use lib.Seq.{sets, drop-cons, drop-drop, getD-drop}
-use Rattle.float.specs.Word.{proper}
-use Rattle.formula.specs.Formula.{Formula, Letter, Constant, Minus, Brackets, needOf}
+use lib.ListN.{length, take, drop, getD, set, length-append, length-drop, drop-of-length-le, List·getD-eq-default}
+use lib.Seq.{sets, drop-cons, drop-drop, getD-drop, length-take-le}
+use Rattle.formula.specs.Formula.{Formula, Letter, Constant, Minus, Brackets}
 use Rattle.formula.specs.Grammar.{areDigits}
-use Rattle.formula.specs.Reader.{Read, Found, Outside, then, isLetter, constantOf, leafOf, closed, AMinus, ABracket, ALeaf, startAt, factorOf, sumOf}
-use Rattle.formula.specs.File.{letterWord, constantWord, properIn, pushRecord, commandRecord, minusCode, fileOf}
-use Rattle.formula.specs.Told.{noPart, minusOf, closedAt, joinedOf, LeafTold, Asks, Tells, TellsNone, Told, Within, Reads}
-use Rattle.formula.specs.declared.parts.Part.{Part}
+use Rattle.formula.specs.Reader.{Read, Found, Outside, then, isLetter, constantOf, leafOf, closed, factorOf, sumOf}
+use Rattle.formula.specs.File.{minusCode}
+use Rattle.formula.specs.Postfix.{postfixOf}
+use Rattle.formula.specs.Told.{mostText, atOf, endOf, nowhere, closedAt, longerOf, Asks, Tells, Reads}
 use Rattle.formula.proofs.Cases.{factor-minus, factor-bracket, factor-leaf}
+use Rattle.formula.proofs.Digits.{letter-range}
 use Rattle.formula.proofs.Stores.{sets-append}
+use Rattle.formula.proofs.Places.{nowhere-at, longer-none, longer-is, closed-is, closed-none, next-at, next-end, longer-at, longer-end, both-at, both-end, nine-at, nine-end}
 
 -- ---- places of a text
 -- from a place on: the byte there, then the rest
@@ -33,145 +34,130 @@ side a b = go (ltb a b) refl
     go true e = inl (ltb-true a b e)
     go false e = inr (ltb-false a b e)
 
--- ---- parts
-pub minus-is : (p : Part) → p .whole ≡ true → minusOf p ≡ record { at = p .at; end = p .end + 5; need = p .need; proper = p .proper; whole = true }
-minus-is p h = rw h
+-- a byte that is not 0 stands in the text
+pub stands : (text : List ℕ) (at : ℕ) → (getD text at 0 ≡ 0 → ⊥) → at < length text
+stands text at n = ⊎-elim (λ l. l) (λ l. absurd (n (List·getD-eq-default text 0 l))) (side at (length text))
 
-pub minus-none : (p : Part) → p .whole ≡ false → minusOf p ≡ p
-minus-none p h = ap (λ (t : Bool). cond t (record { at = p .at; end = p .end + 5; need = p .need; proper = p .proper; whole = true }) p) h
+-- a letter stands in the text
+pub letter-stands : (text : List ℕ) (at b : ℕ) → b ≡ getD text at 0 → isLetter b ≡ true → at < length text
+letter-stands text at b e i = stands text at (λ z. let l = letter-range b i in omega arith)
 
-pub joined-is : (l r : Part) → r .whole ≡ true
-    → joinedOf l r ≡ record { at = r .at; end = r .end + 5; need = max (l .need) (r .need + 1); proper = l .proper && r .proper; whole = true }
-joined-is l r h = rw h
+-- eight bytes behind a hash, as a slice has them
+pub eight : (text : List ℕ) (at : ℕ) → take (at + 9 - (at + 1)) (drop (at + 1) text) ≡ take 8 (drop (at + 1) text)
+eight text at = let e : at + 9 - (at + 1) ≡ 8 = omega arith in ap (λ (n : ℕ). take n (drop (at + 1) text)) e
 
-pub joined-none : (l r : Part) → r .whole ≡ false → joinedOf l r ≡ r
-joined-none l r h = ap (λ (t : Bool). cond t (record { at = r .at; end = r .end + 5; need = max (l .need) (r .need + 1); proper = l .proper && r .proper; whole = true }) r) h
-
-pub joined-at : (l r : Part) → joinedOf l r .at ≡ r .at
-joined-at l r = go (r .whole) refl
-  where
-    go : (t : Bool) → r .whole ≡ t → joinedOf l r .at ≡ r .at
-    go true h = ap (λ (p : Part). p .at) (joined-is l r h)
-    go false h = ap (λ (p : Part). p .at) (joined-none l r h)
-
-pub closed-is : (text : List ℕ) (p : Part) (b : ℕ) → b ≡ getD text (p .at) 0 → b ≡ 0x29
-    → closedAt text p ≡ record { at = p .at + 1; end = p .end; need = p .need; proper = p .proper; whole = p .whole }
-closed-is text p b e h = rw (eq-eqb (getD text (p .at) 0) 0x29 (sym e ∙ h))
-
-pub closed-none : (text : List ℕ) (p : Part) (b : ℕ) → b ≡ getD text (p .at) 0 → (b ≡ 0x29 → ⊥) → closedAt text p ≡ noPart text (p .end)
-closed-none text p b e h = rw (ne-eqb (getD text (p .at) 0) 0x29 (λ z. h (e ∙ z)))
+-- a place in a text is somewhere
+pub somewhere : (text : List ℕ) (p : ℕ) → length text ≤ mostText → atOf p ≤ length text → p ≡ nowhere → ⊥
+somewhere text p s i e = let z = ap atOf e ∙ nowhere-at in omega arith
 
 -- ---- readings
 -- what the reading of the next place asks
-pub next-asks : {text letters : List ℕ} {at end : ℕ} → Asks text letters at end → at < length text → Asks text letters (at + 1) end
-next-asks A h = record { eight-words = A .eight-words; short = A .short; inside = omega arith; few = omega (arith, A .few) }
+pub next-asks : {text : List ℕ} {place : ℕ} → Asks text place → atOf place < length text → Asks text (place + 1)
+next-asks {text} {place} A h =
+    let a = next-at place (omega (arith, A .short)) in
+    let e = next-end place (omega (arith, A .short)) in
+    record { short = A .short; inside = omega arith; few = omega (arith, A .few) }
 
--- the byte before is passed over
-later : {text : List ℕ} {at end : ℕ} {p : Part} → Within text (at + 1) end p → Within text at end p
-later w = record { low = omega (arith, w .low); inside = w .inside; grown = w .grown; few = omega (arith, w .few) }
-
-module _ (letters text : List ℕ) (at end : ℕ) (before after : List ℕ) where
+module _ (text : List ℕ) (place : ℕ) (before after : List ℕ) where
   -- another reader that finds the same
-  pub reads-as : {x y : Read} {p : Part} → y ≡ x → Reads letters text at end before after x p → Reads letters text at end before after y p
-  reads-as {x} {y} {p} e R = subst (λ (z : Read). Reads letters text at end before after z p) (sym e) R
+  pub reads-as : {x y : Read} {r : ℕ} → y ≡ x → Reads text place before after x r → Reads text place before after y r
+  reads-as {x} {y} {r} e R = subst (λ (z : Read). Reads text place before after z r) (sym e) R
 
-  -- nothing is found, after some of the file
-  pub none-after : (e : ℕ) {x : Read} {p : Part} → at ≤ length text → end ≤ e → e + 8 * at ≤ end + 8 * length text → p ≡ noPart text e → x ≡ Outside
-      → Reads letters text at end before after x p
-  none-after e {x} {p} h i j is n =
-      reads-as n (subst (λ (q : Part). Reads letters text at end before after Outside q) (sym is) (record {
-        told = record { whole-is = refl; at-is = refl };
-        within = record { low = omega arith; inside = omega arith; grown = i; few = j };
-      }))
+  -- nothing is found
+  pub none-reads : {x : Read} {r : ℕ} → r ≡ nowhere → x ≡ Outside → Reads text place before after x r
+  none-reads is n = reads-as n (record { told = is })
 
-  -- or none of it
-  pub none-reads : {x : Read} {p : Part} → at ≤ length text → p ≡ noPart text end → x ≡ Outside → Reads letters text at end before after x p
-  none-reads h is n = none-after end h (omega arith) (omega arith) is n
-
-  -- the byte before is passed over
-  pub later-reads : {x y : Read} {p : Part} → y ≡ x → Reads letters text (at + 1) end before after x p → Reads letters text at end before after y p
-  later-reads {x} {y} {p} e R =
-      reads-as e (record { told = R .told; within = later (R .within) })
-
-  -- a leaf of one word
-  leaf-reads : (f : Formula) (word next : ℕ) {p : Part} → LeafTold word next end before after p → at + 1 ≤ next → next ≤ length text
-      → fileOf letters f ≡ pushRecord word → needOf f ≡ 1 → properIn letters f ≡ proper word → Reads letters text at end before after (Found f (drop next text)) p
-  leaf-reads f word next {p} L h i file need prop =
-      subst (λ (q : Part). Reads letters text at end before after (Found f (drop next text)) q) (sym (L .part-is)) (record {
+  pub constant-reads : {r : ℕ} → length text ≤ mostText → getD text (atOf place) 0 ≡ 0x23 → atOf place + 9 ≤ length text → areDigits (take 8 (drop (atOf place + 1) text)) ≡ true
+      → r ≡ place + 4617 → after ≡ sets before (endOf place) (take 9 (drop (atOf place) text)) → Reads text place before after (constantOf (drop (atOf place + 1) text)) r
+  unfolding postfixOf
+  constant-reads {r} short hash h d is e =
+      let s = drop (atOf place + 1) text in
+      let m = length-drop (atOf place + 1) text in
+      let n : 8 ≤ length s = omega arith in
+      let k = length-take-le 8 s n in
+      let a = nine-at place (omega arith) in
+      let b = nine-end place (omega arith) in
+      let c = ap atOf is in
+      let f = ap endOf is in
+      let z : atOf place + 1 + 8 ≡ atOf r = omega arith in
+      let R : Reads text place before after (Found (Constant (take 8 s)) (drop 8 s)) r = record {
         told = record {
-          whole-is = refl;
-          rest-is = refl;
-          end-is = ap (λ (l : List ℕ). end + length l) (sym file);
-          need-is = sym need;
-          proper-is = sym prop;
-          file-is = L .file-is ∙ ap (sets before end) (sym file);
+          rest-is = drop-drop 8 (atOf place + 1) text ∙ ap (λ (i : ℕ). drop i text) z;
+          end-is = omega arith;
+          stored-is = e ∙ ap (λ (l : List ℕ). sets before (endOf place) (take 9 l)) (from text (atOf place) (omega arith)) ∙ ap (λ (x : ℕ). sets before (endOf place) (x ∷ take 8 s)) hash;
+          later = omega arith;
+          inside = omega arith;
+          few = omega arith;
         };
-        within = record { low = omega arith; inside = i; grown = omega arith; few = omega arith };
-      })
+      } in
+      reads-as (rw (le-leb 8 (length s) n, d)) R
 
-  pub constant-reads : (word : ℕ) {p : Part} → at + 8 ≤ length text → areDigits (take 8 (drop at text)) ≡ true → word ≡ constantWord (take 8 (drop at text))
-      → LeafTold word (at + 8) end before after p → Reads letters text at end before after (constantOf (drop at text)) p
-  unfolding fileOf needOf properIn
-  constant-reads word {p} h d e L =
-      let s = drop at text in
-      let n : 8 ≤ length s = simp length-drop (omega arith) in
-      reads-as (rw (le-leb 8 (length s) n, d) (ap (Found (Constant (take 8 s))) (drop-drop 8 at text)))
-      (leaf-reads (Constant (take 8 s)) word (at + 8) L (omega arith) h (ap pushRecord (sym e)) refl (ap proper (sym e)))
+  pub letter-reads : (b : ℕ) {r : ℕ} → length text ≤ mostText → atOf place < length text → b ≡ getD text (atOf place) 0 → isLetter b ≡ true
+      → r ≡ place + 513 → after ≡ set before (endOf place) b → Reads text place before after (leafOf (drop (atOf place) text)) r
+  unfolding leafOf postfixOf
+  letter-reads b {r} short h g i is e =
+      let a = both-at place (omega arith) in
+      let f = both-end place (omega arith) in
+      let c = ap atOf is in
+      let d = ap endOf is in
+      let z : atOf place + 1 ≡ atOf r = omega arith in
+      let y : b ≡ 0x61 + (b - 0x61) = (let l = letter-range b i in omega arith) in
+      let R : Reads text place before after (Found (Letter (b - 0x61)) (drop (atOf place + 1) text)) r = record {
+        told = record {
+          rest-is = ap (λ (k : ℕ). drop k text) z;
+          end-is = omega arith;
+          stored-is = e ∙ ap (set before (endOf place)) y;
+          later = omega arith;
+          inside = omega arith;
+          few = omega arith;
+        };
+      } in
+      reads-as (rw (from text (atOf place) h, ← g, i)) R
 
-  pub letter-reads : (word b : ℕ) {p : Part} → at < length text → b ≡ getD text at 0 → isLetter b ≡ true → word ≡ letterWord letters (b - 0x61)
-      → LeafTold word (at + 1) end before after p → Reads letters text at end before after (leafOf (drop at text)) p
-  unfolding leafOf fileOf needOf properIn
-  letter-reads word b {p} h g i e L =
-      reads-as (rw (from text at h, ← g, i))
-      (leaf-reads (Letter (b - 0x61)) word (at + 1) L (omega arith) (omega arith) (ap pushRecord (sym e)) refl (ap proper (sym e)))
-
--- eight bytes from a place on, as a slice has them
-pub eight : (text : List ℕ) (at : ℕ) → take (at + 8 - at) (drop at text) ≡ take 8 (drop at text)
-eight text at = let e : at + 8 - at ≡ 8 = omega arith in ap (λ (n : ℕ). take n (drop at text)) e
+-- the digits behind a hash, as a call tells of them
+pub digits-told : (text : List ℕ) (x y : ℕ) {b : Bool} → b ≡ areDigits (take (x + 9 - (x + 1)) (drop (x + 1) text)) → x ≡ y → areDigits (take 8 (drop (y + 1) text)) ≡ b
+digits-told text x y e h = ap (λ (k : ℕ). areDigits (take 8 (drop (k + 1) text))) (sym h) ∙ ap areDigits (sym (eight text x)) ∙ sym e
 
 -- what a leaf is not
-pub too-few : (text : List ℕ) (at : ℕ) → length text - at < 8 → constantOf (drop at text) ≡ Outside
-too-few text at h = let n : length (drop at text) < 8 = simp length-drop (omega arith) in rw (lt-leb 8 (length (drop at text)) n)
+pub too-few : (text : List ℕ) (at : ℕ) → length text - at < 9 → constantOf (drop (at + 1) text) ≡ Outside
+too-few text at h = let n : length (drop (at + 1) text) < 8 = simp length-drop (omega arith) in rw (lt-leb 8 (length (drop (at + 1) text)) n)
 
-pub no-digits : (text : List ℕ) (at : ℕ) → at + 8 ≤ length text → areDigits (take 8 (drop at text)) ≡ false → constantOf (drop at text) ≡ Outside
-no-digits text at h d = let n : 8 ≤ length (drop at text) = simp length-drop (omega arith) in rw (le-leb 8 (length (drop at text)) n, d)
+pub no-digits : (text : List ℕ) (at : ℕ) → at + 9 ≤ length text → areDigits (take 8 (drop (at + 1) text)) ≡ false → constantOf (drop (at + 1) text) ≡ Outside
+no-digits text at h d = let n : 8 ≤ length (drop (at + 1) text) = simp length-drop (omega arith) in rw (le-leb 8 (length (drop (at + 1) text)) n, d)
 
-pub past-leaf : (text : List ℕ) (at : ℕ) → length text ≤ at → leafOf (drop at text) ≡ Outside
+pub hash-leaf : (text : List ℕ) (at b : ℕ) → b ≡ getD text at 0 → isLetter b ≡ false → b ≡ 0x23 → leafOf (drop at text) ≡ constantOf (drop (at + 1) text)
 unfolding leafOf
-past-leaf text at h = rw (drop-of-length-le text h)
+hash-leaf text at b g i e = rw (from text at (stands text at (λ z. omega arith)), ← g, i, eq-eqb b 0x23 e)
 
-pub hash-leaf : (text : List ℕ) (at b : ℕ) → at < length text → b ≡ getD text at 0 → isLetter b ≡ false → b ≡ 0x23 → leafOf (drop at text) ≡ constantOf (drop (at + 1) text)
+pub no-leaf : (text : List ℕ) (at b : ℕ) → b ≡ getD text at 0 → isLetter b ≡ false → (b ≡ 0x23 → ⊥) → leafOf (drop at text) ≡ Outside
 unfolding leafOf
-hash-leaf text at b h g i e = rw (from text at h, ← g, i, eq-eqb b 0x23 e)
-
-pub no-leaf : (text : List ℕ) (at b : ℕ) → at < length text → b ≡ getD text at 0 → isLetter b ≡ false → (b ≡ 0x23 → ⊥) → leafOf (drop at text) ≡ Outside
-unfolding leafOf
-no-leaf text at b h g i e = rw (from text at h, ← g, i, ne-eqb b 0x23 e)
+no-leaf text at b g i e = ⊎-elim (λ h. rw (from text at h, ← g, i, ne-eqb b 0x23 e)) (λ h. rw (drop-of-length-le text h)) (side at (length text))
 
 -- ---- a minus
-module _ (letters text : List ℕ) (at end : ℕ) (before after left : List ℕ) where
-  pub minus-reads : (x : Read) {p r : Part} → Reads letters text (at + 1) end before after x p → r ≡ minusOf p → (p .whole ≡ true → left ≡ sets after (p .end) (commandRecord minusCode))
-      → Reads letters text at end before left (then x (λ f rest. Found (Minus f) rest)) r
-  unfolding fileOf needOf properIn
+module _ (text : List ℕ) (place : ℕ) (short : length text ≤ mostText) (inside : atOf place < length text) (before after left : List ℕ) where
+  pub minus-reads : (x : Read) {p r : ℕ} → Reads text (place + 1) before after x p → r ≡ longerOf p → ((p ≡ nowhere → ⊥) → left ≡ set after (endOf p) minusCode)
+      → Reads text place before left (then x (λ f rest. Found (Minus f) rest)) r
+  unfolding postfixOf
   minus-reads (Found f rest) {p} {r} R e w =
       let T = R .told in
-      let file = fileOf letters f in
-      subst (λ (q : Part). Reads letters text at end before left (Found (Minus f) rest) q) (sym (e ∙ minus-is p (T .whole-is))) (record {
+      let n = somewhere text p short (T .inside) in
+      let is = e ∙ longer-is p n in
+      let a = next-at place (omega arith) in
+      let b = next-end place (omega arith) in
+      let c = ap atOf is ∙ longer-at p in
+      let d = ap endOf is ∙ longer-end p in
+      record {
         told = record {
-          whole-is = refl;
-          rest-is = T .rest-is;
-          end-is = omega (arith, T .end-is, length-append file (commandRecord minusCode));
-          need-is = T .need-is;
-          proper-is = T .proper-is;
-          file-is = w (T .whole-is) ∙ ap (λ (l : List ℕ). sets l (p .end) (commandRecord minusCode)) (T .file-is) ∙ sets-append file (commandRecord minusCode) before end (p .end) (T .end-is);
+          rest-is = T .rest-is ∙ ap (λ (i : ℕ). drop i text) (sym c);
+          end-is = omega (arith, T .end-is, length-append (postfixOf f) (minusCode ∷ []));
+          stored-is = w n ∙ ap (λ (l : List ℕ). set l (endOf p) minusCode) (T .stored-is ∙ ap (λ (i : ℕ). sets before i (postfixOf f)) b)
+              ∙ sets-append (postfixOf f) (minusCode ∷ []) before (endOf place) (endOf p) (omega (arith, T .end-is));
+          later = omega (arith, T .later);
+          inside = omega (arith, T .inside);
+          few = omega (arith, T .few);
         };
-        within = record { low = omega (arith, R .within .low); inside = R .within .inside; grown = omega (arith, R .within .grown); few = omega (arith, R .within .few) };
-      })
-  minus-reads Outside {p} {r} R e w =
-      subst (λ (q : Part). Reads letters text at end before left Outside q) (sym (e ∙ minus-none p (R .told .whole-is))) (record {
-        told = R .told;
-        within = later (R .within);
-      })
+      }
+  minus-reads Outside {p} {r} R e w = record { told = e ∙ longer-none p (R .told) }
 
 -- ---- brackets
 pub not-closed : (text : List ℕ) (k : ℕ) (f : Formula) (s : List ℕ) → s ≡ drop k text → (getD text k 0 ≡ 0x29 → ⊥) → closed f s ≡ Outside
@@ -180,58 +166,69 @@ not-closed text k f (b ∷ s) e h =
     let z : b ≡ getD text k 0 = ap (λ (l : List ℕ). getD l 0 0) e ∙ getD-drop k text 0 0 ∙ ap (λ (n : ℕ). getD text n 0) (add-zero k) in
     rw (ne-eqb b 0x29 (λ y. h (sym z ∙ y)))
 
-module _ (letters text : List ℕ) (at end : ℕ) (before after : List ℕ) where
-  pub brackets-read : (x : Read) {p r : Part} → Reads letters text (at + 1) end before after x p → r ≡ closedAt text p → Reads letters text at end before after (then x closed) r
-  unfolding fileOf needOf properIn
-  brackets-read (Found f rest) {p} {r} R e = go (eqb (getD text (p .at) 0) 0x29) refl
+module _ (text : List ℕ) (place : ℕ) (short : length text ≤ mostText) (inside : atOf place < length text) (before after : List ℕ) where
+  pub brackets-read : (x : Read) {p r : ℕ} → Reads text (place + 1) before after x p → r ≡ closedAt text p → Reads text place before after (then x closed) r
+  unfolding postfixOf
+  brackets-read (Found f rest) {p} {r} R e = go (eqb (getD text (atOf p) 0) 0x29) refl
     where
-      T : Tells letters text end before after f rest p
+      T : Tells text (place + 1) before after f rest p
       T = R .told
 
-      go : (t : Bool) → eqb (getD text (p .at) 0) 0x29 ≡ t → Reads letters text at end before after (closed f rest) r
+      go : (t : Bool) → eqb (getD text (atOf p) 0) 0x29 ≡ t → Reads text place before after (closed f rest) r
       go true h =
-          let b = eqb-true (getD text (p .at) 0) 0x29 h in
-          let i : p .at < length text = ⊎-elim (λ l. l) (λ l. let z = List·getD-eq-default text 0 l in absurd (omega arith)) (side (p .at) (length text)) in
-          reads-as letters text at end before after (ap (closed f) (T .rest-is ∙ from text (p .at) i) ∙ rw h)
-          (subst (λ (q : Part). Reads letters text at end before after (Found (Brackets f) (drop (p .at + 1) text)) q) (sym (e ∙ closed-is text p (getD text (p .at) 0) refl b)) (record {
-            told = record { whole-is = T .whole-is; rest-is = refl; end-is = T .end-is; need-is = T .need-is; proper-is = T .proper-is; file-is = T .file-is };
-            within = record { low = omega (arith, R .within .low); inside = omega arith; grown = R .within .grown; few = omega (arith, R .within .few) };
-          }))
+          let b = eqb-true (getD text (atOf p) 0) 0x29 h in
+          let i = stands text (atOf p) (λ z. omega arith) in
+          let is = e ∙ closed-is text p (getD text (atOf p) 0) refl b in
+          let a = next-at place (omega arith) in
+          let d = next-end place (omega arith) in
+          let k = ap atOf is ∙ next-at p (omega arith) in
+          let m = ap endOf is ∙ next-end p (omega arith) in
+          let S : Reads text place before after (Found (Brackets f) (drop (atOf p + 1) text)) r = record {
+            told = record {
+              rest-is = ap (λ (n : ℕ). drop n text) (sym k);
+              end-is = omega (arith, T .end-is);
+              stored-is = T .stored-is ∙ ap (λ (n : ℕ). sets before n (postfixOf f)) d;
+              later = omega (arith, T .later);
+              inside = omega arith;
+              few = omega (arith, T .few);
+            };
+          } in
+          reads-as text place before after (ap (closed f) (T .rest-is ∙ from text (atOf p) i) ∙ rw h) S
       go false h =
-          let b = eqb-false (getD text (p .at) 0) 0x29 h in
-          none-after letters text at end before after (p .end) (omega (arith, R .within .low, R .within .inside)) (R .within .grown) (omega (arith, R .within .few, R .within .inside))
-          (e ∙ closed-none text p (getD text (p .at) 0) refl b) (not-closed text (p .at) f rest (T .rest-is) b)
+          let b = eqb-false (getD text (atOf p) 0) 0x29 h in
+          none-reads text place before after (e ∙ closed-none text p (getD text (atOf p) 0) refl b) (not-closed text (atOf p) f rest (T .rest-is) b)
   brackets-read Outside {p} {r} R e =
-      let z : getD text (p .at) 0 ≡ 0 = List·getD-eq-default text 0 (omega (arith, R .told .at-is)) in
-      none-after letters text at end before after (p .end) (omega (arith, R .within .low, R .within .inside)) (R .within .grown) (omega (arith, R .within .few, R .within .inside))
-      (e ∙ closed-none text p 0 (sym z) (λ y. omega arith)) refl
+      let k : length text ≤ atOf p = (let y = ap atOf (R .told) ∙ nowhere-at in omega arith) in
+      let z : getD text (atOf p) 0 ≡ 0 = List·getD-eq-default text 0 k in
+      record { told = e ∙ closed-none text p 0 (sym z) (λ y. omega arith) }
 
 -- ---- factors
 pub no-level : (text : List ℕ) (at d : ℕ) → d ≡ 0 → factorOf d (drop at text) ≡ leafOf (drop at text)
 unfolding factorOf
 no-level text at d e = rw e
 
-pub past-factor : (text : List ℕ) (at d : ℕ) → length text ≤ at → factorOf d (drop at text) ≡ Outside
-unfolding factorOf leafOf
-past-factor text at zero h = rw (drop-of-length-le text h)
-past-factor text at (suc d) h = rw (drop-of-length-le text h)
-
 -- a factor that begins with a minus, a bracket or neither
-module _ (text : List ℕ) (at d b : ℕ) (some : d ≡ 0 → ⊥) (inside : at < length text) (is : b ≡ getD text at 0) where
+module _ (text : List ℕ) (at d b : ℕ) (some : d ≡ 0 → ⊥) (is : b ≡ getD text at 0) where
   -- a level is taken
   level : suc (d - 1) ≡ d
   level = let z = pos-of-ne-zero some in omega arith
 
-  here : factorOf d (drop at text) ≡ factorOf (suc (d - 1)) (b ∷ drop (at + 1) text)
-  here = ap (λ (n : ℕ). factorOf n (drop at text)) (sym level) ∙ ap (factorOf (suc (d - 1))) (from text at inside ∙ ap (λ (x : ℕ). x ∷ drop (at + 1) text) (sym is))
+  here : at < length text → factorOf d (drop at text) ≡ factorOf (suc (d - 1)) (b ∷ drop (at + 1) text)
+  here inside = ap (λ (n : ℕ). factorOf n (drop at text)) (sym level) ∙ ap (factorOf (suc (d - 1))) (from text at inside ∙ ap (λ (x : ℕ). x ∷ drop (at + 1) text) (sym is))
 
   pub at-minus : b ≡ 0x2D → factorOf d (drop at text) ≡ then (factorOf (d - 1) (drop (at + 1) text)) (λ f rest. Found (Minus f) rest)
-  at-minus e = here ∙ factor-minus (d - 1) b (drop (at + 1) text) (rw (eq-eqb b 0x2D e))
+  at-minus e = here (stands text at (λ z. omega arith)) ∙ factor-minus (d - 1) b (drop (at + 1) text) (rw (eq-eqb b 0x2D e))
 
   pub at-bracket : (b ≡ 0x2D → ⊥) → b ≡ 0x28 → factorOf d (drop at text) ≡ then (sumOf (d - 1) (drop (at + 1) text)) closed
-  at-bracket n e = here ∙ factor-bracket (d - 1) b (drop (at + 1) text) (rw (ne-eqb b 0x2D n, eq-eqb b 0x28 e))
+  at-bracket n e = here (stands text at (λ z. omega arith)) ∙ factor-bracket (d - 1) b (drop (at + 1) text) (rw (ne-eqb b 0x2D n, eq-eqb b 0x28 e))
+
+  past : length text ≤ at → factorOf d (drop at text) ≡ leafOf (drop at text)
+  unfolding factorOf leafOf
+  past h = ap (λ (n : ℕ). factorOf n (drop at text)) (sym level) ∙ rw (drop-of-length-le text h)
 
   pub at-leaf : (b ≡ 0x2D → ⊥) → (b ≡ 0x28 → ⊥) → factorOf d (drop at text) ≡ leafOf (drop at text)
   at-leaf n m =
-      here ∙ factor-leaf (d - 1) b (drop (at + 1) text) (rw (ne-eqb b 0x2D n, ne-eqb b 0x28 m))
-      ∙ ap leafOf (sym (from text at inside ∙ ap (λ (x : ℕ). x ∷ drop (at + 1) text) (sym is)))
+      ⊎-elim
+      (λ inside. here inside ∙ factor-leaf (d - 1) b (drop (at + 1) text) (rw (ne-eqb b 0x2D n, ne-eqb b 0x28 m))
+      ∙ ap leafOf (sym (from text at inside ∙ ap (λ (x : ℕ). x ∷ drop (at + 1) text) (sym is))))
+      past (side at (length text))

@@ -4,5 +4,6 @@ pub mod Grammar
 pub mod Reader
 pub mod File
 pub mod Evaluation
+pub mod Postfix
 pub mod Told
 pub mod Translation

@@ -6,10 +6,11 @@ use mathlib.Core.List.{List, [], _∷_, _++_}
 use lib.Dec.{ltb, eqb}
 use lib.ListN.{length, drop}
 use Rattle.formula.specs.Formula.{needOf}
-use Rattle.formula.specs.Reader.{Read, Found, Outside, mostNested, sumOf, formulaOf}
+use Rattle.formula.specs.Reader.{Read, Found, Outside, formulaOf}
 use Rattle.formula.specs.File.{properIn, fileOf}
-use Rattle.formula.specs.Told.{mostText, mostFile, Reads}
-use Rattle.formula.specs.declared.parts.Part.{Part}
+use Rattle.formula.specs.Told.{mostText, mostFile}
+use Rattle.formula.specs.Postfix.{Token, Spells, walked, unwritten, recordsOf, Records}
+use Rattle.formula.specs.declared.postfix.Written.{Written}
 use Rattle.formula.specs.declared.Refusal.{Refusal}
 use Rattle.formula.specs.declared.Refusal.the-variants.{Done, NoFormula, Improper, NeedsMore, NoRoom}
 
@@ -53,9 +54,18 @@ translationOf letters text room =
     (cond (eqb (length text) 0) (turnedAway NoFormula) (cond (ltb mostText (length text)) (turnedAway NoFormula) (judged letters room (formulaOf text))))
     (turnedAway NoFormula)
 
--- what the whole text reads as, whatever was lent to write it to
-abbrev pub Measures : List ℕ → List ℕ → Part → Type 0
-Measures letters text p = (left : List ℕ) × Reads letters text 0 0 (0 ∷ []) left (sumOf mostNested text) p
+-- the same of a formula that was brought into postfix order, by its tokens
+abbrev pub judgedBy : List ℕ → ℕ → List Token → Translated
+judgedBy letters room ts =
+    let w = walked letters unwritten ts in
+    cond (w .proper)
+    (cond (ltb mostNeed (w .need)) (turnedAway NeedsMore)
+    (cond (ltb room (length (recordsOf letters ts))) (turnedAway NoRoom) (record { refusal = Done; file = recordsOf letters ts })))
+    (turnedAway Improper)
+
+-- what the records of a formula come to, whatever was lent to write them to
+abbrev pub Measures : List ℕ → List ℕ → Written → Type 0
+Measures letters bytes w = (left : List ℕ) × Records letters bytes (0 ∷ []) left w
 
 -- a call beside the definition: the refusal, the bytes of the file, and what was lent for it as it was and as it is left
 pub record Translates (t : Translated) (refusal : Refusal) (size : ℕ) (before after : List ℕ) : Type 0 where
@@ -63,3 +73,7 @@ pub record Translates (t : Translated) (refusal : Refusal) (size : ℕ) (before 
   pub size-is : size ≡ length (t .file)
   pub after-is : after ≡ t .file ++ drop (length (t .file)) before
   pub small : size ≤ mostFile
+
+-- a file written beside its tokens, whichever the bytes spell
+abbrev pub Judges : List ℕ → List ℕ → Refusal → ℕ → List ℕ → List ℕ → Type 0
+Judges letters bytes refusal size before after = (ts : List Token) → Spells bytes ts → Translates (judgedBy letters (length before) ts) refusal size before after

@@ -1,209 +1,166 @@
 // The parts of a formula's text: `sum`, `product` and `factor` call each other, with less text and
-// fewer levels left at each call. Each reads its part from a place on and writes its file.
-use crate::store::command_record;
-use crate::store::push_record;
+// fewer levels left at each call. Each reads its part from a place on and writes it in postfix order.
+// A place is one number, so that a level holds few: 512 times the bytes of postfix before it, and the
+// bytes of the text before it.
 use crate::words::are_digits;
 use crate::words::byte_at;
-use crate::words::hex_word;
 use crate::words::is_letter;
-use crate::words::letter_word;
 use crate::words::product_code;
 use crate::words::sum_code;
-use float::word::is_proper;
 ghost use mathlib.Core.Path.{_≡_};
-ghost use mathlib.Core.Bool.{true};
-ghost use Prim.Native.Nat.{_≤_, max};
-ghost use lib.ListN.{length, drop};
+ghost use Prim.Native.Nat.{_+_, _≤_, _<_};
+ghost use lib.ListN.{length, take, drop, getD, set};
 ghost use lib.Seq.{sets};
 ghost use Rattle.formula.specs.Reader.{constantOf, leafOf, factorOf, productOf, sumOf};
-ghost use Rattle.formula.specs.File.{commandRecord, minusCode};
-ghost use Rattle.formula.specs.Told.{mostFile, mostText, noPart, LeafTold, minusOf, closedAt, joinedOf, Asks, Reads};
+ghost use Rattle.formula.specs.Told.{mostText, atOf, endOf, nowhere, closedAt, longerOf, Asks, Reads};
 
-// A part that was read: the place after it, the end of the file with its records, the stack words
-// that it needs, whether its words are proper; and whether it is whole. Where it is not, nothing
-// of the text is left, so that nothing can be joined to it.
-pub struct Part {
-    pub at: usize,
-    pub end: usize,
-    pub need: usize,
-    pub proper: bool,
-    pub whole: bool,
+// The place after no part: past every text, so that nothing can be joined to it.
+pub const NOWHERE: u32 = 511;
+
+// The command of a minus, CHSF.
+const MINUS: u8 = 0x15;
+
+// Where a place lies in the text.
+pub fn at_of(place: u32) -> usize
+    ensures { λ r. ⌜ r ≡ atOf place ⌝ }
+{
+    (place % 512) as usize
 }
 
-// No part.
-fn outside(text: &[u8], end: usize) -> Part
-    ensures { λ r. ⌜ r ≡ noPart (now (text .entry)) end ⌝ }
+// Where it lies in the postfix.
+pub fn end_of(place: u32) -> usize
+    ensures { λ r. ⌜ r ≡ endOf place ⌝ }
 {
-    Part {
-        at: text.len(),
-        end,
-        need: 0,
-        proper: false,
-        whole: false,
-    }
+    (place / 512) as usize
 }
 
-// A letter or a constant, by its word.
-fn pushed(out: &mut [u8], word: u32, next: usize, end: usize) -> Part
-    requires { ⌜ end ≤ mostFile ⌝ }
-    ensures { λ r. ⌜ LeafTold word next end (now (out .entry)) (now (out .exit)) r ⌝ }
+// Nine bytes of the text, a hash and its digits, to the postfix.
+fn copy(text: &[u8], out: &mut [u8; 256], at: usize, end: usize)
+    requires { ⌜ (length (now text) ≤ mostText) × (at + 9 ≤ length (now text)) × (end ≤ at) ⌝ }
+    ensures { λ _. ⌜ now (out .exit) ≡ sets (now (out .entry)) end (take 9 (drop at (now (text .entry)))) ⌝ }
 {
-    push_record(out, end, word);
-    Part {
-        at: next,
-        end: end + 8,
-        need: 1,
-        proper: is_proper(word),
-        whole: true,
+    let mut i = 0;
+    while i < 9 {
+        out[end + i] = text[at + i];
+        i += 1;
     }
 }
 
-// Eight digits, from the place after the hash on.
-fn constant(text: &[u8], letters: &[u8], out: &mut [u8], at: usize, end: usize) -> Part
-    requires { ⌜ Asks (now text) (now letters) at end ⌝ }
-    ensures { λ r. ⌜ Reads (now (letters .entry)) (now (text .entry)) at end (now (out .entry)) (now (out .exit)) (constantOf (drop at (now (text .entry)))) r ⌝ }
+// A hash, and behind it eight digits.
+fn constant(text: &[u8], out: &mut [u8; 256], place: u32) -> u32
+    requires { ⌜ Asks (now text) place × (getD (now text) (atOf place) 0 ≡ 0x23) ⌝ }
+    ensures { λ r. ⌜ Reads (now (text .entry)) place (now (out .entry)) (now (out .exit)) (constantOf (drop (atOf place + 1) (now (text .entry)))) r ⌝ }
 {
-    if text.len() - at < 8 {
-        return outside(text, end);
+    let at = at_of(place);
+    if text.len() - at < 9 {
+        return NOWHERE;
     }
-    let next = at + 8;
-    if !are_digits(&text[at..next]) {
-        return outside(text, end);
+    let first = at + 1;
+    let next = at + 9;
+    if !are_digits(&text[first..next]) {
+        return NOWHERE;
     }
-    pushed(out, hex_word(&text[at..next]), next, end)
+    copy(text, out, at, end_of(place));
+    place + 9 * 513
+}
+
+// A letter, to the postfix.
+fn letter(out: &mut [u8; 256], place: u32, b: u8) -> u32
+    requires { ⌜ place < 131072 ⌝ }
+    ensures { λ r. ⌜ (r ≡ place + 513) × (now (out .exit) ≡ set (now (out .entry)) (endOf place) b) ⌝ }
+{
+    let end = end_of(place);
+    out[end] = b;
+    place + 513
 }
 
 // A letter, or a hash with eight digits.
-fn leaf(text: &[u8], letters: &[u8], out: &mut [u8], at: usize, end: usize) -> Part
-    requires { ⌜ Asks (now text) (now letters) at end ⌝ }
-    ensures { λ r. ⌜ Reads (now (letters .entry)) (now (text .entry)) at end (now (out .entry)) (now (out .exit)) (leafOf (drop at (now (text .entry)))) r ⌝ }
+fn leaf(text: &[u8], out: &mut [u8; 256], place: u32) -> u32
+    requires { ⌜ Asks (now text) place ⌝ }
+    ensures { λ r. ⌜ Reads (now (text .entry)) place (now (out .entry)) (now (out .exit)) (leafOf (drop (atOf place) (now (text .entry)))) r ⌝ }
 {
-    if text.len() <= at {
-        return outside(text, end);
-    }
-    let b = text[at];
+    let b = byte_at(text, at_of(place));
     if is_letter(b) {
-        return pushed(out, letter_word(letters, (b - b'a') as usize), at + 1, end);
+        return letter(out, place, b);
     }
     if b == b'#' {
-        return constant(text, letters, out, at + 1, end);
+        return constant(text, out, place);
     }
-    outside(text, end)
+    NOWHERE
 }
 
-// A minus before a factor: its command, where the factor is whole.
-fn negated(out: &mut [u8], p: Part) -> Part
-    requires { ⌜ p .end ≤ mostFile ⌝ }
-    ensures { λ r. ⌜ (r ≡ minusOf p) × (p .whole ≡ true → now (out .exit) ≡ sets (now (out .entry)) (p .end) (commandRecord minusCode)) ⌝ }
+// A command behind its operands, where the last of them is whole.
+fn joined(out: &mut [u8; 256], right: u32, code: u8) -> u32
+    requires { ⌜ right < 131072 ⌝ }
+    ensures { λ r. ⌜ (r ≡ longerOf right) × ((right ≡ nowhere → ⊥) → now (out .exit) ≡ set (now (out .entry)) (endOf right) code) ⌝ }
 {
-    if !p.whole {
-        return p;
+    if right == NOWHERE {
+        return NOWHERE;
     }
-    command_record(out, p.end, 0x15);
-    Part {
-        at: p.at,
-        end: p.end + 5,
-        need: p.need,
-        proper: p.proper,
-        whole: true,
-    }
+    let end = end_of(right);
+    out[end] = code;
+    right + 512
 }
 
 // Brackets round a formula, which the closing one ends.
-fn bracketed(text: &[u8], p: Part) -> Part
-    requires { ⌜ p .at ≤ length (now text) ⌝ }
-    ensures { λ r. ⌜ r ≡ closedAt (now (text .entry)) p ⌝ }
+fn bracketed(text: &[u8], place: u32) -> u32
+    requires { ⌜ (length (now text) ≤ mostText) × (place < 131072) ⌝ }
+    ensures { λ r. ⌜ r ≡ closedAt (now (text .entry)) place ⌝ }
 {
-    if byte_at(text, p.at) != b')' {
-        return outside(text, p.end);
+    if byte_at(text, at_of(place)) != b')' {
+        return NOWHERE;
     }
-    Part {
-        at: p.at + 1,
-        end: p.end,
-        need: p.need,
-        proper: p.proper,
-        whole: p.whole,
-    }
-}
-
-// The greater of two numbers.
-fn greater(a: usize, b: usize) -> usize
-    ensures { λ r. ⌜ r ≡ max a b ⌝ }
-{
-    if a < b { b } else { a }
-}
-
-// An operation on a left and a right operand: its command, where the right one is whole.
-fn joined(out: &mut [u8], left: Part, right: Part, code: u8) -> Part
-    requires { ⌜ (right .end ≤ mostFile) × (right .need ≤ mostText) ⌝ }
-    ensures { λ r. ⌜ (r ≡ joinedOf left right) × (right .whole ≡ true → now (out .exit) ≡ sets (now (out .entry)) (right .end) (commandRecord code)) ⌝ }
-{
-    if !right.whole {
-        return right;
-    }
-    command_record(out, right.end, code);
-    Part {
-        at: right.at,
-        end: right.end + 5,
-        need: greater(left.need, right.need + 1),
-        proper: left.proper & right.proper,
-        whole: true,
-    }
+    place + 1
 }
 
 // A sum: products joined by plus or minus, left to right.
-pub fn sum(text: &[u8], letters: &[u8], out: &mut [u8], at: usize, end: usize, depth: u32) -> Part
-    requires { ⌜ Asks (now text) (now letters) at end ⌝ }
-    ensures { λ r. ⌜ Reads (now (letters .entry)) (now (text .entry)) at end (now (out .entry)) (now (out .exit)) (sumOf depth (drop at (now (text .entry)))) r ⌝ }
+pub fn sum(text: &[u8], out: &mut [u8; 256], place: u32, depth: u32) -> u32
+    requires { ⌜ Asks (now text) place ⌝ }
+    ensures { λ r. ⌜ Reads (now (text .entry)) place (now (out .entry)) (now (out .exit)) (sumOf depth (drop (atOf place) (now (text .entry)))) r ⌝ }
 {
-    let mut left = product(text, letters, out, at, end, depth);
+    let mut left = product(text, out, place, depth);
     loop {
-        let next = left.at;
-        let code = sum_code(byte_at(text, next));
+        let code = sum_code(byte_at(text, at_of(left)));
         if code == 0 {
             return left;
         }
-        let right = product(text, letters, out, next + 1, left.end, depth);
-        left = joined(out, left, right, code);
+        let right = product(text, out, left + 1, depth);
+        left = joined(out, right, code);
     }
 }
 
 // A product: factors joined by `*` or `/`, left to right.
-fn product(text: &[u8], letters: &[u8], out: &mut [u8], at: usize, end: usize, depth: u32) -> Part
-    requires { ⌜ Asks (now text) (now letters) at end ⌝ }
-    ensures { λ r. ⌜ Reads (now (letters .entry)) (now (text .entry)) at end (now (out .entry)) (now (out .exit)) (productOf depth (drop at (now (text .entry)))) r ⌝ }
+fn product(text: &[u8], out: &mut [u8; 256], place: u32, depth: u32) -> u32
+    requires { ⌜ Asks (now text) place ⌝ }
+    ensures { λ r. ⌜ Reads (now (text .entry)) place (now (out .entry)) (now (out .exit)) (productOf depth (drop (atOf place) (now (text .entry)))) r ⌝ }
 {
-    let mut left = factor(text, letters, out, at, end, depth);
+    let mut left = factor(text, out, place, depth);
     loop {
-        let next = left.at;
-        let code = product_code(byte_at(text, next));
+        let code = product_code(byte_at(text, at_of(left)));
         if code == 0 {
             return left;
         }
-        let right = factor(text, letters, out, next + 1, left.end, depth);
-        left = joined(out, left, right, code);
+        let right = factor(text, out, left + 1, depth);
+        left = joined(out, right, code);
     }
 }
 
 // A factor: a leaf, or, with a level left, a minus before a factor or brackets round a sum.
-fn factor(text: &[u8], letters: &[u8], out: &mut [u8], at: usize, end: usize, depth: u32) -> Part
-    requires { ⌜ Asks (now text) (now letters) at end ⌝ }
-    ensures { λ r. ⌜ Reads (now (letters .entry)) (now (text .entry)) at end (now (out .entry)) (now (out .exit)) (factorOf depth (drop at (now (text .entry)))) r ⌝ }
+fn factor(text: &[u8], out: &mut [u8; 256], place: u32, depth: u32) -> u32
+    requires { ⌜ Asks (now text) place ⌝ }
+    ensures { λ r. ⌜ Reads (now (text .entry)) place (now (out .entry)) (now (out .exit)) (factorOf depth (drop (atOf place) (now (text .entry)))) r ⌝ }
 {
     if depth == 0 {
-        return leaf(text, letters, out, at, end);
+        return leaf(text, out, place);
     }
-    if text.len() <= at {
-        return outside(text, end);
-    }
-    let b = text[at];
+    let b = byte_at(text, at_of(place));
     if b == b'-' {
-        let p = factor(text, letters, out, at + 1, end, depth - 1);
-        return negated(out, p);
+        let p = factor(text, out, place + 1, depth - 1);
+        return joined(out, p, MINUS);
     }
     if b == b'(' {
-        let p = sum(text, letters, out, at + 1, end, depth - 1);
+        let p = sum(text, out, place + 1, depth - 1);
         return bracketed(text, p);
     }
-    leaf(text, letters, out, at, end)
+    leaf(text, out, place)
 }

@@ -36,6 +36,8 @@ use Rattle.chip.specs.Events.{afterEvents, answered, quiet, pushesOf, Tops, Doe
 use Rattle.chip.proofs.Outcomes.{status-lt}
 use Rattle.chip.proofs.OnTop.{idle, floated, exchanged-words, sign-changed}
 use Rattle.chip.proofs.Events.{after-append, answered-append, quiet-append, at-rest-lt, tops-idle, underWord, does-then, does-pushes, does-command, does-float, pushes-do}
+use Rattle.promises.specs.FloatWords.{FloatWord as Proper}
+use Rattle.promises.proofs.Measures.{theirs-rest, ours-rest, theirs-word, ours-word, theirs-le, ours-le}
 use Rattle.promises.specs.Chains.{eventsOf, commandsIn, chainOf, Step, Add, Subtract, Multiply, Divide, TakeFrom, Change, Constant, Constants, isReversing, reversing, workOf, wordAfter, Run, Starts, eventsIn, stateAtEnd, resultOf, Quiet, Chains, Demand3, Examples}
 
 -- ---- one step
@@ -65,16 +67,16 @@ coded-is false code e = e
 module _ (on : Settings) (bit : ℕ → Bool) where
   -- on a state that is written out
   on-idle : (k : Step) (w : ℕ) (t : List ℕ) (u : ℕ) (v : Bool) → u < 128 → Constant k → FloatWord w → Does on (idle (bytesOf 4 w ++ t) u v) (eventsOf bit k) (workOf (on .rule) k w)
-  on-idle (Add c) w t u v h C W = does-float on FAdd (coded (bit 0) 0x10) c w t u v (coded-is (bit 0) 0x10 (codes .0)) h C W (work-result (on .rule) (Add c) w C W)
-  on-idle (Subtract c) w t u v h C W = does-float on FSub (coded (bit 0) 0x11) c w t u v (coded-is (bit 0) 0x11 (codes .1)) h C W (work-result (on .rule) (Subtract c) w C W)
-  on-idle (Multiply c) w t u v h C W = does-float on FMul (coded (bit 0) 0x12) c w t u v (coded-is (bit 0) 0x12 (codes .2)) h C W (work-result (on .rule) (Multiply c) w C W)
-  on-idle (Divide c) w t u v h C W = does-float on FDiv (coded (bit 0) 0x13) c w t u v (coded-is (bit 0) 0x13 (codes .3)) h C W (work-result (on .rule) (Divide c) w C W)
+  on-idle (Add c) w t u v h C W = does-float on FAdd (coded (bit 0) 0x10) c w t u v (coded-is (bit 0) 0x10 (codes .0)) h (theirs-word C) W (work-result (on .rule) (Add c) w C W)
+  on-idle (Subtract c) w t u v h C W = does-float on FSub (coded (bit 0) 0x11) c w t u v (coded-is (bit 0) 0x11 (codes .1)) h (theirs-word C) W (work-result (on .rule) (Subtract c) w C W)
+  on-idle (Multiply c) w t u v h C W = does-float on FMul (coded (bit 0) 0x12) c w t u v (coded-is (bit 0) 0x12 (codes .2)) h (theirs-word C) W (work-result (on .rule) (Multiply c) w C W)
+  on-idle (Divide c) w t u v h C W = does-float on FDiv (coded (bit 0) 0x13) c w t u v (coded-is (bit 0) 0x13 (codes .3)) h (theirs-word C) W (work-result (on .rule) (Divide c) w C W)
   on-idle (TakeFrom c) w t u v h C W =
       let l = bytesOf 4 w ++ (bytesOf 4 c ++ underWord t) in
       does-pushes on c h
       (does-then on (exchanged-words (on .rule) (coded (bit 0) 0x19) w c (underWord t) u v (coded-is (bit 0) 0x19 (codes .5)) h)
       (does-command on (work-result (on .rule) (TakeFrom c) w C W)
-      (floated (on .rule) FSub (coded (bit 1) 0x11) c w (underWord t) (statusOf Double l 0 false) (sr (coded (bit 0) 0x19)) (coded-is (bit 1) 0x11 (codes .1)) (status-lt Double l 0 false (omega arith)) C W)))
+      (floated (on .rule) FSub (coded (bit 1) 0x11) c w (underWord t) (statusOf Double l 0 false) (sr (coded (bit 0) 0x19)) (coded-is (bit 1) 0x11 (codes .1)) (status-lt Double l 0 false (omega arith)) (theirs-word C) W)))
   on-idle Change w t u v h C W = does-command on (work-result (on .rule) Change w C W) (sign-changed (on .rule) (coded (bit 0) 0x15) w t u v (coded-is (bit 0) 0x15 (codes .4)) h W)
 
   -- on any state with a word on top
@@ -121,8 +123,8 @@ module _ (on : Settings) where
       let s = x .state in
       let w = x .word in
       let rest = chainOf (x .sr) ks in
-      let d = pushes-do on s w (S .at-rest) in
-      let i = chained ks (x .sr) w (afterEvents on s (pushesOf 4 w)) C (S .proper) (d .tops) in
+      let d = pushes-do on s w (theirs-rest (S .at-rest)) in
+      let i = chained ks (x .sr) w (afterEvents on s (pushesOf 4 w)) C (theirs-word (S .proper)) (d .tops) in
       record {
         all-answered = answered-append on s (pushesOf 4 w) rest (d .all-answered) (i .all-answered);
         tops = subst (λ (y : State). Tops (wordAfter (on .rule) w ks) y) (sym (after-append on s (pushesOf 4 w) rest)) (i .tops);
@@ -131,7 +133,7 @@ module _ (on : Settings) where
 
   -- the result is the word that the chain makes
   pub result-is : (x : Run) (ks : List Step) → Starts x → Constants ks → resultOf on x ks ≡ wordAfter (on .rule) (x .word) ks
-  result-is x ks S C = ap (λ (l : List ℕ). tos 4 l) (run x ks S C .tops .stack-is) ∙ number-bytes 4 (wordAfter (on .rule) (x .word) ks) (word-proper ks (x .word) C (S .proper) .fits)
+  result-is x ks S C = ap (λ (l : List ℕ). tos 4 l) (run x ks S C .tops .stack-is) ∙ number-bytes 4 (wordAfter (on .rule) (x .word) ks) (word-proper ks (x .word) C (theirs-word (S .proper)) .fits)
 
   -- its bytes lie on top at the end
   pub on-top : (x : Run) (ks : List Step) → Starts x → Constants ks → (below : List ℕ) → take 4 ((stateAtEnd on x ks) .stack ++ below) ≡ bytesOf 4 (wordAfter (on .rule) (x .word) ks)
@@ -166,7 +168,7 @@ module _ (on : Settings) where
   ordered : (x y : Run) (ks : List Step) → Starts x → Starts y → Constants ks → Quiet on x ks → Quiet on y ks → Le (x .word) (y .word) → Ordered (reversing ks) (resultOf on x ks) (resultOf on y ks)
   ordered x y ks S T C q p l =
       subst₂ (λ (v w : ℕ). Ordered (reversing ks) v w) (sym (result-is x ks S C)) (sym (result-is y ks T C))
-      (word-order ks (x .word) (y .word) C (S .proper) (T .proper) l (run x ks S C .no-errors q) (run y ks T C .no-errors p))
+      (word-order ks (x .word) (y .word) C (theirs-word (S .proper)) (theirs-word (T .proper)) l (run x ks S C .no-errors q) (run y ks T C .no-errors p))
 
 -- ---- the statement
 pub chains : (on : Settings) → Chains on
@@ -175,10 +177,12 @@ chains on = record {
   by-word-alone = λ x ks S C. result-is on x ks S C;
   equal-words = λ x y ks S T C e. result-is on x ks S C ∙ ap (λ (w : ℕ). wordAfter (on .rule) w ks) e ∙ sym (result-is on y ks T C);
   no-steps = λ x S. result-is on x [] S tt;
-  proper-result = λ x ks S C. subst (λ (w : ℕ). FloatWord w) (sym (result-is on x ks S C)) (word-proper on ks (x .word) C (S .proper));
-  ready-again = λ x ks S C. run on x ks S C .tops .at-rest;
-  even-keeps = λ x y ks S T C q p l e. ordered on x y ks S T C q p l .0 e;
-  odd-turns = λ x y ks S T C q p l e. ordered on x y ks S T C q p l .1 e;
+  proper-result = λ x ks S C. subst (λ (w : ℕ). Proper w) (sym (result-is on x ks S C)) (ours-word (word-proper on ks (x .word) C (theirs-word (S .proper))));
+  ready-again = λ x ks S C. ours-rest (run on x ks S C .tops .at-rest);
+  even-keeps = λ x y ks S T C q p l e.
+      ours-le (resultOf on x ks) (resultOf on y ks) (ordered on x y ks S T C q p (theirs-le (x .word) (y .word) l) .0 e);
+  odd-turns = λ x y ks S T C q p l e.
+      ours-le (resultOf on y ks) (resultOf on x ks) (ordered on x y ks S T C q p (theirs-le (x .word) (y .word) l) .1 e);
 }
 
 pub demand-3 : Demand3

@@ -16,6 +16,7 @@ use Rattle.chip.specs.Commands.{floats}
 use Rattle.chip.specs.Step.{pushOf, carried, commandUnder}
 use Rattle.promises.specs.Bench.{expected}
 use Rattle.promises.specs.NearBench.{shownBy}
+use Rattle.promises.proofs.Measures.{theirs-word, theirs-close, ours-lossless}
 use Rattle.promises.specs.CloseReadings.{CloseReadings, closeTable, CloseExamples}
 
 -- an error that is 0 or underflow is not overflow
@@ -24,9 +25,10 @@ no-overflow e (inl h) f = omega arith
 no-overflow e (inr h) f = omega arith
 
 pub close-readings : CloseReadings
+unfolding value
 close-readings = record {
-  without-loss = close-difference;
-  no-overflow = λ rule b a B A c. no-overflow ((sub rule b a) .error) (close-difference rule b a B A c .no-other);
+  without-loss = λ rule b a B A C. ours-lossless (close-difference rule b a (theirs-word B) (theirs-word A) (theirs-close C));
+  no-overflow = λ rule b a B A C. no-overflow ((sub rule b a) .error) (close-difference rule b a (theirs-word B) (theirs-word A) (theirs-close C) .no-other);
 }
 
 rows : (rule : Rule) → map (shownBy rule) closeTable ≡ map expected closeTable

@@ -45,7 +45,9 @@ use Rattle.chip.specs.Commands.{baseRule, piOf, wordA, wordB, ends, moves, keep
 use Rattle.chip.specs.Step.{done, carried, commandUnder}
 use Rattle.codes.specs.declared.Kind.the-variants.{Known}
 use Rattle.codes.specs.Codes.{decoded}
-use Rattle.promises.specs.Commands.{piWord, least, words, word, statusBy, holding, Leaves, Refuses, Two, FixedRows, WholeNumbers, MoveRows, FloatRows, ConversionRows, Rows, Commands}
+use Rattle.promises.proofs.Measures.{theirs-word}
+use Rattle.promises.specs.BusEvents.{piWord}
+use Rattle.promises.specs.Commands.{least, words, valueIn, fitsIn, lowOf, lowIn, word, statusBy, holding, Leaves, Refuses, Two, FixedRows, WholeNumbers, MoveRows, FloatRows, ConversionRows, Rows, Commands}
 
 -- ---- the words of a stack are read back
 pub top-is : (w : Width) (a : ℕ) (t : List ℕ) → a < words w → tos (sizeOf w) (word w a t) ≡ a
@@ -197,7 +199,17 @@ zero-in : (w : Width) → 0 < words w
 zero-in Single = lit< tt
 zero-in Double = lit< tt
 
+-- the book's low bits are the crate's
+low-is : (h : ℕ) (z : ℤ) → low h z ≡ lowOf (2 * h) z
+unfolding low
+low-is h (pos k) = refl
+low-is h (negsuc k) = refl
+
 module _ (rule : Rule) (w : Width) where
+  -- a row whose result is the low bits of a whole number
+  low-row : (k : Command) (b a error : ℕ) (z : ℤ) → Two rule w k b a (low (least w) z) error false 0 → Two rule w k b a (lowIn w z) error false 0
+  low-row k b a error z h = subst (λ (r : ℕ). Two rule w k b a r error false 0) (low-is (least w) z) h
+
   -- a row of ADD and SUB, and a row of MUL, MUU and DIV
   fixed-rows : FixedRows rule w
   fixed-rows = record {
@@ -205,16 +217,19 @@ module _ (rule : Rule) (w : Width) where
         accepted rule (Add w) (word w a (word w b cs)) w _ _ _ _ refl (mod-lt (b + a) (zero-in w)) (keeps w (xadd (least w)) b a _ _ _ cs B A f);
     sub-row = λ b a B A cs. let f = difference-is (least w) b a (words-of w B A) in
         accepted rule (Sub w) (word w a (word w b cs)) w _ _ _ _ refl (mod-lt (b + words w - a) (zero-in w)) (keeps w (xsub (least w)) b a _ _ _ cs B A f);
-    mul-row = λ b a B A p q cs. let f = product-is (least w) b a (words-of w B A) p q in
-        accepted rule (Mul w) (word w a (word w b cs)) w _ _ _ _ refl (low-lt (least w) _ (some-least w)) (loses w (xmul (least w)) b a _ _ _ cs B A f);
-    muu-row = λ b a B A p q cs. let f = upper-is (least w) b a (words-of w B A) p q in
-        accepted rule (Muu w) (word w a (word w b cs)) w _ _ _ _ refl (low-lt (least w) _ (some-least w)) (loses w (xmuu (least w)) b a _ _ _ cs B A f);
+    mul-row = λ b a B A p q. let f = product-is (least w) b a (words-of w B A) p q in
+        low-row (Mul w) b a (overflowIf (not (fitsIn w (valueIn w b *ℤ valueIn w a)))) (valueIn w b *ℤ valueIn w a)
+        (λ cs. accepted rule (Mul w) (word w a (word w b cs)) w _ _ _ _ refl (low-lt (least w) _ (some-least w)) (loses w (xmul (least w)) b a _ _ _ cs B A f));
+    muu-row = λ b a B A p q. let f = upper-is (least w) b a (words-of w B A) p q in
+        low-row (Muu w) b a 0 (shrZ (valueIn w b *ℤ valueIn w a) (words w))
+        (λ cs. accepted rule (Muu w) (word w a (word w b cs)) w _ _ _ _ refl (low-lt (least w) _ (some-least w)) (loses w (xmuu (least w)) b a _ _ _ cs B A f));
     mul-least = λ b a B A e cs. let f = least-product (least w) b a (words-of w B A) e in
         accepted rule (Mul w) (word w a (word w b cs)) w _ _ _ _ refl (least-in w) (loses w (xmul (least w)) b a _ _ _ cs B A f);
     muu-least = λ b a B A e cs. let f = least-upper (least w) b a (words-of w B A) e in
         accepted rule (Muu w) (word w a (word w b cs)) w _ _ _ _ refl (least-in w) (loses w (xmuu (least w)) b a _ _ _ cs B A f);
-    div-row = λ b a B A z p q cs. let f = quotient-is (least w) b a (words-of w B A) z p q in
-        accepted rule (Div w) (word w a (word w b cs)) w _ _ _ _ refl (low-lt (least w) _ (some-least w)) (loses w (xdiv (least w)) b a _ _ _ cs B A f);
+    div-row = λ b a B A z p q. let f = quotient-is (least w) b a (words-of w B A) z p q in
+        low-row (Div w) b a 0 (quotZ (valueIn w b) (valueIn w a))
+        (λ cs. accepted rule (Div w) (word w a (word w b cs)) w _ _ _ _ refl (low-lt (least w) _ (some-least w)) (loses w (xdiv (least w)) b a _ _ _ cs B A f));
     div-zero = λ b B cs.
         accepted rule (Div w) (word w 0 (word w b cs)) w _ _ _ _ refl B (loses w (xdiv (least w)) b 0 _ _ _ cs B (zero-in w) (no-divisor (least w) b));
     div-least = λ b a B A z e cs. let f = least-quotient (least w) b a (words-of w B A) z e in
@@ -250,9 +265,9 @@ quotient-sign (negsuc b) (negsuc a) = refl
 
 whole-numbers-of : (w : Width) → WholeNumbers w
 whole-numbers-of w = record {
-  low-fits = λ z. low-lt (least w) z (some-least w);
-  low-modulo = λ z. parted (least w) z (some-least w);
-  low-value = λ z f. kept (least w) z f;
+  low-fits = λ z. subst (λ (r : ℕ). r < words w) (low-is (least w) z) (low-lt (least w) z (some-least w));
+  low-modulo = λ z. subst (λ (r : ℕ). z ≡ shrZ z (words w) *ℤ pos (words w) +ℤ pos r) (low-is (least w) z) (parted (least w) z (some-least w));
+  low-value = λ z f. subst (λ (r : ℕ). valueIn w r ≡ z) (low-is (least w) z) (kept (least w) z f);
   cut-reached = λ b a. subst (λ (q : ℕ). q * natAbs a ≤ natAbs b) (sym (quotient-size b a)) (quotient-cut (natAbs b) (natAbs a) .0);
   cut-passed = λ b a h. subst (λ (q : ℕ). natAbs b < (q + 1) * natAbs a) (sym (quotient-size b a)) (quotient-cut (natAbs b) (natAbs a) .1 h);
   cut-sign = λ b a. quotient-sign b a ∙ ap (λ (q : ℕ). withSign (unlike (below0 b) (below0 a)) q) (sym (quotient-size b a));
@@ -320,13 +335,13 @@ module _ (rule : Rule) where
 
   float-rows : FloatRows rule
   float-rows = record {
-    fadd-row = λ b a B A. float-row FAdd b a B A (add-result rule b a .word .fits);
-    fsub-row = λ b a B A. float-row FSub b a B A (sub-result rule b a .word .fits);
-    fmul-row = λ b a B A. float-row FMul b a B A (mul-result rule b a .word .fits);
-    fdiv-row = λ b a B A. float-row FDiv b a B A (div-result rule b a B .word .fits);
+    fadd-row = λ b a B A. float-row FAdd b a (theirs-word B) (theirs-word A) (add-result rule b a .word .fits);
+    fsub-row = λ b a B A. float-row FSub b a (theirs-word B) (theirs-word A) (sub-result rule b a .word .fits);
+    fmul-row = λ b a B A. float-row FMul b a (theirs-word B) (theirs-word A) (mul-result rule b a .word .fits);
+    fdiv-row = λ b a B A. float-row FDiv b a (theirs-word B) (theirs-word A) (div-result rule b a (theirs-word B) .word .fits);
     fdiv-zero = λ b B.
         subst (λ (r : Flagged). Two rule Double (Float FDiv) b 0 (r .word) (r .error) false 0) (div-by-zero rule b 0 refl)
-        (float-row FDiv b 0 B zero-word (div-result rule b 0 B .word .fits));
+        (float-row FDiv b 0 (theirs-word B) zero-word (div-result rule b 0 (theirs-word B) .word .fits));
     improper = λ op b a B A e cs. refusing rule (Float op) (word Double a (word Double b cs)) (operands op b a cs B A ∙ not-both (proper b) (proper a) e);
     chsf-sets = λ a m l bs. let k : a < 2147483648 = l in chsf-row a (a + 2 ^ 31) bs (omega arith) (omega arith) (set-is a m l);
     chsf-clears = λ a m l h bs. let k : a < 4294967296 = h in chsf-row a (a - 2 ^ 31) bs h (omega arith) (clear-is a m l);
@@ -378,6 +393,7 @@ module _ (rule : Rule) where
   one-operand w a bs A = ap proper (top-is Double a bs A)
 
   conversion-rows : ConversionRows rule
+  unfolding wholePart
   conversion-rows = record {
     fltd-row = λ a b c A ds.
         accepted rule (Flt Double) (three a b c ds) Double ((fltd rule a) .word) 0 false (word Double b (word Double c (zeros 4))) refl (fltd-result rule a .word .fits)

@@ -14,8 +14,6 @@ use Rattle.terms.specs.Settings.{Settings}
 use Rattle.terms.specs.declared.Refusal.{Refusal}
 use Rattle.terms.specs.declared.Refusal.the-variants.{BadState}
 use Rattle.terms.specs.Refusal.{numberOf}
-use Rattle.float.specs.Word.{FloatWord}
-use Rattle.float.specs.Order.{Le}
 use Rattle.stack.specs.Stack.{Bytes, numberFrom, bytesOf, pushed}
 use Rattle.stack.proofs.Words.{number-bytes}
 use Rattle.chip.specs.declared.State.{State}
@@ -40,10 +38,12 @@ use Rattle.stored.proofs.Cards.{behind, laid-is, card-returns, card-ready, laid
 use Rattle.stored.proofs.States.{state-ready}
 use Rattle.pundaliket.specs.Calls.{Signal, signalBy, signalUnder, answerToKind, joinedOf}
 use Rattle.pundaliket.proofs.Calling.{event-chosen}
+use Rattle.promises.proofs.Measures.{ours-state, theirs-state}
 use Rattle.promises.specs.Given.{Given, Chosen, settingsIn, eventCall}
 use Rattle.promises.specs.Chains.{Step, Add, Subtract, Multiply, Divide, TakeFrom, Change, given, eventsOf, commandsIn, chainOf, Constants, wordAfter, Run, Starts, resultOf, Quiet, runEvents}
 use Rattle.promises.specs.Cores.{Core, Meets, kindNumber, byteOf, onBus, driven, returned, answersOf, NoRecall, Keeps, Sendable, allZero, clearAfter, drivenQuietly, Begins, busRun, wordLeft, Cores}
-use Rattle.promises.proofs.Kept.{good-states, command-byte}
+use Rattle.promises.specs.FloatWords.{FloatWord, Le}
+use Rattle.promises.proofs.Kept.{command-byte}
 use Rattle.promises.proofs.Chains.{demand-3, on-top}
 
 -- ---- one event
@@ -325,7 +325,7 @@ runFrom state w sr = record { state = stateOf state; word = w; sr = sr }
 
 starts : (state : List ℕ) (w : ℕ) (sr : ℕ → Bool) → Begins state w → Starts (runFrom state w sr)
 starts state w sr B = record {
-  at-rest = record { taken = lt-leb 128 (getD state 17 0) (state-ready state (B .good)); whole = ap (λ (n : ℕ). eqb n 1) (B .whole) };
+  at-rest = record { taken = lt-leb 128 (getD state 17 0) (state-ready state (theirs-state (B .good))); whole = ap (λ (n : ℕ). eqb n 1) (B .whole) };
   proper = B .proper;
 }
 
@@ -352,7 +352,7 @@ module _ (g : Given) (C : Chosen g) (c : Core) (M : Meets g c) where
   calls-states : (state : List ℕ) (es : List Event) → Bytes state → isState state ≡ true → Sendable es → driven c state es ≡ laidOut (length state) (afterAll (cardOf state) es)
   calls-states state es B i S =
       from-bytes (λ (l : List ℕ). driven c l es ≡ laidOut (length state) (afterAll (cardOf state) es)) state i
-      (states g C c M (length state) (good-states state .0 i .size) (cardOf state) (serves state B i) es S)
+      (states g C c M (length state) (ours-state i .size) (cardOf state) (serves state B i) es S)
 
   calls-return : (state : List ℕ) (es : List Event) → Bytes state → isState state ≡ true → Sendable es → Keeps state es → returned c state es ≡ answersOf (cardOf state) es
   calls-return state es B i S o =
@@ -360,23 +360,23 @@ module _ (g : Given) (C : Chosen g) (c : Core) (M : Meets g c) where
       let k = cardOf state in
       from-bytes (λ (l : List ℕ). returned c l es ≡ answersOf k es) state i
       (⊎-elim (λ a. ⊎-elim (λ b. absurd (let y : ⊥ = omega arith in y)) (λ b. subst (λ (m : ℕ). returned c (laidOut m k) es ≡ answersOf k es) (sym a) (numbers-short g C c M k r es S b)) o)
-      (λ a. subst (λ (m : ℕ). returned c (laidOut m k) es ≡ answersOf k es) (sym a) (numbers-long g C c M k r es S)) (good-states state .0 i .size))
+      (λ a. subst (λ (m : ℕ). returned c (laidOut m k) es ≡ answersOf k es) (sym a) (numbers-long g C c M k r es S)) (ours-state i .size))
 
   calls-quiet : (state : List ℕ) (es : List ChipEvent) → Bytes state → isState state ≡ true → Sendable (onBus es) → drivenQuietly c state (onBus es) ≡ true → quiet (settingsIn g) (stateOf state) es ≡ true
   calls-quiet state es B i S q =
       sym (from-bytes (λ (l : List ℕ). drivenQuietly c l (onBus es) ≡ quiet (settingsIn g) (stateOf state) es) state i
-      (quietly g C c M (length state) (good-states state .0 i .size) (cardOf state) (serves state B i) es S)) ∙ q
+      (quietly g C c M (length state) (ours-state i .size) (cardOf state) (serves state B i) es S)) ∙ q
 
   module _ (state : List ℕ) (w : ℕ) (sr : ℕ → Bool) (ks : List Step) (B : Begins state w) (K : Constants ks) where
     answers : allZero (returned c state (busRun w sr ks)) ≡ true
     answers =
-        ap allZero (calls-return state (busRun w sr ks) (B .bytes) (B .good) (sent w sr ks) (inr (bus-told (runEvents w sr ks))) ∙ card-answers (cardOf state) (runEvents w sr ks))
+        ap allZero (calls-return state (busRun w sr ks) (B .bytes) (theirs-state (B .good)) (sent w sr ks) (inr (bus-told (runEvents w sr ks))) ∙ card-answers (cardOf state) (runEvents w sr ks))
         ∙ all-zero (settingsIn g) (stateOf state) (runEvents w sr ks) (none-append (pushesOf 4 w) (chainOf sr ks) tt (chain-none sr ks)) (demand-3 (settingsIn g) .every-answered (runFrom state w sr) ks (starts state w sr B) K)
 
     top-bytes : take 4 (driven c state (busRun w sr ks)) ≡ bytesOf 4 (wordAfter (settingsIn g .rule) w ks)
     top-bytes =
         let k = afterAll (cardOf state) (busRun w sr ks) in
-        ap (λ (l : List ℕ). take 4 l) (calls-states state (busRun w sr ks) (B .bytes) (B .good) (sent w sr ks) ∙ laid-is (length state) k)
+        ap (λ (l : List ℕ). take 4 l) (calls-states state (busRun w sr ks) (B .bytes) (theirs-state (B .good)) (sent w sr ks) ∙ laid-is (length state) k)
         ∙ ap (λ (s : State). take 4 (s .stack ++ behind (length state) k)) (chip-alone (cardOf state) (runEvents w sr ks))
         ∙ on-top (settingsIn g) (runFrom state w sr) ks (starts state w sr B) K _
 
@@ -391,13 +391,13 @@ module _ (g : Given) (C : Chosen g) (c : Core) (M : Meets g c) where
     result-told = demand-3 (settingsIn g) .by-word-alone (runFrom state w sr) ks (starts state w sr B) K ∙ sym top-word
 
     quiet-told : drivenQuietly c state (busRun w sr ks) ≡ true → Quiet (settingsIn g) (runFrom state w sr) ks
-    quiet-told q = calls-quiet state (runEvents w sr ks) (B .bytes) (B .good) (sent w sr ks) q
+    quiet-told q = calls-quiet state (runEvents w sr ks) (B .bytes) (theirs-state (B .good)) (sent w sr ks) q
 
 -- ---- the statement
 pub cores : Cores
 cores g C c M = record {
-  states = λ state es B i S. calls-states g C c M state es B i S;
-  returns = λ state es B i S o. calls-return g C c M state es B i S o;
+  states = λ state es B i S. calls-states g C c M state es B (theirs-state i) S;
+  returns = λ state es B i S o. calls-return g C c M state es B (theirs-state i) S o;
   chain-answers = λ state w sr ks B K. answers g C c M state w sr ks B K;
   chain-bytes = λ state w sr ks B K. top-bytes g C c M state w sr ks B K;
   chain-word = λ state w sr ks B K. top-word g C c M state w sr ks B K;

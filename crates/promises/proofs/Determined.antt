@@ -3,7 +3,7 @@ use mathlib.Core.Path.{_≡_, sym, _∙_}
 use mathlib.Core.List.{List}
 use Prim.Native.Nat.{ℕ}
 use Rattle.pundaliket.specs.Calls.{Sent, Sends}
-use Rattle.promises.specs.Determined.{RunDetermined, EventDetermined, WordToF32Determined, F32ToWordDetermined}
+use Rattle.promises.specs.Determined.{RunDetermined, EventDetermined, WordToF32Determined, F32ToWordDetermined, ContractsSay}
 
 pub run-determined : RunDetermined
 run-determined g state input replies report r q s t w v p o a b =
@@ -21,3 +21,12 @@ word-to-f32-determined word out r q s t a b = sent-alike _ r q s t a b
 
 pub f32-to-word-determined : F32ToWordDetermined
 f32-to-word-determined bits out r q s t a b = sent-alike _ r q s t a b
+
+pub contracts-say : ContractsSay
+contracts-say = record {
+  run = λ c result state replies report K. (K .result-is, K .state-is, K .replies-is, K .report-is);
+  event = λ c result state K. (K .result-is, K .state-is);
+  conversion = λ c result out K. (K .result-is, K .out-is);
+  formula = λ c result file K. (K .result-is, K .file-is);
+  buffer = λ c result number out K. (K .result-is, K .number-is, K .out-is);
+}

@@ -4,9 +4,9 @@ use mathlib.Core.Path.{_≡_, refl, sym, ap, ap₂, _∙_, subst}
 use mathlib.Core.Logic.{_⊎_, inl, inr, ⊎-elim}
 use mathlib.Core.Bool.{Bool, true, false, cond}
 use mathlib.Core.List.{List, [], _++_, append-nil}
-use Prim.Native.Nat.{ℕ, zero, suc, _+_, _*_, _/_, _%_, _^_, _≤_, _<_}
+use Prim.Native.Nat.{ℕ, zero, suc, _+_, _-_, _*_, _/_, _%_, _^_, _≤_, _<_}
 use native.Mathlib.Omega.{arith}
-use lib.Dec.{eqb, lit<}
+use lib.Dec.{eqb, ltb, lit<}
 use lib.ListN.{length, take, drop, getD, length-append, length-drop}
 use lib.Seq.{take-at, drop-at}
 use borrow.Author.Tests.{le-leb, lt-leb, eqb-true, eqb-false}
@@ -22,7 +22,7 @@ use Rattle.stack.specs.Stack.{Bytes}
 use Rattle.stack.proofs.Words.{byte-at}
 use Rattle.float.specs.Word.{negative, proper, size88, FloatWord}
 use Rattle.host.specs.Values.{HasWord, Endless, IsMinusZero, Small, BroughtTo, LargeBy}
-use Rattle.host.specs.Double.{doubleBits, outwardOf, inwardOf}
+use Rattle.host.specs.Double.{doubleField, doubleBits, broughtOf, outwardOf, inwardOf}
 use Rattle.host.specs.declared.entry.Outward.{Outward}
 use Rattle.host.specs.declared.entry.Outward.the-variants.{Float as Floats, Refused as Stays}
 use Rattle.host.specs.declared.entry.Inward.{Inward}
@@ -38,7 +38,8 @@ use Rattle.buffers.proofs.Writing.{firstBytes, first-length}
 use Rattle.buffers.proofs.Answers.{part-words, no-room-words, bad-word, words-written, no-rule, part-floats, no-room-floats, bad-float, floats-written}
 use Rattle.buffers.proofs.Blocks.{block, whole}
 use Rattle.buffers.proofs.Found.{roundedBelow, Taken, reply-bad, reply-done, First, all-or-first, none-rounded, rounded-none}
-use Rattle.promises.specs.Doubles.{outward, inward, OutwardExact, InwardAnswered, BroughtOnce, floatIn, wordBytes, floatBytes, turned, WordsCall, Names, cut, nearest, isRounded, howMany, FloatsCall, BufferCalls, BuffersKept, WordsBack, FloatsBack, WordsToF64Determined, F64ToWordsDetermined}
+use Rattle.promises.proofs.Measures.{theirs-held, ours-held, theirs-brought, ours-brought, theirs-large, ours-large}
+use Rattle.promises.specs.Doubles.{carriedBits, outward, inward, OutwardExact, InwardAnswered, BroughtOnce, floatIn, wordBytes, floatBytes, turned, WordsCall, Names, cut, nearest, isRounded, howMany, FloatsCall, BufferCalls, BuffersKept, WordsBack, FloatsBack, WordsToF64Determined, F64ToWordsDetermined}
 
 -- ---- one entry, outward
 -- the bits of a word's f64 stand for that f64
@@ -48,6 +49,7 @@ again w e =
     ∙ ap (λ (o : Outward). ofBits binary64 (outwardEntry o .bits)) (sym (goes-out w e))
 
 pub outward-exact : OutwardExact
+unfolding size88
 outward-exact w l = (
   λ e. (ap (λ (o : Outward). outwardEntry o .refusal) (goes-out w e), subst (λ (x : Float). HasValue x (negative w) (size88 w) (2 ^ 88)) (again w e) (double-value w e)),
   λ e. ap (λ (o : Outward). outwardEntry o .refusal) (stays-in w e),
@@ -101,6 +103,22 @@ module _ (rule : Rule) (x : Float) (r : Inward) where
   was-rounded w y q (small e b) = let z : _≡_ {A = ℕ} 0 1 = (cc) in absurd (omega arith)
   was-rounded w y q (large e b) = let z : _≡_ {A = ℕ} 0 1 = (cc) in absurd (omega arith)
 
+-- the f64 that is carried is the word's own
+abbrev OwnFloat : Inward → Type 0
+OwnFloat (Exact w) = Unit
+OwnFloat (Rounded w y) = y ≡ ofBits binary64 (doubleBits w)
+OwnFloat (Refused r) = Unit
+
+own : (rule : Rule) (p : ℕ) → OwnFloat (inwardOf rule p)
+unfolding inwardOf
+own rule p =
+    pick (eqb (doubleField p) 2047) _ _ tt (pick (eqb p (2 ^ 63)) _ _ tt (pick (eqb p 0) _ _ tt (pick (ltb (doubleField p) (1023 - 65)) _ _ tt
+    (pick (eqb (broughtOf rule p .error) 0) _ _ (pick (eqb (doubleBits (broughtOf rule p .word)) p) _ _ tt refl) tt))))
+  where
+    pick : (b : Bool) (x y : Inward) → OwnFloat x → OwnFloat y → OwnFloat (cond b x y)
+    pick true x y f g = f
+    pick false x y f g = g
+
 pub inward-answered : InwardAnswered
 inward-answered rule p l =
     let x = ofBits binary64 p in
@@ -108,27 +126,32 @@ inward-answered rule p l =
     let h = right rule p l in
     let why = because rule x r h in
     record {
-      exact = λ w. (λ e. was-exact rule x r w e h, λ a. answers-exact rule x r w (a .0) (a .1) h);
-      rounded = λ w. (λ e. let a = was-rounded rule x r w (e .0) (e .1) h in (a .0, a .1, a .2), λ a. answers-rounded rule x r w (a .0) (a .1) (a .2) h);
-      carried = λ w y e. was-rounded rule x r w y e h .3;
+      exact = λ w. (λ e. let a = was-exact rule x r w e h in (ours-held (a .0), a .1), λ a. answers-exact rule x r w (theirs-held (a .0)) (a .1) h);
+      rounded = λ w. (
+        λ e. let a = was-rounded rule x r w (e .0) (e .1) h in (ours-brought (a .0), λ v k. a .1 v (theirs-held k), a .2),
+        λ a. answers-rounded rule x r w (theirs-brought (a .0)) (λ v k. a .1 v (ours-held k)) (a .2) h,
+      );
+      carried = λ w y e. ours-held (was-rounded rule x r w y e h .3);
+      carried-bits = λ w y e.
+          ap carriedBits e ∙ ap (toBits binary64) (subst OwnFloat e (own rule p)) ∙ sym (ap (λ (o : Outward). outwardEntry o .bits) (goes-out w (was-rounded rule x r w y e h .3 .word .is-proper)));
       answered = answered rule x r h;
       ten = (λ d. subst (Because rule x) d why, λ a. ap numberIn (answers-endless rule x r a h));
       fifteen = (λ d. subst (Because rule x) d why, λ a. ap numberIn (answers-minus rule x r a h));
       twelve = (λ d. subst (Because rule x) d why, λ a. ap numberIn (answers-small rule x r a h));
-      eleven = (λ d. subst (Because rule x) d why, λ a. ap numberIn (answers-large rule x r a h));
+      eleven = (λ d. ours-large (subst (Because rule x) d why), λ a. ap numberIn (answers-large rule x r (theirs-large a) h));
       apart = record {
         endless-minus = endless-minus x;
         endless-small = endless-small x;
-        endless-large = endless-large-by rule x;
+        endless-large = λ a b. endless-large-by rule x a (theirs-large b);
         minus-small = minus-small x;
-        minus-large = minus-large-by rule x;
-        small-large = small-large-by rule x;
-        with-word = λ w a. (held-endless x w a, held-small x w a, held-large-by rule x w a);
+        minus-large = λ a b. minus-large-by rule x a (theirs-large b);
+        small-large = λ a b. small-large-by rule x a (theirs-large b);
+        with-word = λ w a. let b = theirs-held a in (held-endless x w b, held-small x w b, λ c. held-large-by rule x w b (theirs-large c));
       };
     }
 
 pub brought-to-one : BroughtOnce
-brought-to-one = brought-once
+brought-to-one rule x w v a b = brought-once rule x w v (theirs-brought a) (theirs-brought b)
 
 -- ---- the calls
 as-turned : {t : Turn} {result number : ℕ} {out : List ℕ} → Turns t result number out → t ≡ turned result number out

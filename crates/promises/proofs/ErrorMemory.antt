@@ -24,8 +24,6 @@ use Rattle.memory.specs.declared.Memory.{Memory}
 use Rattle.memory.specs.declared.Event.{Event}
 use Rattle.memory.specs.declared.Event.the-variants.{Chip, Recall, Forget}
 use Rattle.memory.specs.Memory.{emptyMemory, isMemory, Card, cardWith, CardAnswer, eventIn}
-use Rattle.memory.specs.History.{History, memoryOf, from, told, tells, afterAll, historyOf}
-use Rattle.memory.proofs.History.{memory-is-history}
 use Rattle.memory.proofs.Good.{ReadyCard}
 use Rattle.files.proofs.Tests.{either-eq}
 use Rattle.files.proofs.Append.{nothing}
@@ -42,8 +40,14 @@ use Rattle.stored.proofs.States.{short-state, long-state, long-bad, short-memor
 use Rattle.stored.proofs.Cards.{card-returns, card-ready, laid-at}
 use Rattle.pundaliket.specs.Calls.{Called, Signal, Calls, Signals, ranOf, away, callUnder, signalBy, signalUnder, answerToKind, joinedOf}
 use Rattle.pundaliket.proofs.Calling.{run-chosen, event-chosen, good}
+use Rattle.promises.specs.StateBytes.{IsState}
+use Rattle.promises.specs.Remembered.{History, memoryOf, from, told, tells, afterAll, historyOf}
+use Rattle.promises.proofs.Measures.{theirs-state}
+use Rattle.promises.proofs.Remembered.{memory-is-history}
 use Rattle.promises.specs.Given.{Given, Chosen, settingsIn}
-use Rattle.promises.specs.Records.{IsRecord, joined, EachTaken, repliesOf, inTurn}
+use Rattle.promises.specs.RecordFiles.{IsRecord}
+use Rattle.promises.proofs.RecordFiles.{theirs-record}
+use Rattle.promises.specs.Records.{joined, EachTaken, repliesOf, inTurn}
 use Rattle.promises.specs.Cores.{Core, Meets, kindNumber, byteOf, Sendable, driven}
 use Rattle.promises.specs.ErrorMemory.{noted, callHistory, memoryAt, recordEvents, eventsIn, rememberedAfter, Lent, ErrorMemory, RecordsAreEvents, lengthened, ShortStates}
 use Rattle.promises.proofs.Records.{in-turn, record-run, recall-record, bytes-parts}
@@ -91,14 +95,15 @@ module _ (g : Given) (C : Chosen g) (c : Core) (M : Meets g c) where
       ∙ told-alike (a .card) left es (tells k e h) (S .1)
 
   -- on the bytes of a good state
-  events-say : (state : List ℕ) (es : List Event) → Bytes state → isState state ≡ true → length state ≡ 21 → Sendable es
+  events-say : (state : List ℕ) (es : List Event) → Bytes state → IsState state → length state ≡ 21 → Sendable es
       → memoryAt (driven c state es) ≡ memoryOf (callHistory c state es (from (memoryAt state)))
-  events-say state es B i n S =
+  events-say state es B I n S =
+      let i = theirs-state I in
       let k = cardIn (settingsIn g) state in
       let r = card-ready (settingsIn g) state B i in
       let back : laidOut 21 k ≡ state = ap (λ (m : ℕ). laidOut m k) (sym n) ∙ card-returns (settingsIn g) state i in
       let after = all-good es k r S in
-      ap memoryAt (cores g C c M .states state es B i S ∙ ap (λ (m : ℕ). laidOut m (afterAll k es)) n)
+      ap memoryAt (cores g C c M .states state es B I S ∙ ap (λ (m : ℕ). laidOut m (afterAll k es)) n)
       ∙ two-bytes (afterAll k es) (after .chip .stack .sixteen)
       ∙ memory-is-history k es
       ∙ ap memoryOf (sym (told-alike k (record { good = r; set = refl }) es (from (k .memory)) S))
@@ -137,7 +142,7 @@ record-is k r e h = by e (h .kind-is) (h .carried)
     by ForgetRecord i c = rw (kind 8 (lit< tt) i)
 
 one-record : (k : Card) (r : List ℕ) (room : ℕ) (one : IsRecord r) → runOf k r room .refusal ≡ 0 → runOf k r room .state ≡ afterAll k (recordEvents r)
-one-record k r room one z = ap (λ (o : Outcome). o .state) (record-run k r room one z) ∙ record-is k r (one .event) (one .held)
+one-record k r room one z = ap (λ (o : Outcome). o .state) (record-run k r room one z) ∙ record-is k r (theirs-record one .event) (theirs-record one .held)
 
 -- records in turn, and then others
 in-order : (k : Card) (rs : List (List ℕ)) (room : ℕ) → EachTaken k rs room → inTurn k rs [] room .state ≡ afterAll k (eventsIn rs)
@@ -179,7 +184,7 @@ module _ (g : Given) (C : Chosen g) (c : Core) (M : Meets g c) (state : List ℕ
   start = cardIn (settingsIn g) state
 
   ready : ReadyCard start
-  ready = card-ready (settingsIn g) state (L .bytes .0) (L .good)
+  ready = card-ready (settingsIn g) state (L .bytes .0) (theirs-state (L .good))
 
   files-say : length state ≡ 21 → memoryAt ((c .run state (joined rs) replies report) .state) ≡ rememberedAfter start (eventsIn rs)
   files-say n =
@@ -187,7 +192,7 @@ module _ (g : Given) (C : Chosen g) (c : Core) (M : Meets g c) (state : List ℕ
       let o = runOf start (joined rs) (length replies) in
       let after = run-ready start (joined rs) (length replies) ready (L .bytes .1) in
       ap memoryAt (M .run state (joined rs) replies report (L .bytes .0) (L .bytes .1) (L .bytes .2) (L .bytes .3) .state-is
-      ∙ ap (λ (x : Called). x .state) (good (g .mode) (g .rule) state (joined rs) replies report (L .nine) (C .mode) (C .rule) (L .good) (omega arith))
+      ∙ ap (λ (x : Called). x .state) (good (g .mode) (g .rule) state (joined rs) replies report (L .nine) (C .mode) (C .rule) (theirs-state (L .good)) (omega arith))
       ∙ ap (λ (m : ℕ). laidOut m (o .state)) n)
       ∙ two-bytes (o .state) (after .chip .stack .sixteen)
       ∙ ap (λ (k : Card). k .memory) (records-are-events start rs (length replies) (L .each))
@@ -204,7 +209,7 @@ module _ (g : Given) (C : Chosen g) (c : Core) (M : Meets g c) (state : List ℕ
       let rest = drop (length (runOf start (joined rs ++ recall) (length replies) .written)) replies in
       ap (λ (l : List ℕ). take 7 (drop (length ws) l))
       (M .run state (joined rs ++ recall) replies report (L .bytes .0) (bytes-append (joined rs) recall (L .bytes .1) (lit< tt, (lit< tt, (lit< tt, (lit< tt, tt))))) (L .bytes .2) (L .bytes .3) .replies-is
-      ∙ ap (λ (x : Called). x .replies) (good (g .mode) (g .rule) state (joined rs ++ recall) replies report (L .nine) (C .mode) (C .rule) (L .good) (omega arith))
+      ∙ ap (λ (x : Called). x .replies) (good (g .mode) (g .rule) state (joined rs ++ recall) replies report (L .nine) (C .mode) (C .rule) (theirs-state (L .good)) (omega arith))
       ∙ ap (λ (l : List ℕ). l ++ rest) w
       ∙ append-assoc ws reply rest)
       ∙ ap (take 7) (drop-append-seam ws (reply ++ rest))

@@ -11,7 +11,7 @@ use lib.Dec.{eqb, lit<, lit≤}
 use lib.ListN.{length, take, drop, getD, length-append}
 use Rattle.terms.specs.declared.Mode.the-variants.{Am9511A}
 use Rattle.terms.specs.Refusal.{numberOf}
-use Rattle.float.specs.Order.{Le}
+use Rattle.promises.specs.FloatWords.{Le}
 use Rattle.stack.specs.Stack.{Bytes, tos}
 use Rattle.stack.proofs.Words.{byte-at, bytes-append}
 use Rattle.chip.specs.declared.State.{State}
@@ -38,6 +38,8 @@ use Rattle.stored.specs.Bytes.{isState, cardIn, laidOut}
 use Rattle.stored.proofs.Cards.{card-returns, card-ready, laid-at}
 use Rattle.pundaliket.specs.Calls.{Called, ranOf, joinedOf}
 use Rattle.pundaliket.proofs.Calling.{good}
+use Rattle.promises.proofs.Measures.{theirs-state}
+use Rattle.promises.specs.StateBytes.{IsState}
 use Rattle.promises.specs.Given.{Given, Chosen, settingsIn, runCall}
 use Rattle.promises.specs.Records.{countAt}
 use Rattle.promises.specs.Chains.{Step, runEvents}
@@ -177,11 +179,12 @@ same-replies (Chip e ∷ es) ns ks ls o = ap₂ _++_ (alike e) (same-replies es 
 same-replies (Recall ∷ es) ns ks ls o = absurd o
 same-replies (Forget ∷ es) ns ks ls o = ap (λ (l : List ℕ). replyTo Forget (getD ns 0 0) 0 ++ l) (same-replies es (drop 1 ns) (drop 1 ks) (drop 1 ls) o)
 
-replies-told : (g : Given) → Chosen g → (c : Core) → Meets g c → (state : List ℕ) (es : List Event) → Bytes state → isState state ≡ true → Sendable es → Keeps state es
+replies-told : (g : Given) → Chosen g → (c : Core) → Meets g c → (state : List ℕ) (es : List Event) → Bytes state → IsState state → Sendable es → Keeps state es
     → repliesTo es (returned c state es) (codesBefore c state es) ≡ answered (cardIn (settingsIn g) state) es
-replies-told g C c M state es B i S o =
+replies-told g C c M state es B I S o =
+    let i = theirs-state I in
     let k = cardIn (settingsIn g) state in
-    let ns = cores g C c M .returns state es B i S o in
+    let ns = cores g C c M .returns state es B I S o in
     ⊎-elim
     (λ long.
     let back : laidOut 21 k ≡ state = ap (λ (n : ℕ). laidOut n k) (sym long) ∙ card-returns (settingsIn g) state i in
@@ -208,14 +211,14 @@ pub event-files : EventFiles
 event-files g C c M state es replies report S L =
     let k = cardIn (settingsIn g) state in
     let file = fileOf es in
-    let G = card-ready (settingsIn g) state (L .bytes .0) (L .good) in
+    let G = card-ready (settingsIn g) state (L .bytes .0) (theirs-state (L .good)) in
     let told = M .run state file replies report (L .bytes .0) (file-bytes es S) (L .bytes .1) (L .bytes .2) in
     let ws = repliesTo es (returned c state es) (codesBefore c state es) in
     let same : ws ≡ answered k es = replies-told g C c M state es (L .bytes .0) (L .good) S (L .told) in
     let o : fileRun k file (length replies) ≡ took (afterAll k es) (length file) ws =
     files es k (length replies) G S (subst (λ (l : List ℕ). length l ≤ length replies) same (L .room)) ∙ ap (took (afterAll k es) (length file)) (sym same) in
     let call : runCall g state file replies report ≡ ranOf (length state) (took (afterAll k es) (length file) ws) replies =
-    good (g .mode) (g .rule) state file replies report (L .nine) (C .mode) (C .rule) (L .good) (L .short) ∙ ap (λ (x : Outcome). ranOf (length state) x replies) o in
+    good (g .mode) (g .rule) state file replies report (L .nine) (C .mode) (C .rule) (theirs-state (L .good)) (L .short) ∙ ap (λ (x : Outcome). ranOf (length state) x replies) o in
     let counts = counts-exact g C state file replies report (L .nine) (L .good) (L .short) in
     record {
       result = told .result-is ∙ ap (λ (x : Called). x .result) call;

@@ -1,5 +1,5 @@
 -- Numbers and charts by computation, bytes and fields by division. Assumes nothing.
-use mathlib.Core.Path.{_≡_, refl, ap₂}
+use mathlib.Core.Path.{_≡_, refl, sym, ap₂, _∙_}
 use mathlib.Core.Logic.{⊎-elim}
 use mathlib.Core.Bool.{Bool, true, false}
 use mathlib.Core.List.{[], _∷_, map}
@@ -12,6 +12,7 @@ use Rattle.whole.proofs.Differences.{either}
 use Rattle.float.specs.Word.{negative, biased, mantissa, proper, size88, value}
 use Rattle.stack.specs.Stack.{bytesOf, lowFirst}
 use Rattle.codes.specs.Codes.{decoded}
+use Rattle.promises.proofs.Measures.{value-is}
 use Rattle.promises.specs.Figures.{chart, from, wordWith, Figures}
 
 codes : map decoded (from 128 0) ≡ chart
@@ -90,14 +91,13 @@ mantissa-is false k m M = omega arith
 -- ---- the statement
 pub figures : Figures
 figures = record {
-  limits = (refl, refl, refl, refl, refl, refl, refl, refl);
   widths = (refl, refl, refl, refl);
   refusals = refl;
   codes = codes;
   two-bytes = λ x. (refl, refl);
   four-bytes = λ x. four x;
   words-read = λ a b c d l. (omega arith, omega arith);
-  float-value = λ k m K M. (positive k m K M, minus k m K M);
+  float-value = λ k m K M. (sym (value-is (wordWith false k m)) ∙ positive k m K M, sym (value-is (wordWith true k m)) ∙ minus k m K M);
   every-word = λ w h. fields w h;
   proper-is = λ sign k m M h. leading (wordWith sign k m) (let e = mantissa-is sign k m M in omega arith);
   proper-zero = refl;

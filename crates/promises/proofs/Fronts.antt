@@ -17,20 +17,18 @@ use Rattle.records.specs.declared.head.Event.the-variants.{Push, Pop, Command, 
 use Rattle.records.specs.declared.head.Frame.the-variants.{Broken}
 use Rattle.records.specs.declared.head.Head.the-variants.{Stop}
 use Rattle.little.specs.Little.{wordAt}
-use Rattle.records.specs.Record.{answeredOf, headNumber, rowUnder, frameUnder, headIn, headOf, Holds, stopped, turnUnder, turnOf}
-use Rattle.records.specs.Run.{ended}
+use Rattle.records.specs.Record.{answeredOf, rowUnder, frameUnder, headIn, headOf, Holds, stopped, turnUnder, turnOf}
 use Rattle.files.proofs.Tests.{either-lt, either-eq}
+use Rattle.records.proofs.Single.{stopped-by}
 use Rattle.records.proofs.Heads.{short, low, high, cut, whole, head-is}
 use Rattle.files.proofs.Append.{first-stops}
 use Rattle.promises.specs.Fronts.{Stops, Fronts}
-use Rattle.promises.proofs.Records.{bad-head}
 use Rattle.records.proofs.Prefix.{lawful}
 
 -- a head that is a refusal ends the run with its number
 stops-with : (s : Card) (l : List ℕ) (room : ℕ) (r : Refusal) → headOf l ≡ Stop r → 0 < length l → 0 < numberOf r → Stops s l room (numberOf r)
 stops-with s l room r e some n =
-    let k : headNumber (headOf l) ≡ numberOf r = ap headNumber e in
-    bad-head s l room some (λ z. omega (arith, z, k)) ∙ ap (λ (m : ℕ). ended m s) k
+    first-stops lawful s l room (stopped r s) (stopped-by s l room r e) some (λ z. omega (arith, z, n))
 
 -- a frame that is broken
 broken : (l : List ℕ) (r : Refusal) → frameUnder mostPayload l ≡ Broken r → headOf l ≡ Stop r

@@ -17,6 +17,7 @@ use Rattle.host.proofs.Apart.{held-endless, held-large, held-small, endless-min
 use Rattle.host.proofs.Classes.{minus-right, minus-bits, zero-right}
 use Rattle.host.proofs.Inward.{Right, held, endless, minus, large, small, right}
 use Rattle.host.proofs.Back.{answers-word, answers-endless, answers-minus, answers-large, answers-small, word-back, bits-back}
+use Rattle.promises.proofs.Measures.{theirs-word, theirs-held, ours-held}
 use Rattle.promises.specs.Host.{outward, inward, number, Gives, ValueKept, AcceptedExactly, OneException, Answered, RefusedExactly, WordBack, FloatBack}
 
 -- the f32 of a word
@@ -29,6 +30,7 @@ again w e =
     sym (ofBits-toBits binary32 (out w) (ofBits-fits binary32 (hostBits w))) ∙ ap (λ h. ofBits binary32 (hostReply h .bits)) (sym (goes w e))
 
 pub value-kept : ValueKept
+unfolding size88
 value-kept w l = (
   λ e. (ap (λ h. number (hostReply h)) (goes w e), subst (λ (x : Float). HasValue x (negative w) (size88 w) (2 ^ 88)) (again w e) (word-value w e)),
   λ e. ap (λ h. number (hostReply h)) (stays w e),
@@ -79,11 +81,13 @@ module _ (x : Float) (r : Taken) where
 
 pub accepted-exactly : AcceptedExactly
 accepted-exactly p l w =
-    let x = ofBits binary32 p in
-    (λ g. word-given x (takenOf p) w g (right p l), λ a. gives-word x (takenOf p) w a (right p l))
+    let x = ofBits binary32 p in (
+      λ g. let a = word-given x (takenOf p) w g (right p l) in (ours-held (a .0), a .1),
+      λ a. gives-word x (takenOf p) w (theirs-held (a .0), a .1) (right p l),
+    )
 
 pub one-exception : OneException
-one-exception = (λ p l. (λ t. minus-bits binary32 p l t, λ e. minus-right binary32 p e), zero-right binary32 (2 ^ 31) refl)
+one-exception = (λ p l. (λ t. minus-bits binary32 p l t, λ e. minus-right binary32 p e), ours-held (zero-right binary32 (2 ^ 31) refl))
 
 pub refused-exactly : RefusedExactly
 refused-exactly p l =
@@ -102,7 +106,7 @@ refused-exactly p l =
         minus-large x,
         minus-small x,
         large-small x,
-        λ w a. (held-endless x w a, held-large x w a, held-small x w a),
+        λ w a. let b = theirs-held a in (held-endless x w b, held-large x w b, held-small x w b),
       ),
     )
 
@@ -110,7 +114,7 @@ pub word-comes-back : WordBack
 word-comes-back w f =
     let p = toBits binary32 (out w) in
     let e : outward w .bits ≡ p = ap (λ h. hostReply h .bits) (goes w (f .is-proper)) in
-    let b = word-back w f in
+    let b = word-back w (theirs-word f) in
     subst (λ (n : ℕ). Gives (inward n) w) (sym e) record { done = ap numberIn b; bits-are = ap bitsIn b }
 
 -- the reply to a proper word carries the bits of its f32

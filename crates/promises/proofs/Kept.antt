@@ -1,7 +1,7 @@
 -- What a call that is turned away leaves, by the way through its definition; what a bad or cut file leaves, by the runs of its whole records; and what a front of
 -- a file takes that ends with 0 the longer front takes too, by the append law. Assumes nothing.
 use mathlib.Core.Path.{_≡_, refl, sym, ap, _∙_}
-use mathlib.Core.Logic.{⊎-elim}
+use mathlib.Core.Logic.{_⊎_}
 use mathlib.Core.Bool.{Bool, true, false, cond}
 use mathlib.Core.List.{List, [], _∷_, _++_}
 use Prim.Native.Nat.{ℕ, _+_, _-_, _%_, _≤_, _<_}
@@ -9,7 +9,7 @@ use native.Mathlib.Omega.{arith}
 use lib.Dec.{eqb, lit<}
 use lib.ListN.{length, take, drop, getD, length-append, length-drop, take-append-drop}
 use lib.Seq.{length-take-le, getD-drop, getD-append-add, take-take}
-use borrow.Author.Tests.{ne-eqb, leb-true}
+use borrow.Author.Tests.{ne-eqb, leb-true, le-leb, lt-leb}
 use Rattle.little.proofs.Exact.{le4-exact}
 use Rattle.terms.specs.Refusal.{numberOf}
 use Rattle.terms.specs.declared.Rule.{Rule}
@@ -23,8 +23,8 @@ use Rattle.chip.specs.declared.Event.the-variants.{Push, Pop, Command, Status, 
 use Rattle.chip.proofs.Ready.{picked}
 use Rattle.memory.specs.declared.Event.the-variants.{Chip, Recall, Forget}
 use Rattle.memory.specs.declared.Memory.{Memory}
-use Rattle.memory.specs.Memory.{emptyMemory, isMemory, Card, CardAnswer, unlessBusy as unlessCardBusy}
-use Rattle.memory.proofs.Good.{memory-cases, marked-memory, ReadyCard, event-fair}
+use Rattle.memory.specs.Memory.{emptyMemory, Card, CardAnswer, unlessBusy as unlessCardBusy}
+use Rattle.memory.proofs.Good.{ReadyCard, event-fair}
 use Rattle.terms.specs.declared.Refusal.the-variants.{BadState, BadMode, BadRule}
 use Rattle.stack.specs.Stack.{Bytes, topByte}
 use Rattle.stack.proofs.Words.{bytes-take, byte-at}
@@ -33,20 +33,22 @@ use Rattle.codes.specs.declared.Kind.the-variants.{Known, Derived, Unknown}
 use Rattle.codes.specs.Codes.{sr, decoded}
 use Rattle.files.proofs.Tests.{either-lt, either-eq}
 use Rattle.files.proofs.Append.{nothing, appended}
-use Rattle.files.proofs.Through.{tally, up-to-stop, stops-there}
+use Rattle.files.proofs.Through.{tally, up-to-stop}
 use Rattle.files.proofs.Cut.{cut-anywhere}
 use Rattle.records.specs.Run.{Outcome, runOf}
 use Rattle.records.proofs.Prefix.{lawful}
 use Rattle.records.proofs.Ready.{run-ready}
 use Rattle.stored.specs.Bytes.{isState, memoryIn, cardIn, laidOut}
-use Rattle.stored.proofs.States.{state-stands, stands-state}
 use Rattle.stored.proofs.Cards.{card-returns, card-ready, laid-length, laid-state}
 use Rattle.pundaliket.specs.Calls.{Called, ranOf, callOf, Signal, signalOf, signalBy, unsent, answerToKind, Sent, sentOf}
 use Rattle.pundaliket.proofs.Calling.{bad-state, too-long, good}
-use Rattle.promises.specs.Given.{Given, Chosen, settingsIn, runCall}
+use Rattle.promises.specs.Given.{Given, Chosen, settingsIn, runCall, eventCall}
+use Rattle.promises.specs.StateBytes.{IsState}
 use Rattle.promises.specs.Records.{countAt}
-use Rattle.promises.specs.Kept.{NoReport, NoState, LongInput, Remembers, Stands, GoodStates, StateReturns, EmptyInput, EventKept, OutKept, StateStays, StateStaysEvent, RepliesStay, StopsThere, BadFile, CutCall, CutFile, LastEnd}
+use Rattle.promises.specs.Kept.{NoReport, NoState, LongInput, GoodStates, StateReturns, EmptyInput, EventKept, OutKept, StateStays, StateStaysEvent, RepliesStay, StopsThere, BadFile, CutCall, CutFile, LastEnd}
+use Rattle.promises.proofs.Measures.{ours-state, theirs-state, no-state-is}
 use Rattle.promises.proofs.Records.{counts-exact}
+use Rattle.promises.proofs.RunCall.{stops-on}
 
 -- ---- a call that is turned away
 
@@ -55,46 +57,17 @@ unfolding callOf
 no-report g state input replies report a = rw (ne-eqb (length report) 9 a)
 
 pub no-state : NoState
-no-state g C state input replies report a b = bad-state (g .mode) (g .rule) state input replies report a (C .mode) (C .rule) b
+no-state g C state input replies report a b = bad-state (g .mode) (g .rule) state input replies report a (C .mode) (C .rule) (no-state-is state b)
 
 pub long-input : LongInput
-long-input g C state input replies report a b d = too-long (g .mode) (g .rule) state input replies report a (C .mode) (C .rule) b d
-
--- the two bytes of a memory, test by test
-pub remembers : (bits code : ℕ) → isMemory bits code ≡ true → Remembers bits code
-remembers bits code h =
-    ⊎-elim
-    (λ z. let b = z .0 in record { in-places = omega arith; even = omega arith; no-code = λ e. z .1; no-bits = λ e. z .0 })
-    (λ m. record { in-places = m .in-places; even = m .even; no-code = λ e. absurd (m .some e); no-bits = λ e. absurd (m .coded e) })
-    (memory-cases bits code h)
-
-is-memory : (bits code : ℕ) → Remembers bits code → isMemory bits code ≡ true
-is-memory bits code h =
-    either-eq (λ (x : ℕ). isMemory bits code ≡ true) bits 0 0 0 (λ e. rw (e, h .no-code e))
-    (λ n. marked-memory bits code (record { in-places = h .in-places; even = h .even; some = n; coded = λ e. n (h .no-bits e) }))
-
--- the tests of a state, passed
-stands : (l : List ℕ) → isState l ≡ true → Stands l
-stands l h =
-    let g = state-stands l h in
-    record { size = g .size; pending = g .chip .pending; ready = g .chip .ready; service = g .chip .service; memory = λ n. remembers (getD l 19 0) (getD l 20 0) (g .memory n) }
-
-pub good-states : GoodStates
-good-states l = (
-  stands l,
-  λ h. stands-state l (record {
-    size = h .size;
-    chip = record { pending = h .pending; ready = h .ready; service = h .service };
-    memory = λ n. is-memory (getD l 19 0) (getD l 20 0) (h .memory n);
-  }),
-)
+long-input g C state input replies report a b d = too-long (g .mode) (g .rule) state input replies report a (C .mode) (C .rule) (theirs-state b) d
 
 pub state-returns : StateReturns
-state-returns = card-returns
+state-returns on l S = card-returns on l (theirs-state S)
 
 pub empty-input : EmptyInput
 empty-input g C state replies report a b =
-    good (g .mode) (g .rule) state [] replies report a (C .mode) (C .rule) b (omega arith) ∙ rw (nothing lawful (cardIn (settingsIn g) state) (length replies), state-returns (settingsIn g) state b)
+    good (g .mode) (g .rule) state [] replies report a (C .mode) (C .rule) (theirs-state b) (omega arith) ∙ rw (nothing lawful (cardIn (settingsIn g) state) (length replies), state-returns (settingsIn g) state b)
 
 pub out-kept : OutKept
 unfolding sentOf
@@ -154,10 +127,11 @@ replies-stay g state input replies report =
 pub stops-at : StopsThere
 stops-at s l room z =
     let r = tally lawful s l room .range z in
-    (r .0, r .1, stops-there lawful s l room z)
+    (r .0, r .1, stops-on s l room z (runOf s l room .state))
 
 pub bad-file : BadFile
-bad-file g C state input replies report a b d =
+bad-file g C state input replies report a S d =
+    let b = theirs-state S in
     let s = cardIn (settingsIn g) state in
     let room = length replies in
     let o = runOf s input room in
@@ -224,7 +198,7 @@ last-end g state input replies report z k n most c m up w =
     let lk = length-take-le k input most in
     let lm = length-take-le m input (omega arith) in
     let taken : countAt (runCall g state (take k input) replies report .report) 1 ≡ runOf s (take k input) room .taken =
-    counts-exact g (is .3) state (take k input) replies report (is .0) (is .1) (omega arith) .0 in
+    counts-exact g (is .3) state (take k input) replies report (is .0) (ours-state (is .1)) (omega arith) .0 in
     let ends : countAt (runCall g state (take k input) replies report .report) 1 ≡ n =
     count-after (runCall g state (take k input) replies report .report) ∙ ap (λ (l : List ℕ). countAt l 0) (c .counts-are)
     ∙ sym (count-after (runCall g state (take n input) replies report .report)) ∙ c .whole-taken in
@@ -306,13 +280,15 @@ event-kept g state kind byte bytes = by (isMode (g .mode)) (isRule (g .rule)) (i
 -- ---- a state stays a state
 
 pub state-stays : StateStays
-state-stays g state input replies report h i b =
-    calls g state input replies report (λ c. (isState (c .state) ≡ true) × (length (c .state) ≡ length state)) (λ c a. (ap isState (a .1) ∙ b, ap length (a .1)))
+state-stays g state input replies report h i S =
+    let b = theirs-state S in
+    let stays = calls g state input replies report (λ c. (isState (c .state) ≡ true) × (length (c .state) ≡ length state)) (λ c a. (ap isState (a .1) ∙ b, ap length (a .1)))
     (λ n C d m.
     let k = runOf (cardIn (settingsIn g) state) input (length replies) .state in
     let r = run-ready (cardIn (settingsIn g) state) input (length replies) (card-ready (settingsIn g) state h b) i in
-    let z = stands state b .size in
-    (laid-state k r (length state) z, laid-length k (r .chip .stack .sixteen) (length state) z))
+    let z = S .size in
+    (laid-state k r (length state) z, laid-length k (r .chip .stack .sixteen) (length state) z)) in
+    (ours-state (stays .0), stays .1)
 
 -- a single event
 pub event-ready : (c : Card) (kind byte : ℕ) → byte < 256 → ReadyCard c → ReadyCard (answerToKind c kind byte .card)
@@ -329,12 +305,12 @@ event-ready c kind byte h r =
     Left : CardAnswer → Type 0
     Left a = ReadyCard (a .card)
 
-pub state-stays-event : StateStaysEvent
+event-stays : (g : Given) (state : List ℕ) (kind byte : ℕ) → Bytes state → byte < 256 → isState state ≡ true → (length state ≡ 19) ⊎ (length state ≡ 21)
+    → (isState (eventCall g state kind byte .state) ≡ true) × (length (eventCall g state kind byte .state) ≡ length state)
 unfolding signalOf
-state-stays-event g state kind byte h i b =
+event-stays g state kind byte h i b z =
     let a = answerToKind (cardIn (settingsIn g) state) kind byte in
     let r = event-ready (cardIn (settingsIn g) state) kind byte i (card-ready (settingsIn g) state h b) in
-    let z = stands state b .size in
     rw b (by (isMode (g .mode)) (isRule (g .rule)) _ (either-eq (λ (l : List ℕ). (isState l ≡ true) × (length l ≡ length state)) (numberOf (a .refusal)) 0 (laidOut (length state) (a .card)) state
     (λ y. (laid-state (a .card) r (length state) z, laid-length (a .card) (r .chip .stack .sixteen) (length state) z)) (λ y. (b, refl))))
   where
@@ -343,3 +319,28 @@ state-stays-event g state kind byte h i b =
     by true true t q = q
     by true false t q = (b, refl)
     by false y t q = (b, refl)
+
+pub state-stays-event : StateStaysEvent
+state-stays-event g state kind byte h i S =
+    let stays = event-stays g state kind byte h i (theirs-state S) (S .size) in
+    (ours-state (stays .0), stays .1)
+
+-- ---- which bytes are taken
+-- an acknowledge of a state that is taken
+acknowledged : (g : Given) → Chosen g → (state : List ℕ) → IsState state → eventCall g state 6 0 .result ≡ 0
+unfolding signalOf acknowledgeOf
+acknowledged g C state S =
+    rw (le-leb (g .mode) 1 (C .mode), le-leb (g .rule) 1 (C .rule), theirs-state S, lt-leb 128 (getD state 17 0) (S .ready))
+
+-- and of any other
+unacknowledged : (g : Given) → Chosen g → (state : List ℕ) → (IsState state → ⊥) → eventCall g state 6 0 .result ≡ 3328
+unfolding signalOf
+unacknowledged g C state n = rw (le-leb (g .mode) 1 (C .mode), le-leb (g .rule) 1 (C .rule), no-state-is state n)
+
+pub good-states : GoodStates
+good-states g C state replies report n = (
+  λ S. ap (λ (c : Called). c .result) (empty-input g C state replies report n S),
+  λ N. ap (λ (c : Called). c .result) (no-state g C state [] replies report n N),
+  acknowledged g C state,
+  unacknowledged g C state,
+)

@@ -1,6 +1,9 @@
 -- The statements' proofs, each file under its spec's name.
+pub mod Measures
+pub mod Remembered
 pub mod Determined
 pub mod Refusals
+pub mod RecordFiles
 pub mod Records
 pub mod Kept
 pub mod Commands
@@ -17,6 +20,7 @@ pub mod SmallCalls
 pub mod Pending
 pub mod EventFiles
 pub mod TwosComplement
+pub mod PrintedText
 pub mod Listings
 pub mod Figures
 pub mod Format
@@ -34,4 +38,10 @@ pub mod Serial
 pub mod Doubles
 pub mod DoubleBench
 pub mod WrongConverters
+pub mod FormulaText
+pub mod Translations
 pub mod Formulas
+pub mod ChainFiles
+pub mod RunRows
+pub mod EventRows
+pub mod CallRows

@@ -20,11 +20,14 @@ use Rattle.files.proofs.Through.{tally}
 use Rattle.stored.specs.Bytes.{isState}
 use Rattle.pundaliket.specs.Calls.{Called, ranOf}
 use Rattle.pundaliket.proofs.Calling.{too-long, good}
-use Rattle.listing.specs.Text.{digit, spelled, decimal}
+use Rattle.listing.specs.Text.{spelled as their-spelled, decimal as their-decimal}
+use Rattle.promises.specs.PrintedText.{digit, spelled, decimal}
+use Rattle.promises.proofs.PrintedText.{decimal-is}
 use Rattle.listing.specs.Listing.{dataText, lineOf, endOf, replyKind, replyRefusal, replySize, replyData, linesUpTo, hasReply, linesOf, listingOf, printedOf}
 use Rattle.little.proofs.Exact.{two-bytes}
 use Rattle.listing.proofs.Listed.{reply-listed, core-kind}
 use Rattle.printout.specs.Printout.{callFor, printoutOf}
+use Rattle.promises.proofs.RecordFiles.{theirs-record}
 use Rattle.promises.specs.Records.{joined, EachTaken, repliesOf, total, lengths}
 use Rattle.promises.specs.Listings.{valueOf, Digits, Decimal, hexText, recordLine, linesFor, lastLine, fresh, Listings}
 use Rattle.promises.proofs.Records.{record-run}
@@ -53,18 +56,23 @@ lines-are [] s room number h = refl
 lines-are (r ∷ rs) s room number h =
     let o = runOf s r room in
     let one = h .0 in
-    let e = one .event in
+    let e = theirs-record one .event in
     let n = numberOf (answerOf s (drop 4 r) e .refusal) in
     let w : o .written ≡ replyOf (kindOf e) n (dataOf s e) = ap (λ (p : Outcome). p .written) (record-run s r room one (h .1)) in
     let more = joined (repliesOf (o .state) rs (room - length (o .written))) in
     ap (λ (l : List ℕ). linesOf number (l ++ more)) w
     ∙ reply-listed number (kindOf e) n (dataOf s e) more (low e)
-    ∙ ap₂ (λ (x y : List ℕ). x ++ y) (line r (kindOf e) n (dataOf s e) (o .written) (one .held .kind-is) w) (lines-are rs (o .state) (room - length (o .written)) (number + 1) (h .2))
+    ∙ ap₂ (λ (x y : List ℕ). x ++ y) (line r (kindOf e) n (dataOf s e) (o .written) (theirs-record one .held .kind-is) w) (lines-are rs (o .state) (room - length (o .written)) (number + 1) (h .2))
   where
     line : (r : List ℕ) (kind n : ℕ) (bytes reply : List ℕ) → getD r 2 0 + getD r 3 0 * 256 ≡ kind → reply ≡ replyOf kind n bytes → lineOf number kind n bytes ≡ recordLine number r reply
     line r kind n bytes reply k w =
-        ap (λ (t : List ℕ). decimal number ++ ((32 ∷ decimal kind) ++ ((32 ∷ decimal n) ++ (t ++ (10 ∷ []))))) (data-same bytes)
+        ap (λ (t : List ℕ). their-decimal number ++ ((32 ∷ their-decimal kind) ++ ((32 ∷ their-decimal n) ++ (t ++ (10 ∷ []))))) (data-same bytes)
+        ∙ ap (λ (t : List ℕ). t ++ ((32 ∷ their-decimal kind) ++ ((32 ∷ their-decimal n) ++ (hexText bytes ++ (10 ∷ []))))) (decimal-is number)
+        ∙ ap₂ (λ (t u : List ℕ). decimal number ++ ((32 ∷ t) ++ ((32 ∷ u) ++ (hexText bytes ++ (10 ∷ []))))) (decimal-is kind) (decimal-is n)
         ∙ ap₂ (λ (x : ℕ) (l : List ℕ). decimal number ++ ((32 ∷ decimal x) ++ ((32 ∷ decimal (getD l 4 0)) ++ (hexText (drop 5 l) ++ (10 ∷ []))))) (sym k) (sym w)
+
+last-is : (refusal taken : ℕ) → endOf refusal taken ≡ lastLine refusal taken
+last-is refusal taken = ap₂ (λ (t u : List ℕ). 101 ∷ 110 ∷ 100 ∷ ((32 ∷ t) ++ ((32 ∷ u) ++ (10 ∷ [])))) (decimal-is refusal) (decimal-is taken)
 
 -- ---- the call, and what is printed of it
 count-back : (n : ℕ) → n < 4294967296 → n % 256 + n / 256 % 256 * 256 + n / 65536 % 256 * 65536 + n / 16777216 % 256 * 16777216 ≡ n
@@ -92,7 +100,7 @@ module _ (input : List ℕ) where
       ∙ ap (λ (l : List ℕ). listingOf l (o .refusal) (o .taken)) (take-append-seam w (drop (length w) (replicate 65536 0)))
 
   long-is : 12288 < length input → printoutOf input ≡ 101 ∷ 110 ∷ 100 ∷ 32 ∷ 57 ∷ 32 ∷ 48 ∷ 10 ∷ []
-  unfolding linesUpTo hasReply spelled
+  unfolding linesUpTo hasReply their-spelled
   long-is h = ap (λ (c : Called). printedOf (c .replies) (c .report)) (too-long 0 0 (replicate 19 0) input (replicate 65536 0) (replicate 9 0) refl (lit≤ tt) (lit≤ tt) fresh-good h)
 
 -- ---- characters
@@ -152,7 +160,7 @@ listings = record {
   printed = λ input h p.
       text-is input h
       ∙ ap₂ (λ (l : List ℕ) (n : ℕ). linesOf 1 l ++ endOf (runOf fresh input 65536 .refusal) n) (p .replies) (p .taken)
-      ∙ ap (λ (l : List ℕ). l ++ lastLine (runOf fresh input 65536 .refusal) (total (lengths (p .records)))) (lines-are (p .records) fresh 65536 1 (p .each));
+      ∙ ap₂ (λ (l m : List ℕ). l ++ m) (lines-are (p .records) fresh 65536 1 (p .each)) (last-is (runOf fresh input 65536 .refusal) (total (lengths (p .records))));
   long = λ input h. long-is input h;
   read-back = λ kind refusal bytes rest h. read-back kind refusal bytes rest h;
   characters = record { decimals = λ n h. spells 20 n h; hex-digits = refl };

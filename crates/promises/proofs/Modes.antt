@@ -41,7 +41,9 @@ use Rattle.stored.specs.Bytes.{isState, stateOf, memoryIn, cardIn}
 use Rattle.pundaliket.specs.Calls.{Called, Signal, ranOf, away, callUnder, signalBy, signalUnder, unsent, answerToKind}
 use Rattle.pundaliket.proofs.Calling.{run-chosen, event-chosen, bad-mode, no-mode}
 use Rattle.promises.specs.Given.{Given, Chosen, settingsIn, runCall, eventCall}
-use Rattle.promises.specs.Records.{IsRecord, joined, EachTaken, repliesOf, inTurn, Split}
+use Rattle.promises.specs.RecordFiles.{IsRecord}
+use Rattle.promises.proofs.RecordFiles.{theirs-record}
+use Rattle.promises.specs.Records.{joined, EachTaken, repliesOf, inTurn, Split}
 use Rattle.promises.specs.Modes.{NoMode, wordOf, Stood, OlderReset, OlderResets, NoReset, SameRun, ModesAlike}
 use Rattle.promises.proofs.Records.{in-turn, recorded, record-run, record-runs}
 use Rattle.promises.proofs.RunCall.{after-joined, stops-on}
@@ -140,13 +142,13 @@ module _ (by : Settings) where
       go false e = rw e
 
   -- its kind, by the byte that says it
-  other-kind : (r : List ℕ) (one : IsRecord r) → (getD r 2 0 ≡ 5 → ⊥) → kindOf (one .event) ≡ 5 → ⊥
-  other-kind r one z e = let k = one .held .kind-is in z (omega arith)
+  other-kind : (r : List ℕ) (one : IsRecord r) → (getD r 2 0 ≡ 5 → ⊥) → kindOf (theirs-record one .event) ≡ 5 → ⊥
+  other-kind r one z e = let k = theirs-record one .held .kind-is in z (omega arith)
 
   one-told : (c : Card) (r : List ℕ) (room : ℕ) (one : IsRecord r) → c .on .rule ≡ by .rule → (getD r 2 0 ≡ 5 → ⊥) → runOf c r room .refusal ≡ 0
       → runOf (over c) r room ≡ retold (runOf c r room)
   one-told c r room one q z t =
-      record-runs c (over c) r room one t ∙ told c r (one .event) q (other-kind r one z) ∙ sym (ap retold (record-run c r room one t))
+      record-runs c (over c) r room one t ∙ told c r (theirs-record one .event) q (other-kind r one z) ∙ sym (ap retold (record-run c r room one t))
 
   -- it leaves the settings
   same-settings : (c : Card) (p : List ℕ) (e : Event) → answerOf c p e .card .on ≡ c .on
@@ -161,7 +163,7 @@ module _ (by : Settings) where
 
   same-rule : (c : Card) (r : List ℕ) (room : ℕ) (one : IsRecord r) → c .on .rule ≡ by .rule → runOf c r room .refusal ≡ 0 → runOf c r room .state .on .rule ≡ by .rule
   same-rule c r room one q t =
-      ap (λ (o : Outcome). o .state .on .rule) (record-run c r room one t) ∙ ap (λ (x : Settings). x .rule) (same-settings c (drop 4 r) (one .event)) ∙ q
+      ap (λ (o : Outcome). o .state .on .rule) (record-run c r room one t) ∙ ap (λ (x : Settings). x .rule) (same-settings c (drop 4 r) (theirs-record one .event)) ∙ q
 
   -- the room that records in turn leave
   abbrev roomAfter : Card → List (List ℕ) → ℕ → ℕ

@@ -1,43 +1,62 @@
 -- What is nearest, and what each operation and the root give under either rule: each sentence is a law of the crate float, over the rule. Assumes nothing.
-use mathlib.Core.Path.{refl}
+use mathlib.Core.Path.{_≡_, refl}
+use mathlib.Core.List.{_++_}
 use Rattle.terms.specs.declared.Rule.{Rule}
+use Rattle.terms.specs.declared.Rule.the-variants.{Cut, Nearest}
 use Rattle.float.proofs.RulePair.{a-pair-by, one-pair-by}
 use Rattle.float.proofs.NoNearer.{no-nearer}
-use Rattle.float.proofs.Steps.{add-exactly, sub-exactly, mul-exactly, div-exactly, div-by-zero}
+use Rattle.float.proofs.Steps.{div-by-zero}
 use Rattle.float.proofs.Results.{add-result, sub-result, mul-result, div-result, fltd-result}
-use Rattle.float.proofs.Conversions.{fltd-exactly, fltd-no-error, flts-either}
+use Rattle.float.proofs.Conversions.{fltd-no-error}
 use Rattle.float.proofs.RootExact.{one-root-by, root-exactly}
+use Rattle.codes.specs.Codes.{decoded}
+use Rattle.chip.specs.Step.{carried, commandUnder}
+use Rattle.promises.specs.Stack.{bytesOf, zeros}
+use Rattle.promises.specs.BusEvents.{resetState, piWord}
 use Rattle.promises.specs.Nearest.{ByRule, NearestResults}
-use Rattle.promises.proofs.Exact.{sum-kept, difference-kept, product-kept, quotient-kept}
+use Rattle.promises.proofs.Measures.{theirs-word, ours-word, theirs-pair, ours-pair, theirs-near-pair, theirs-root, ours-exactly-root}
+use Rattle.promises.proofs.Exact.{sum-exact, difference-exact, product-exact, quotient-exact, fltd-exact, flts-brought, sum-kept, difference-kept, product-kept, quotient-kept}
 
 by-rule : (rule : Rule) → ByRule rule
 by-rule rule = record {
-  pair = record { exists = a-pair-by rule; only = one-pair-by rule };
+  pair = record {
+    exists = λ n d N D. let p = a-pair-by rule n d N D in (p .0, p .1, ours-pair rule n d (p .0) (p .1) (p .2));
+    only = λ n d m m' e e' D P Q. one-pair-by rule n d m m' e e' D (theirs-pair rule n d m e P) (theirs-pair rule n d m' e' Q);
+  };
   operations = record {
-    sum = λ b a B A. add-exactly rule b a;
-    difference = λ b a B A. sub-exactly rule b a;
-    product = λ b a B A. mul-exactly rule b a (B .is-proper) (A .is-proper);
-    quotient = λ b a B A nz. div-exactly rule b a (B .is-proper) (A .is-proper) nz;
+    sum = λ b a B A. sum-exact rule b a;
+    difference = λ b a B A. difference-exact rule b a;
+    product = product-exact rule;
+    quotient = quotient-exact rule;
     by-zero = λ b a A z. div-by-zero rule b a z;
   };
   words = record {
-    proper-sum = λ b a. (add-result rule b a .word, sub-result rule b a .word);
-    proper-product = λ b a. mul-result rule b a .word;
-    proper-quotient = λ b a B. div-result rule b a B .word;
+    proper-sum = λ b a. (ours-word (add-result rule b a .word), ours-word (sub-result rule b a .word));
+    proper-product = λ b a. ours-word (mul-result rule b a .word);
+    proper-quotient = λ b a B. ours-word (div-result rule b a (theirs-word B) .word);
     sum-kept = sum-kept rule;
     difference-kept = difference-kept rule;
     product-kept = product-kept rule;
     quotient-kept = quotient-kept rule;
   };
   conversions = record {
-    fltd-brought = fltd-exactly rule;
+    fltd-brought = fltd-exact rule;
     no-error = fltd-no-error rule;
-    proper-float = λ a. fltd-result rule a .word;
-    flts-either = flts-either rule;
+    proper-float = λ a. ours-word (fltd-result rule a .word);
+    flts-either = flts-brought rule;
   };
-  root = record { only = one-root-by rule; found = λ a A. root-exactly rule a (A .is-proper) };
+  root = record {
+    only = λ n m m' e e' P Q. one-root-by rule n m m' e e' (theirs-root rule n m e P) (theirs-root rule n m' e' Q);
+    found = λ a A. ours-exactly-root rule (root-exactly rule a (A .is-proper));
+  };
 }
+
+-- PUPI on an empty stack
+pi : (rule : Rule) → (commandUnder rule resetState 0x1a) .state .stack ≡ bytesOf 4 (piWord rule) ++ zeros 12
+unfolding commandUnder carried decoded
+pi Cut = refl
+pi Nearest = refl
 
 -- ---- the statement
 pub nearest : NearestResults
-nearest = record { either = by-rule; no-nearer = no-nearer; pi = (refl, refl) }
+nearest = record { either = by-rule; no-nearer = λ n d m e P. no-nearer n d m e (theirs-near-pair P); pi = pi }

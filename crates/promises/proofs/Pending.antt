@@ -29,11 +29,11 @@ use Rattle.memory.specs.History.{afterAll}
 use Rattle.memory.proofs.Kept.{chip-alone}
 use Rattle.stored.specs.Bytes.{stateOf, cardIn, flagOf}
 use Rattle.stored.proofs.Cards.{card-ready, laid-at}
+use Rattle.promises.proofs.Measures.{theirs-stack, theirs-state}
 use Rattle.promises.specs.Cores.{Sendable, onBus}
 use Rattle.promises.specs.Given.{settingsIn}
 use Rattle.promises.specs.Pending.{Answers, stateWith, movedSince, Odd, Bus, PendingByte, BusEvents}
 use Rattle.promises.proofs.Refusals.{numbers}
-use Rattle.promises.proofs.Kept.{good-states}
 use Rattle.promises.proofs.Cores.{all-good, cores}
 
 module _ (l : List ℕ) (p : Bool) (u : ℕ) (v : Bool) (h : u < 128) where
@@ -135,7 +135,7 @@ bus on = record {
   acknowledge-leaves = λ l p u v h. acknowledges l p u v h;
   read-leaves = λ l p u v h. reads l p u v h;
   busy-answers = λ e l p u v h. busies on e l p u v h;
-  half-pending = λ s n es S h sent o. parity on es s n (record { stack = S; ready = h }) sent o;
+  half-pending = λ s n es S h sent o. parity on es s n (record { stack = theirs-stack S; ready = h }) sent o;
 }
 
 pub bus-events : BusEvents
@@ -155,9 +155,9 @@ odd-flag false n o = either-eq (λ (x : ℕ). 0 ≡ n % 2) (n % 2) 0 0 0 (λ e. 
 
 pub pending-byte : PendingByte
 pending-byte g C c M state es B i S =
-    let r = card-ready (settingsIn g) state B i in
+    let r = card-ready (settingsIn g) state B (theirs-state i) in
     let k = afterAll (cardIn (settingsIn g) state) (onBus es) in
-    let o = parity (settingsIn g) es (stateOf state) (getD state 16 0) (r .chip) S (flag-odd (getD state 16 0) (good-states state .0 i .pending)) in
+    let o = parity (settingsIn g) es (stateOf state) (getD state 16 0) (r .chip) S (flag-odd (getD state 16 0) (i .pending)) in
     ap (λ (l : List ℕ). getD l 16 0) (cores g C c M .states state (onBus es) B i S)
     ∙ laid-at k (all-good (onBus es) (cardIn (settingsIn g) state) r S .chip .stack .sixteen) (length state) 0
     ∙ ap (λ (s : State). flagOf (s .pending)) (chip-alone (cardIn (settingsIn g) state) es)

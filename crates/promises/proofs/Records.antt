@@ -1,7 +1,7 @@
 -- The append law over a list of records, every file split at its whole records, the counts, and one record of each kind. Assumes nothing.
-use mathlib.Core.Path.{_≡_, refl, sym, ap, _∙_}
+use mathlib.Core.Path.{_≡_, refl, sym, ap, _∙_, subst}
 use mathlib.Core.List.{List, [], _∷_, _++_, append-assoc}
-use Prim.Native.Nat.{ℕ, _+_, _-_}
+use Prim.Native.Nat.{ℕ, _+_, _-_, _≤_, _<_}
 use native.Mathlib.Omega.{arith}
 use native.Mathlib.Nat.{sub-zero}
 use lib.ListN.{length, take, drop, length-append, take-append-drop}
@@ -19,9 +19,10 @@ use Rattle.files.proofs.Through.{through, tally}
 use Rattle.records.specs.declared.head.Event.{Event}
 use Rattle.records.specs.declared.head.Head.{Head}
 use Rattle.records.specs.declared.head.Head.the-variants.{Whole, Stop}
-use Rattle.records.specs.Record.{kindOf, payloadOf, answeredOf, headNumber, headOf, answerOf, dataOf, replyOf, stopped, turnOf}
+use Rattle.records.specs.Record.{kindOf, payloadOf, answeredOf, headOf, answerOf, dataOf, replyOf, stopped, turnOf}
 use Rattle.records.specs.Run.{Outcome, ended, took, after, runOf}
 use Rattle.terms.specs.Limits.{mostPayload}
+use Rattle.records.proofs.Heads.{heads}
 use Rattle.records.proofs.Steps.{steps}
 use Rattle.records.proofs.Prefix.{holds-too, within, lawful}
 use Rattle.records.proofs.Single.{one-turn, no-turn, stopped-by, push-alone, pop-alone, command-alone, status-alone, reset-alone, acknowledge-alone, recall-alone, forget-alone}
@@ -29,7 +30,10 @@ use Rattle.records.proofs.Ready.{event-fair, run-ready}
 use Rattle.stored.specs.Bytes.{cardIn}
 use Rattle.pundaliket.proofs.Calling.{good}
 use Rattle.promises.specs.Given.{settingsIn}
-use Rattle.promises.specs.Records.{IsRecord, joined, EachTaken, repliesOf, InTurn, EachSmall, InReply, Split, Counted, CountsExact, PushRecord, PopRecord, CommandRecord, StatusRecord, ResetRecord, AcknowledgeRecord, RecallRecord, ForgetRecord, NoRoomRecord, BadHead}
+use Rattle.promises.proofs.Measures.{theirs-stack, theirs-memory, theirs-state}
+use Rattle.promises.specs.RecordFiles.{IsRecord}
+use Rattle.promises.proofs.RecordFiles.{Whole as Record, theirs-record, data-is, ours-record}
+use Rattle.promises.specs.Records.{joined, EachTaken, repliesOf, InTurn, EachSmall, InReply, Split, Counted, CountsExact, PushRecord, PopRecord, CommandRecord, StatusRecord, ResetRecord, AcknowledgeRecord, RecallRecord, ForgetRecord, NoRoomRecord, BadHead}
 
 -- ---- records in turn
 
@@ -46,9 +50,9 @@ in-turn s (r ∷ rs) rest room h =
 -- ---- every file is split
 
 -- the bytes of a record that is taken are a record
-is-record : (s : Card) (l : List ℕ) (room : ℕ) → turnOf s l room .refusal ≡ 0 → IsRecord (take (turnOf s l room .size) l)
+is-record : (s : Card) (l : List ℕ) (room : ℕ) → turnOf s l room .refusal ≡ 0 → Record (take (turnOf s l room .size) l)
 is-record s l room =
-    steps (λ t. t .refusal ≡ 0 → IsRecord (take (t .size) l)) s l room (λ r a b z. let y : ⊥ = omega arith in absurd y)
+    steps (λ t. t .refusal ≡ 0 → Record (take (t .size) l)) s l room (λ r a b z. let y : ⊥ = omega arith in absurd y)
     (λ e h g z.
     let n = length-take-le (4 + payloadOf e) l (h .there) in
     record {
@@ -93,7 +97,7 @@ counted =
       records = r ∷ h .records;
       rest = h .rest;
       parts = sym (take-append-drop (t .size) l) ∙ ap (λ (k : List ℕ). r ++ k) (h .parts) ∙ sym (append-assoc r (joined (h .records)) (h .rest));
-      each = (is-record s l room z, rw one, rw one (h .each));
+      each = (ours-record (is-record s l room z), rw one, rw one (h .each));
       replies = rw one (ap (λ (k : List ℕ). t .reply ++ k) (h .replies));
       taken = omega (arith, n, h .taken);
       written = rw (g, one) (omega (arith, h .written));
@@ -104,7 +108,8 @@ counted =
 -- ---- the report's counts
 
 pub counts-exact : CountsExact
-counts-exact g C state input replies report a b d =
+counts-exact g C state input replies report a S d =
+    let b = theirs-state S in
     let o = runOf (cardIn (settingsIn g) state) input (length replies) in
     let t = tally lawful (cardIn (settingsIn g) state) input (length replies) in
     let i = t .in-file in
@@ -114,14 +119,22 @@ counts-exact g C state input replies report a b d =
 -- ---- one whole record
 
 pub no-room-record : NoRoomRecord
-no-room-record s r room one g = no-turn s r room (one .event) (one .held) (one .size) g
+no-room-record s r room one g =
+    let w = theirs-record one in
+    no-turn s r room (w .event) (w .held) (w .size) (subst (λ (n : ℕ). room < 5 + n) (sym (data-is one)) g)
 
 pub bad-head : BadHead
-bad-head s l room some z = by (headOf l) refl z
-  where
-    by : (h : Head) → headOf l ≡ h → (headNumber h ≡ 0 → ⊥) → runOf s l room ≡ ended (headNumber h) s
-    by (Whole e) is n = absurd (n refl)
-    by (Stop r) is n = first-stops lawful s l room (stopped r s) (stopped-by s l room r is) some n
+bad-head s l room some without = heads {most = mostPayload} (λ (h : Head). headOf l ≡ h → (n : ℕ) × (5 ≤ n) × (n ≤ 7) × (runOf s l room ≡ ended n s))
+    (λ r g e. (numberOf r, g .0, g .1, first-stops lawful s l room (stopped r s) (stopped-by s l room r e) some (λ z. let y = g .0 in absurd (omega arith))))
+    l
+    (λ e h i.
+    let n = length-take-le (4 + payloadOf e) l (h .there) in
+    absurd (without (take (4 + payloadOf e) l) (drop (4 + payloadOf e) l) (ours-record (record {
+      event = e;
+      held = holds-too e l (take (4 + payloadOf e) l) (sym (take-take (4 + payloadOf e) (4 + payloadOf e) l (omega arith))) (omega arith) h;
+      size = n;
+    })) (sym (take-append-drop (4 + payloadOf e) l))))
+    refl
 
 -- ---- one record of each kind
 
@@ -157,16 +170,16 @@ recorded s r e =
     took (answerOf s (drop 4 r) e .card) (4 + payloadOf e) (replyOf (kindOf e) (numberOf (answerOf s (drop 4 r) e .refusal)) (dataOf s e))
 
 -- a record that one card takes every card takes, since the room alone decides
-pub record-runs : (s t : Card) (r : List ℕ) (room : ℕ) (one : IsRecord r) → runOf s r room .refusal ≡ 0 → runOf t r room ≡ recorded t r (one .event)
+pub record-runs : (s t : Card) (r : List ℕ) (room : ℕ) (one : IsRecord r) → runOf s r room .refusal ≡ 0 → runOf t r room ≡ recorded t r (theirs-record one .event)
 record-runs s t r room one z =
-    either-lt (λ (n : ℕ). runOf t r room ≡ recorded t r (one .event)) room (5 + answeredOf (one .event)) 0 0
+    either-lt (λ (n : ℕ). runOf t r room ≡ recorded t r (theirs-record one .event)) room (5 + answeredOf (theirs-record one .event)) 0 0
     (λ g.
-    let y : 8 ≡ 0 = sym (ap (λ (o : Outcome). o .refusal) (no-turn s r room (one .event) (one .held) (one .size) g)) ∙ z in
+    let y : 8 ≡ 0 = sym (ap (λ (o : Outcome). o .refusal) (no-turn s r room (theirs-record one .event) (theirs-record one .held) (theirs-record one .size) g)) ∙ z in
     let x : ⊥ = omega arith in
     absurd x)
-    (λ g. one-turn t r room (one .event) (one .held) (one .size) g)
+    (λ g. one-turn t r room (theirs-record one .event) (theirs-record one .held) (theirs-record one .size) g)
 
-pub record-run : (s : Card) (r : List ℕ) (room : ℕ) (one : IsRecord r) → runOf s r room .refusal ≡ 0 → runOf s r room ≡ recorded s r (one .event)
+pub record-run : (s : Card) (r : List ℕ) (room : ℕ) (one : IsRecord r) → runOf s r room .refusal ≡ 0 → runOf s r room ≡ recorded s r (theirs-record one .event)
 record-run s = record-runs s s
 
 pub bytes-parts : (k l : List ℕ) → Bytes (k ++ l) → Bytes k × Bytes l
@@ -178,12 +191,12 @@ each-small s [] room a h e = tt
 each-small s (r ∷ rs) room a h e =
     let b = bytes-parts r (joined rs) h in
     let one = e .0 in
-    let f = event-fair s (drop 4 r) (one .event) a (bytes-drop 4 r (b .0)) in
+    let f = event-fair s (drop 4 r) (theirs-record one .event) a (bytes-drop 4 r (b .0)) in
     (rw (record-run s r room one (e .1)) (f .small), each-small (runOf s r room .state) rs (room - length (runOf s r room .written)) (run-ready s r room a (b .0)) (b .1) (e .2))
 
 pub in-reply : InReply
 in-reply s rs room a h e =
     each-small s rs room (record {
-      chip = record { stack = a .stack; ready = leb-false 128 (s .chip .status) (a .calm) };
-      memory = record { stands = a .memory; code-byte = a .code };
+      chip = record { stack = theirs-stack (a .stack); ready = leb-false 128 (s .chip .status) (a .calm) };
+      memory = record { stands = theirs-memory (s .memory .bits) (s .memory .code) (a .memory); code-byte = a .code };
     }) h e

@@ -10,7 +10,7 @@ use lib.IntN.{pos, natAbs, _*ℤ_}
 use lib.Ieee.{size}
 use Rattle.terms.specs.declared.Width.the-variants.{Double}
 use Rattle.float.specs.declared.Flagged.{Flagged}
-use Rattle.float.specs.Word.{negative, proper, size88, value, FloatWord}
+use Rattle.float.specs.Word.{negative, proper, size88, value}
 use Rattle.terms.specs.declared.Rule.{Rule}
 use Rattle.terms.specs.declared.Rule.the-variants.{Cut}
 use Rattle.float.specs.Float.{exactProduct}
@@ -24,7 +24,9 @@ use Rattle.chip.specs.Status.{statusOf}
 use Rattle.chip.specs.Commands.{wordA, ends, roots, properOperands}
 use Rattle.chip.specs.Step.{pushOf, carried, commandUnder}
 use Rattle.promises.specs.Commands.{words, word, statusBy}
-use Rattle.promises.specs.Exact.{clean}
+use Rattle.promises.specs.FloatWords.{FloatWord}
+use Rattle.promises.specs.FloatResults.{clean}
+use Rattle.promises.proofs.Measures.{theirs-word, ours-word, theirs-cut-root, ours-exactly-root, theirs-le, ours-le}
 use Rattle.promises.specs.Roots.{RootRows, RootValues, Roots, RootOrder, RootBench}
 use Rattle.promises.proofs.Commands.{top-is, accepted, refusing, three, no-error}
 
@@ -60,7 +62,7 @@ module _ (rule : Rule) where
     code = unfold decoded in refl;
     root-row = λ a b c A s ds.
         accepted rule Sqrt (three a b c ds) Double ((sqrt rule a) .word) 0 false (word Double b (word Double c (zeros 4)))
-        (operand a (word Double b (word Double c ds)) (A .fits) ∙ A .is-proper) (root-result rule a A .word .fits) (rooted a b c A s ds);
+        (operand a (word Double b (word Double c ds)) (A .fits) ∙ A .is-proper) (root-result rule a (theirs-word A) .word .fits) (rooted a b c A s ds);
     zero-row = λ b c ds.
         accepted rule Sqrt (three 0 b c ds) Double 0 0 false (word Double b (word Double c (zeros 4)))
         (operand 0 (word Double b (word Double c ds)) (lit< tt)) (lit< tt)
@@ -80,11 +82,11 @@ squares a b s t e = ap natAbs (rw (s, t) at e)
 
 root-values : RootValues
 root-values = record {
-  only = one-root;
-  found = λ a A. root-exactly Cut a (A .is-proper);
+  only = λ n m m' e e' P Q. one-root n m m' e e' (theirs-cut-root P) (theirs-cut-root Q);
+  found = λ a A. ours-exactly-root Cut (root-exactly Cut a (A .is-proper));
   no-error = λ rule a A s. root-no-error rule a (A .is-proper) s;
-  proper-root = λ rule a A. root-result rule a A .word;
-  square = λ rule a b s B t e. root-exact rule a b s t B (squares a b s t e);
+  proper-root = λ rule a A. ours-word (root-result rule a (theirs-word A) .word);
+  square = unfold value in (λ rule a b s B t e. root-exact rule a b s t (theirs-word B) (squares a b s t e));
 }
 
 -- ---- the statements
@@ -92,7 +94,7 @@ pub root-command : Roots
 root-command = record { rows = root-rows; values = root-values }
 
 pub root-order : RootOrder
-root-order rule a b A B s t h = root-keeps rule a b (A .is-proper) (B .is-proper) s t h
+root-order rule a b A B s t h = ours-le ((sqrt rule a) .word) ((sqrt rule b) .word) (root-keeps rule a b (A .is-proper) (B .is-proper) s t (theirs-le a b h))
 
 pub root-bench : RootBench
 unfolding pushOf commandUnder carried roots statusOf decoded sqrt size

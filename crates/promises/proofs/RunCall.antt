@@ -25,12 +25,12 @@ use Rattle.stored.specs.Bytes.{isState, cardIn, laidOut}
 use Rattle.stored.proofs.Cards.{laid-is, card-returns, card-ready, card-short, card-long, laid-state}
 use Rattle.pundaliket.specs.Calls.{Called, ranOf, away, callOf}
 use Rattle.pundaliket.proofs.Calling.{good}
+use Rattle.promises.proofs.Measures.{ours-state, theirs-state}
 use Rattle.promises.specs.Given.{settingsIn, runCall}
 use Rattle.promises.specs.Records.{joined, total, lengths}
 use Rattle.promises.specs.RunCall.{Laid, StandsFor, Reports, RunCall, ReportsResult, StopsAgain}
 use Rattle.promises.proofs.Records.{counted, counts-exact}
 use Rattle.records.proofs.Ready.{run-ready}
-use Rattle.promises.proofs.Kept.{good-states}
 use Rattle.records.proofs.Prefix.{lawful}
 
 -- the card that good bytes stand for is the one that is read
@@ -40,14 +40,15 @@ stands-read state c g f =
     ⊎-elim
     (λ a. ap (cardIn (c .on)) (f .laid .short a ∙ sym (laid-is 19 c)) ∙ card-short c n ∙ ap (cardWith (c .on) (c .chip)) (sym (f .empty a)))
     (λ b. ap (cardIn (c .on)) (f .laid .long b ∙ sym (laid-is 21 c)) ∙ card-long c n)
-    (good-states state .0 g .size)
+    (ours-state g .size)
 
 -- the bytes that a card is laid out in
 laid-so : (n : ℕ) (c : Card) → length (c .chip .stack) ≡ 16 → Laid n (laidOut n c) c
 laid-so n c h = record { sixteen = h; short = λ a. ap (λ (m : ℕ). laidOut m c) a ∙ laid-is 19 c; long = λ b. ap (λ (m : ℕ). laidOut m c) b ∙ laid-is 21 c }
 
 pub run-call : RunCall
-run-call g C c set state input replies report B I h f n d =
+run-call g C c set state input replies report B I H f n d =
+    let h = theirs-state H in
     let o = runOf c input (length replies) in
     let is : cardIn (settingsIn g) state ≡ c = ap (λ (on : Settings). cardIn on state) (sym set) ∙ stands-read state c h f in
     let r = run-ready c input (length replies) (subst ReadyCard is (card-ready (settingsIn g) state B h)) I in
@@ -124,12 +125,13 @@ module _ (s : Card) (l : List ℕ) (room : ℕ) (z : runOf s l room .refusal ≡
       first-stops lawful d left room-left (idle (runOf s l room .refusal) d) t some-left z
 
 pub stops-again : StopsAgain
-stops-again g C state input replies report B I h n d z =
+stops-again g C state input replies report B I H n d z =
+    let h = theirs-state H in
     let s = cardIn (settingsIn g) state in
-    let size = good-states state .0 h .size in
+    let size = H .size in
     let o = runOf s input (length replies) in
     let e = good (g .mode) (g .rule) state input replies report n (C .mode) (C .rule) h d in
-    let c = counts-exact g C state input replies report n h d in
+    let c = counts-exact g C state input replies report n H d in
     let y : o .refusal ≡ 0 → ⊥ = λ x. z (ap (λ (q : Called). q .result) e ∙ x) in
     let r = tally lawful s input (length replies) .range y in
     let G = run-ready s input (length replies) (card-ready (settingsIn g) state B h) I in

@@ -1,12 +1,12 @@
 -- The second engine's answers are the first's, of which the rows of the chip's commands speak; its steps are those of its tasks; and what is told of
 -- them is their lines by number. Assumes nothing.
-use Prim.Native.Nat.{ℕ, _+_, _*_, _^_, _≤_, _<_}
+use Prim.Native.Nat.{ℕ, zero, suc, _+_, _*_, _^_, _≤_, _<_}
 use native.Mathlib.Nat.{le-refl, le-trans}
 use native.Mathlib.Omega.{arith}
-use mathlib.Core.Path.{_≡_, refl, sym, ap, _∙_, subst}
+use mathlib.Core.Path.{_≡_, refl, sym, ap, ap₂, _∙_, subst}
 use mathlib.Core.Logic.{_⊎_, inl, inr}
 use mathlib.Core.Bool.{Bool, true, false, _&&_, cond}
-use mathlib.Core.List.{List, _++_}
+use mathlib.Core.List.{List, [], _∷_, _++_, map}
 use lib.Dec.{leb, eqb, lit<}
 use lib.Ieee.{size}
 use borrow.Author.Tests.{eqb-true}
@@ -14,12 +14,14 @@ use Rattle.terms.specs.declared.Refusal.the-variants.{Improper}
 use Rattle.terms.specs.declared.Rule.{Rule}
 use Rattle.terms.specs.declared.Width.{Width}
 use Rattle.terms.specs.declared.Width.the-variants.{Single, Double}
-use Rattle.terms.specs.Width.{bitsOf}
+use Rattle.terms.specs.Width.{sizeOf, bitsOf}
+use Rattle.terms.specs.Refusal.{numberOf}
 use Rattle.fixed.specs.Parts.{Words}
 use Rattle.fixed.specs.Fixed.{low, mul, muu, div, eitherLeast}
 use Rattle.fixed.proofs.Exact.{mul-word, muu-word, div-word}
 use Rattle.float.specs.declared.Flagged.{Flagged}
-use Rattle.float.specs.Word.{mantissa, proper, FloatWord}
+use Rattle.float.specs.Word.{mantissa, proper}
+use Rattle.promises.specs.FloatWords.{FloatWord}
 use Rattle.float.specs.Cut.{packed, errorAt, cutSize, cut}
 use Rattle.codes.specs.declared.Command.the-variants.{Mul as MulCommand, Muu as MuuCommand, Div as DivCommand}
 use Rattle.codes.specs.declared.FloatOp.the-variants.{Mul as FMul, Div as FDiv}
@@ -27,6 +29,7 @@ use Rattle.codes.specs.declared.Kind.the-variants.{Known}
 use Rattle.codes.specs.Codes.{decoded}
 use Rattle.serial.specs.declared.Operation.{Operation}
 use Rattle.serial.specs.declared.Operation.the-variants.{Mul, Muu, Div, Fmul, Fdiv}
+use Rattle.serial.specs.declared.Answer.{Answer}
 use Rattle.serial.specs.declared.Answer.the-variants.{Word, Refused}
 use Rattle.serial.specs.declared.tasks.Task.{Task}
 use Rattle.serial.specs.declared.tasks.Task.the-variants.{Nothing}
@@ -34,17 +37,23 @@ use Rattle.serial.specs.Product.{addedUpTo}
 use Rattle.serial.specs.Quotient.{subtractedUpTo}
 use Rattle.serial.specs.Answer.{stepsIn}
 use Rattle.serial.specs.Engine.{mulAnswer, muuAnswer, divAnswer, fmulAnswer, fdivAnswer}
-use Rattle.serial.specs.Work.{widthOf, Operands, answerOf, mulTask, divTask, fmulTask, fdivTask, taskOf, mostOf}
+use Rattle.serial.specs.Work.{widthOf, Operands, answerOf, mulTask, divTask, fmulTask, fdivTask, taskOf, mostOf, Made}
 use Rattle.serial.proofs.Cases.{words as words-of}
 use Rattle.serial.proofs.Same.{same-mul, same-muu, same-div, same-fmul, same-fdiv}
 use Rattle.serial.proofs.Steps.{made}
 use Rattle.workings.specs.declared.asked.Found.{Found}
 use Rattle.workings.specs.declared.asked.Found.the-variants.{Operation as Named, Nothing as Unnamed}
-use Rattle.workings.specs.Lines.{answerLine}
-use Rattle.workings.specs.Asked.{operationAt}
+use Rattle.listing.specs.Text.{spelled as their-spelled, decimal as their-decimal}
+use Rattle.workings.specs.Lines.{stepLine, answerLine, statusFor, hexOf as their-hex}
+use Rattle.workings.specs.Steps.{productLines, quotientLines, workingsOf, leftAfter, partialAfter, linesAfter}
+use Rattle.workings.specs.Asked.{digitValue, readFrom, readHex, operationAt, sameText, ruleFor}
 use Rattle.workings.proofs.Numbered.{numbered}
-use Rattle.promises.specs.Commands.{least, words, word, Two}
-use Rattle.promises.specs.Serial.{floatAnswer, firstAnswer, commandFor, Does, ZeroOrFour, SameEngine, mostSteps, Work, StepsText, StepsBench}
+use Rattle.promises.specs.SerialWork as book
+use Rattle.promises.specs.PrintedText.{written, decimal, hexOf}
+use Rattle.promises.proofs.PrintedText.{decimal-is, hex-is}
+use Rattle.promises.specs.Figures.{from}
+use Rattle.promises.specs.Commands.{least, words, word, statusBy, Two}
+use Rattle.promises.specs.Serial.{floatAnswer, firstAnswer, commandFor, Does, ZeroOrFour, SameEngine, mostSteps, Work, eightCodes, StepsText, StepsBench}
 use Rattle.promises.proofs.Commands.{accepted, loses, rows}
 
 -- ---- the same answers
@@ -132,8 +141,23 @@ most (Div w) b a = either-way (eqb a 0) _ (bitsOf w) (either-way (eitherLeast (l
 most Fmul b a = either-way (proper b && proper a) _ 24 (le-refl 24) .1
 most Fdiv b a = either-way (proper b && proper a) _ 26 (either-way (eqb (mantissa a) 0) _ 26 (le-refl 26) .0) .1
 
+-- the book's task is the crate's
+task-is : (op : Operation) (b a : ℕ) → taskOf op b a ≡ book.taskOf op b a
+unfolding mulTask divTask fmulTask fdivTask
+task-is (Mul w) b a = refl
+task-is (Muu w) b a = refl
+task-is (Div w) b a = refl
+task-is Fmul b a = refl
+task-is Fdiv b a = refl
+
+ours-made : (task other : Task) (steps : ℕ) → task ≡ other → Made task steps → book.Made other steps
+ours-made task other steps e M = subst (λ (t : Task). book.Made t steps) e (record { at-most = M .at-most; fewer = M .fewer })
+
 pub work : Work
-work = record { at-most = λ op rule b a l. le-trans (made op rule b a l .at-most) (most op b a); fewer = made }
+work = record {
+  at-most = λ op rule b a l. le-trans (made op rule b a l .at-most) (most op b a);
+  fewer = λ op rule b a l. ours-made (taskOf op b a) (book.taskOf op b a) (stepsIn (answerOf op rule b a)) (task-is op b a) (made op rule b a l);
+}
 
 -- ---- what is told
 coded : (code : ℕ) (op : Operation) → operationAt code ≡ Named op → decoded code ≡ Known (commandFor op)
@@ -151,15 +175,63 @@ coded code op =
         go true g e = let o : k ≡ op = (cc) in ap decoded (g refl) ∙ d ∙ ap (λ (x : Operation). Known (commandFor x)) o
         go false g e = f e
 
-pub steps-text : StepsText
-steps-text = record {
-  codes = coded;
-  lines = λ op rule b a l. ap (λ (s : List ℕ). s ++ answerLine (widthOf op) (answerOf op rule b a)) (numbered op rule b a l);
-  status = λ op r error. same-bits error (cond (leb (least (widthOf op)) r) 64 0) (cond (eqb r 0) 32 0);
-}
+-- a line, and the lines, as the book has them
+step-is : (number left partial : ℕ) → stepLine number left partial ≡ book.stepLine number left partial
+step-is number left partial =
+    ap (λ (t : List ℕ). t ++ ((32 ∷ their-decimal left) ++ (32 ∷ (their-hex 16 partial ++ (10 ∷ []))))) (decimal-is number)
+    ∙ ap₂ (λ (t u : List ℕ). decimal number ++ ((32 ∷ t) ++ (32 ∷ (u ++ (10 ∷ []))))) (decimal-is left) (hex-is 16 partial)
+
+lines-are : (task : Task) (n k : ℕ) → linesAfter task n k ≡ book.linesAfter task n k
+lines-are task zero k = refl
+lines-are task (suc n) k = ap₂ (λ (t u : List ℕ). t ++ u) (step-is (k + 1) (leftAfter task (k + 1)) (partialAfter task (k + 1))) (lines-are task n (k + 1))
+
+status-is : (w : Width) (r error : ℕ) → statusFor w r error ≡ statusBy w r error false
+status-is w r error = same-bits (cond (leb (least w) r) 64 0) (cond (eqb r 0) 32 0)
   where
-    same-bits : (error x y : ℕ) → 2 * error + x + y ≡ x + y + error * 2 + 0
-    same-bits error x y = omega arith
+    same-bits : (x y : ℕ) → 2 * error + x + y ≡ x + y + error * 2 + 0
+    same-bits x y = omega arith
+
+answer-is : (w : Width) (r : Answer) → answerLine w r ≡ book.answerLine w r
+answer-is w (Word r error n) =
+    ap (λ (t : List ℕ). written "word " ++ (t ++ (written " error" ++ ((32 ∷ their-decimal error) ++ (written " status " ++ (their-hex 2 (statusFor w r error) ++ (10 ∷ []))))))) (hex-is (2 * sizeOf w) r)
+    ∙ ap₂ (λ (t u : List ℕ). written "word " ++ (hexOf (2 * sizeOf w) r ++ (written " error" ++ ((32 ∷ t) ++ (written " status " ++ (u ++ (10 ∷ []))))))) (decimal-is error)
+    (hex-is 2 (statusFor w r error) ∙ ap (hexOf 2) (status-is w r error))
+answer-is w (Refused refusal) = ap (λ (t : List ℕ). written "refused" ++ ((32 ∷ t) ++ (10 ∷ []))) (decimal-is (numberOf refusal))
+
+told-lines : (op : Operation) (rule : Rule) (b a : ℕ) → Operands op b a
+    → workingsOf op rule b a ≡ book.linesAfter (book.taskOf op b a) (stepsIn (answerOf op rule b a)) 0 ++ book.answerLine (widthOf op) (answerOf op rule b a)
+told-lines op rule b a l =
+    let n = stepsIn (answerOf op rule b a) in
+    ap₂ (λ (s t : List ℕ). s ++ t)
+    (numbered op rule b a l ∙ lines-are (taskOf op b a) n 0 ∙ ap (λ (t : Task). book.linesAfter t n 0) (task-is op b a))
+    (answer-is (widthOf op) (answerOf op rule b a))
+
+eight : map operationAt (from 256 0) ≡ eightCodes
+unfolding operationAt
+eight = refl
+
+pub steps-text : StepsText
+unfolding size low packed errorAt cutSize cut their-spelled their-hex addedUpTo subtractedUpTo mulAnswer muuAnswer divAnswer fmulAnswer fdivAnswer mulTask divTask fmulTask fdivTask productLines quotientLines digitValue readFrom readHex operationAt sameText ruleFor
+steps-text = record {
+  codes = eight;
+  chips = coded;
+  lines = told-lines;
+  smul = refl;
+  smuu = refl;
+  sdiv = refl;
+  dmul = refl;
+  dmuu = refl;
+  ddiv = refl;
+  fmul = refl;
+  fdiv = refl;
+  refused = refl;
+  refused-a = refl;
+  third = refl;
+  third-nearest = refl;
+  product-nearest = refl;
+  third-words = (refl, refl);
+  usage = (refl, refl, refl, refl, refl, refl);
+}
 
 -- ---- the examples, computed from the definitions
 pub steps-bench : StepsBench

@@ -27,9 +27,10 @@ use Rattle.stored.proofs.States.{short-memory, long-memory}
 use Rattle.stored.proofs.Cards.{flag-back, laid-is}
 use Rattle.pundaliket.specs.Calls.{Signal, signalBy, signalUnder, signalOf, answerToKind, sentOf}
 use Rattle.pundaliket.proofs.Calling.{event-chosen}
+use Rattle.promises.proofs.Measures.{theirs-state, no-state-is}
 use Rattle.promises.specs.Given.{Given, Chosen, settingsIn, eventCall}
 use Rattle.promises.specs.Host.{number, outward, inward}
-use Rattle.promises.specs.Kept.{Remembers}
+use Rattle.promises.specs.Remembered.{Remembers}
 use Rattle.promises.specs.SmallCalls.{signalled, Tail, none as no-tail, two, Parts, EventCallUnder, EventCall, Converts, ConversionCalls}
 use Rattle.promises.proofs.Fronts.{none}
 use Rattle.promises.proofs.Kept.{good-states}
@@ -94,7 +95,7 @@ module _ (l : List ℕ) (p u v : ℕ) (t : List ℕ) (P : Parts l p u v t) where
 
   stands : isState (laid l p u v t) ≡ true
   stands =
-      good-states (laid l p u v t) .1 (record {
+      theirs-state (record {
         size = ⊎-elim (λ z. inl (omega (arith, size, z))) (λ z. inr (omega (arith, size, z))) (tail-size t (P .tail));
         pending = rw (at 0) (P .pending);
         ready = rw (at 1) (P .ready);
@@ -217,8 +218,8 @@ module _ (g : Given) (C : Chosen g) where
 
   event-under : EventCallUnder g
   event-under = record {
-    bad-state = λ state kind byte h. chosen state kind byte (bad-state set state kind byte h);
-    bad-kind = λ state kind byte i h. chosen state kind byte (bad-kind set state kind byte i h);
+    bad-state = λ state kind byte h. chosen state kind byte (bad-state set state kind byte (no-state-is state h));
+    bad-kind = λ state kind byte i h. chosen state kind byte (bad-kind set state kind byte (theirs-state i) h);
     byte-ignored = λ state kind byte other a b. byte-ignored g state kind byte other a b;
     push-call = λ b l p u v t P.
         chosen (laid l p u v t) 1 b (signals l p u v t P set 1 b 0 _ (behindIs t) (ap (around set (behindIs t)) (pushes l p u v t P b)) (tail-back l p u v t P)) ∙ ap (signalled 0) (turned l p u v t P (b ∷ take 15 l));

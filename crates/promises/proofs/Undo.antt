@@ -46,6 +46,7 @@ use Rattle.records.proofs.Turning.{none-left}
 use Rattle.stored.specs.Bytes.{stateOf, cardIn, stateBytesOf, memoryBytesOf, flagOf, laidOut}
 use Rattle.stored.proofs.Cards.{behind, laid-is, laid-at, card-returns, card-ready}
 use Rattle.pundaliket.specs.Calls.{joinedOf}
+use Rattle.promises.proofs.Measures.{theirs-stack, ours-stack, theirs-rest, ours-rest, theirs-state}
 use Rattle.promises.specs.Chains.{given}
 use Rattle.promises.specs.Given.{Given, Chosen, settingsIn}
 use Rattle.promises.specs.Cores.{Core, Meets, onBus, driven, returned, answersOf, Sendable, allZero}
@@ -147,15 +148,15 @@ module _ (on : Settings) where
 
   at-chip : (ks : List Shuffle) → Stays ks → AtChip on ks
   at-chip ks h = record {
-    every-answered = λ s bit R. worked ks bit s R .all-answered;
-    all-bytes = λ s bit R S. worked ks bit s R .stack-is ∙ h (s .stack) S;
-    ready-again = λ s bit R. worked ks bit s R .at-end;
+    every-answered = λ s bit R. worked ks bit s (theirs-rest R) .all-answered;
+    all-bytes = λ s bit R S. worked ks bit s (theirs-rest R) .stack-is ∙ h (s .stack) (theirs-stack S);
+    ready-again = λ s bit R. ours-rest (worked ks bit s (theirs-rest R) .at-end);
   }
 
   stays : (ks : List Shuffle) → AtChip on ks → Stays ks
   stays ks c l S =
       let R = at-rest l 0 false (lit< tt) in
-      sym (worked ks (λ (n : ℕ). false) (idle l 0 false) R .stack-is) ∙ c .all-bytes (idle l 0 false) (λ (n : ℕ). false) R S
+      sym (worked ks (λ (n : ℕ). false) (idle l 0 false) R .stack-is) ∙ c .all-bytes (idle l 0 false) (λ (n : ℕ). false) (ours-rest R) (ours-stack S)
 
   -- ---- lists joined
   left-append : (ks ls : List Shuffle) (l : List ℕ) → leftBy (ks ++ ls) l ≡ leftBy ls (leftBy ks l)
@@ -273,19 +274,19 @@ module _ (g : Given) (C : Chosen g) (ks : List Shuffle) (h : AtChip (settingsIn 
   last = afterAll (cardIn (settingsIn g) state) calls
 
   is-stack : IsStack (take 16 state)
-  is-stack = card-ready (settingsIn g) state (B .bytes) (B .good) .chip .stack
+  is-stack = card-ready (settingsIn g) state (B .bytes) (theirs-state (B .good)) .chip .stack
 
   chip-at-rest : AtRest (stateOf state)
-  chip-at-rest = record { taken = lt-leb 128 (getD state 17 0) (card-ready (settingsIn g) state (B .bytes) (B .good) .chip .ready); whole = ap (λ (n : ℕ). eqb n 1) (B .whole) }
+  chip-at-rest = record { taken = lt-leb 128 (getD state 17 0) (card-ready (settingsIn g) state (B .bytes) (theirs-state (B .good)) .chip .ready); whole = ap (λ (n : ℕ). eqb n 1) (B .whole) }
 
   left-told : driven c state calls ≡ laidOut (length state) last
   left-told = cores g C c M .states state calls (B .bytes) (B .good) (shuffle-sendable ks bit)
 
   stack-back : last .chip .stack ≡ take 16 state
-  stack-back = ap (λ (s : State). s .stack) (chip-alone (cardIn (settingsIn g) state) (shuffled bit ks)) ∙ h .all-bytes (stateOf state) bit chip-at-rest is-stack
+  stack-back = ap (λ (s : State). s .stack) (chip-alone (cardIn (settingsIn g) state) (shuffled bit ks)) ∙ h .all-bytes (stateOf state) bit (ours-rest chip-at-rest) (ours-stack is-stack)
 
   nothing-pending : last .chip .pending ≡ false
-  nothing-pending = ap (λ (s : State). s .pending) (chip-alone (cardIn (settingsIn g) state) (shuffled bit ks)) ∙ h .ready-again (stateOf state) bit chip-at-rest .whole
+  nothing-pending = ap (λ (s : State). s .pending) (chip-alone (cardIn (settingsIn g) state) (shuffled bit ks)) ∙ h .ready-again (stateOf state) bit (ours-rest chip-at-rest) .whole
 
   sixteen-again : length (last .chip .stack) ≡ 16
   sixteen-again = ap length stack-back ∙ is-stack .sixteen
@@ -305,7 +306,7 @@ module _ (g : Given) (C : Chosen g) (ks : List Shuffle) (h : AtChip (settingsIn 
   memory-told =
       ap (drop 19) left-told ∙ memory-laid last sixteen-again (length state)
       ∙ ap (memoryBytesOf (length state)) (memory-kept ks bit (cardIn (settingsIn g) state) chip-at-rest)
-      ∙ sym (memory-laid (cardIn (settingsIn g) state) (is-stack .sixteen) (length state)) ∙ ap (drop 19) (card-returns (settingsIn g) state (B .good))
+      ∙ sym (memory-laid (cardIn (settingsIn g) state) (is-stack .sixteen) (length state)) ∙ ap (drop 19) (card-returns (settingsIn g) state (theirs-state (B .good)))
 
 -- ---- the statements
 -- a list that stays under every setting changes no byte
@@ -352,10 +353,10 @@ even-pops false = refl
 
 pub looks : Looks
 looks = record {
-  two-bytes = λ on s bit R S. stack-read 2 s R ∙ sym (pops-block 2 (s .stack) (S .sixteen) (lit≤ tt)) ∙ sym (worked on (POPS ∷ []) bit s R .stack-is);
-  four-bytes = λ on s bit R S. stack-read 4 s R ∙ sym (pops-block 4 (s .stack) (S .sixteen) (lit≤ tt)) ∙ sym (worked on (POPD ∷ []) bit s R .stack-is);
+  two-bytes = λ on s bit A S. let R = theirs-rest A in stack-read 2 s R ∙ sym (pops-block 2 (s .stack) (S .sixteen) (lit≤ tt)) ∙ sym (worked on (POPS ∷ []) bit s R .stack-is);
+  four-bytes = λ on s bit A S. let R = theirs-rest A in stack-read 4 s R ∙ sym (pops-block 4 (s .stack) (S .sixteen) (lit≤ tt)) ∙ sym (worked on (POPD ∷ []) bit s R .stack-is);
   sixteen-bytes = λ s R S.
-      pops-state 16 s (at-rest-lt R)
+      pops-state 16 s (at-rest-lt (theirs-rest R))
       ∙ ap₂ (λ (l : List ℕ) (p : Bool). record { stack = l; pending = p; status = s .status; service = s .service }) (once-round 0 (s .stack) (S .sixteen) .1) (even-pops (s .pending));
 }
 

@@ -26,6 +26,7 @@ use Rattle.chip.specs.Step.{refused, carried, commandUnder, under}
 use Rattle.chip.specs.Events.{afterEvents}
 use Rattle.chip.proofs.Accepted.{accepted}
 use Rattle.chip.proofs.InTurn.{push-done, pop-done, word-pushed, word-popped, result-popped}
+use Rattle.promises.proofs.Measures.{theirs-stack}
 use Rattle.promises.specs.WholeWords.{Moves, none, pushing, popping, odd, Whole, WholeWords, wordsOf, EachBelow, StackOfWords}
 
 -- one turn more
@@ -64,7 +65,7 @@ whole on = record {
       word-pushed w x s (leb-false 128 (s .status) b)
       ∙ ap (λ (q : Bool). record { stack = bytesOf (sizeOf w) x ++ take (16 - sizeOf w) (s .stack); pending = q; status = s .status; service = s .service }) p;
   handed-back = λ w s x b. word-popped w x s (leb-false 128 (s .status) b);
-  after-command = λ s code k S e d. result-popped (on .rule) s code k S e d;
+  after-command = λ s code k S e d. result-popped (on .rule) s code k (theirs-stack S) e d;
   nothing-pending = λ s code d. found-nothing on s code d;
   half-refused = λ s code k e b p. refuses on s code k e b p;
 }

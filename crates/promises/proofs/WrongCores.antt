@@ -1,6 +1,6 @@
 -- No wrong core meets the promises: its contract gives what it does with one input, and that is not what its class does. Assumes nothing.
 use mathlib.Core.Path.{_≡_, refl, sym, ap, subst, _∙_}
-use mathlib.Core.Logic.{_⊎_, inl, inr}
+use mathlib.Core.Logic.{_⊎_, inl, inr, ⊎-elim}
 use mathlib.Core.Bool.{Bool, true, false, _&&_}
 use mathlib.Core.List.{List, [], _∷_, _++_}
 use Prim.Native.Nat.{ℕ, _^_, _≤_, _<_}
@@ -21,9 +21,11 @@ use Rattle.stored.specs.Bytes.{isState, cardIn}
 use Rattle.records.specs.Run.{runOf}
 use Rattle.pundaliket.specs.Calls.{Called, Calls, Signal, Signals, ranOf, callOf, signalUnder, sentOf}
 use Rattle.pundaliket.proofs.Calling.{bad-state, too-long, good, event-chosen}
+use Rattle.promises.proofs.Measures.{ours-state, theirs-state, no-state-is}
 use Rattle.promises.specs.Given.{Given, Chosen, settingsIn, runCall}
 use Rattle.promises.specs.Chains.{Change}
-use Rattle.promises.specs.Records.{IsRecord, countAt}
+use Rattle.promises.specs.Records.{countAt}
+use Rattle.promises.specs.RecordFiles.{IsRecord, push, reset}
 use Rattle.promises.specs.Cores.{Core, Meets, driven, Begins, busRun}
 use Rattle.promises.specs.WrongCores.{No, RefusesEverything, never-run, never-event, never-float, never-word, SingleReply, same-run, same-event, same-float, same-word, SameReplies, DoesNothing, back-state, back-replies, back-report, back-event, back-float, back-word, FirstRecordOnly, first-state, first-replies, InventedCounts, wrong-taken, wrong-written, wrong-away, ZeroChains, fresh, nine, first, second, fresher, Tells, WrongCores}
 use Rattle.promises.proofs.Records.{counts-exact}
@@ -67,7 +69,7 @@ two-bytes = bytes-in (first ++ second) (unfold isBytes in refl)
 -- a run on 1 from the bytes of a state after reset
 begins : Begins fresh 0x01800000
 unfolding isState
-begins = record { bytes = fresh-bytes; good = refl; whole = refl; proper = record { fits = lit< tt; is-proper = refl } }
+begins = record { bytes = fresh-bytes; good = ours-state refl; whole = refl; proper = record { fits = lit< tt; is-proper = refl } }
 
 module _ (g : Given) (C : Chosen g) (c : Core) (M : Meets g c) where
   -- the sign of 1 changed
@@ -88,7 +90,7 @@ module _ (g : Given) (C : Chosen g) (c : Core) (M : Meets g c) where
       ((c .run fresh input replies nine) .replies) ((c .run fresh input replies nine) .report)
   run-told input replies i w l =
       subst (λ (x : Called). Calls x ((c .run fresh input replies nine) .result) ((c .run fresh input replies nine) .state) ((c .run fresh input replies nine) .replies) ((c .run fresh input replies nine) .report))
-      (good (g .mode) (g .rule) fresh input replies nine refl (C .mode) (C .rule) (begins .good) l) (M .run fresh input replies nine fresh-bytes i w nine-bytes)
+      (good (g .mode) (g .rule) fresh input replies nine refl (C .mode) (C .rule) (theirs-state (begins .good)) l) (M .run fresh input replies nine fresh-bytes i w nine-bytes)
 
   event-told : (kind byte : ℕ) → kind < 2 ^ 32 → byte < 256 → Signals (signalUnder (settingsIn g) fresh kind byte) ((c .event fresh kind byte) .result) ((c .event fresh kind byte) .state)
   event-told kind byte k b =
@@ -157,19 +159,11 @@ module _ (g : Given) (C : Chosen g) where
 
   -- the first record is one
   one-record : IsRecord first
-  one-record = record {
-    event = Push 1;
-    held = record { length-is = refl; kind-is = refl; there = lit≤ tt; small = lit≤ tt; carried = lit≤ tt };
-    size = refl;
-  }
+  one-record = push (0x55 ∷ []) (lit≤ tt) (lit≤ tt) refl
 
   -- and so is the one that resets
   reset-record : IsRecord fresher
-  reset-record = record {
-    event = Reset;
-    held = record { length-is = refl; kind-is = refl; there = lit≤ tt; small = lit≤ tt; carried = tt };
-    size = refl;
-  }
+  reset-record = reset refl
 
   same-replies : No g SameReplies
   same-replies c M f =
@@ -198,7 +192,7 @@ module _ (g : Given) (C : Chosen g) where
       differs (ap (λ (x : List ℕ). countAt x 5) (M .run state input replies report s i w p .report-is) ∙ counts-exact g C state input replies report n q l .1 ∙ split .written)
   invented-counts c M (wrong-away state input replies report s i w p n q differs) =
       let e = M .run state input replies report s i w p .report-is in
-      let z = none-counted state input replies report n q in
+      let z = none-counted state input replies report n (⊎-elim (λ b. inl (no-state-is state b)) inr q) in
       differs (ap (λ (x : List ℕ). countAt x 1) e ∙ z .0, ap (λ (x : List ℕ). countAt x 5) e ∙ z .1)
 
   zero-chains : No g ZeroChains

@@ -1,4 +1,5 @@
--- 01's bench values and the rows that decide where the documents disagree, in one table, through the whole step. Definitions and the statement only:
+-- 01's bench values and the rows that decide where the documents disagree, in one table, through the whole step.
+-- Definitions and the statement only:
 -- proofs/Bench.antt computes it. Assumes nothing.
 use Prim.Native.Nat.{ℕ, _+_, _-_}
 use mathlib.Core.Path.{_≡_}
@@ -6,15 +7,11 @@ use mathlib.Core.List.{List, [], _∷_, _++_, map}
 use Rattle.terms.specs.declared.Mode.the-variants.{Am9511A}
 use Rattle.terms.specs.declared.Width.{Width}
 use Rattle.terms.specs.declared.Width.the-variants.{Single, Double}
-use Rattle.terms.specs.Width.{sizeOf}
-use Rattle.terms.specs.Refusal.{numberOf}
-use Rattle.stack.specs.Stack.{bytesOf, zeros}
-use Rattle.chip.specs.declared.Answer.{Answer}
-use Rattle.chip.specs.declared.Event.{Event}
-use Rattle.chip.specs.declared.Event.the-variants.{Push, Command}
-use Rattle.chip.specs.State.{resetState}
-use Rattle.chip.specs.Step.{commandOf, under}
-use Rattle.chip.specs.Events.{afterEvents, pushesOf}
+use Rattle.terms.specs.declared.Rule.the-variants.{Cut}
+use Rattle.promises.specs.Subjects.{commandUnder, Answer, ChipEvent as Event, Push, Command}
+use Rattle.promises.specs.Stack.{sizeOf, bytesOf, zeros}
+use Rattle.promises.specs.RefusalNumbers.{numberOf}
+use Rattle.promises.specs.BusEvents.{resetState, under, afterEvents, pushesOf}
 
 -- the events from reset, the code that follows them, and what it must give: the refusal, the whole stack, the status
 pub record BenchRow : Type 0 where
@@ -40,7 +37,8 @@ one code w a v r status = record { events = pushesOf (sizeOf w) a; code = code; 
 
 -- no event since reset but bytes pushed, and a refusal: the bytes stay on top of zeros and the status 0
 abbrev pub turnedAway : ℕ → List ℕ → ℕ → BenchRow
-turnedAway code bytes refusal = record { events = map Push bytes; code = code; refusal = refusal; stack = bytes ++ zeros 15; status = 0 }
+turnedAway code bytes refusal =
+    record { events = map Push bytes; code = code; refusal = refusal; stack = bytes ++ zeros 15; status = 0 }
 
 -- 01, 'Bench values', row by row
 abbrev pub benchValues : List BenchRow
@@ -61,7 +59,8 @@ benchValues =
     ∷ one 0x1c Double 0x7fffffff Double 0x1fffffff 0x00
     ∷ []
 
--- SSUB with A least overflows for every B; SMUL overflows where the exact product does not fit; SDIV with A or B least, and by zero
+-- SSUB with A least overflows for every B; SMUL overflows where the exact product does not fit; SDIV with A or B least,
+-- and by zero
 abbrev pub fixedConflicts : List BenchRow
 fixedConflicts =
     two 0x6d Single 0x8000 0x8000 0x0000 0x8000 0x22
@@ -88,7 +87,8 @@ floatDecisions =
     ∷ one 0x1c Double 0x80000000 Double 0xa0800000 0x40
     ∷ []
 
--- PUPI is 1A and 9A; 0C and 8C are unknown; POPS after an SADD with carry clears bit 0; NOP with a half word pending is 3
+-- PUPI is 1A and 9A; 0C and 8C are unknown; POPS after an SADD with carry clears bit 0; NOP with a half word pending is
+-- 3
 abbrev pub otherDecisions : List BenchRow
 otherDecisions =
     record { events = []; code = 0x1a; refusal = 0; stack = bytesOf 4 0x02c90fda ++ zeros 12; status = 0x00 }
@@ -110,7 +110,7 @@ abbrev pub rows : List BenchRow
 rows = benchValues ++ (fixedConflicts ++ (floatDecisions ++ otherDecisions))
 
 abbrev pub rowAnswer : BenchRow → Answer
-rowAnswer x = commandOf (afterEvents (under Am9511A) resetState (x .events)) (x .code)
+rowAnswer x = commandUnder Cut (afterEvents (under Am9511A) resetState (x .events)) (x .code)
 
 -- what the chip gives, and what the row says
 abbrev pub shown : BenchRow → List ℕ

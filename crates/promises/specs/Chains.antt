@@ -1,4 +1,5 @@
--- Demand 3: chains of steps on one float word. Definitions and the statement only: proofs/Chains.antt proves it. Assumes nothing.
+-- Demand 3: chains of steps on one float word. Definitions and the statement only: proofs/Chains.antt proves it.
+-- Assumes nothing.
 use Prim.Native.Nat.{ℕ, _+_, _%_}
 use mathlib.Core.Path.{_≡_}
 use mathlib.Core.Bool.{Bool, true, false, cond}
@@ -7,20 +8,13 @@ use lib.ListN.{replicate}
 use Rattle.terms.specs.declared.Mode.{Mode}
 use Rattle.terms.specs.declared.Mode.the-variants.{Am9511A}
 use Rattle.float.specs.declared.Flagged.{Flagged}
-use Rattle.float.specs.Word.{negative, FloatWord}
-use Rattle.float.specs.Order.{Le}
 use Rattle.terms.specs.declared.Rule.{Rule}
-use Rattle.terms.specs.Settings.{Settings}
 use Rattle.float.specs.Float.{add, sub, mul, div}
 use Rattle.float.specs.Convert.{chsf}
-use Rattle.stack.specs.Stack.{tos}
-use Rattle.chip.specs.Step.{under}
-use Rattle.chip.specs.declared.State.{State}
-use Rattle.chip.specs.declared.Event.{Event}
-use Rattle.chip.specs.declared.Event.the-variants.{Command}
-use Rattle.chip.specs.State.{resetState}
-use Rattle.chip.specs.Status.{errorOf}
-use Rattle.chip.specs.Events.{afterEvents, answered, quiet, pushesOf, AtRest}
+use Rattle.promises.specs.Subjects.{Settings, State, ChipEvent as Event, Command}
+use Rattle.promises.specs.Stack.{tos}
+use Rattle.promises.specs.FloatWords.{negative, FloatWord, Le}
+use Rattle.promises.specs.BusEvents.{under, resetState, errorOf, afterEvents, answered, quiet, pushesOf, AtRest}
 
 -- ---- chains
 -- add, subtract, multiply or divide by a constant, take from a constant, change the sign
@@ -109,7 +103,8 @@ pub record Run : Type 0 where
   pub word : ℕ
   pub sr : ℕ → Bool
 
--- a run may start from any state that 13 does not turn away, with nothing pending, whatever its stack, status and service line, on a proper word
+-- a run may start from any state that 13 does not turn away, with nothing pending, whatever its stack, status and
+-- service line, on a proper word
 pub record Starts (x : Run) : Type 0 where
   pub at-rest : AtRest (x .state)
   pub proper : FloatWord (x .word)
@@ -133,24 +128,30 @@ resultOf on x ks = tos 4 ((stateAtEnd on x ks) .stack)
 abbrev pub Quiet : Settings → Run → List Step → Type 0
 Quiet on x ks = quiet on (x .state) (eventsIn x ks) ≡ true
 
--- ---- the statement, over the mode and the rule for float results. Chains are of any length, and a multiplier or a divisor may even be zero
+-- ---- the statement, over the mode and the rule for float results. Chains are of any length, and a multiplier or a
+-- divisor may even be zero
 pub record Chains (on : Settings) : Type 0 where
   -- every event is answered 0, error bits or not
-  pub every-answered : (x : Run) (ks : List Step) → Starts x → Constants ks → answered on (x .state) (eventsIn x ks) ≡ true
+  pub every-answered : (x : Run) (ks : List Step) → Starts x → Constants ks
+      → answered on (x .state) (eventsIn x ks) ≡ true
   -- the result is demand 2's word of the word and the chain alone: no stack, status, service line or sr bit enters
-  pub by-word-alone : (x : Run) (ks : List Step) → Starts x → Constants ks → resultOf on x ks ≡ wordAfter (on .rule) (x .word) ks
+  pub by-word-alone : (x : Run) (ks : List Step) → Starts x → Constants ks
+      → resultOf on x ks ≡ wordAfter (on .rule) (x .word) ks
   -- equal words give equal words
-  pub equal-words : (x y : Run) (ks : List Step) → Starts x → Starts y → Constants ks → x .word ≡ y .word → resultOf on x ks ≡ resultOf on y ks
+  pub equal-words : (x y : Run) (ks : List Step) → Starts x → Starts y → Constants ks → x .word ≡ y .word
+      → resultOf on x ks ≡ resultOf on y ks
   -- a chain of no steps gives the word itself
   pub no-steps : (x : Run) → Starts x → resultOf on x [] ≡ x .word
   -- the result is a proper word, and the state is one from which a run may start
   pub proper-result : (x : Run) (ks : List Step) → Starts x → Constants ks → FloatWord (resultOf on x ks)
   pub ready-again : (x : Run) (ks : List Step) → Starts x → Constants ks → AtRest (stateAtEnd on x ks)
   -- an even number of reversing steps keeps the order of the two values
-  pub even-keeps : (x y : Run) (ks : List Step) → Starts x → Starts y → Constants ks → Quiet on x ks → Quiet on y ks → Le (x .word) (y .word)
+  pub even-keeps : (x y : Run) (ks : List Step) → Starts x → Starts y → Constants ks → Quiet on x ks → Quiet on y ks
+      → Le (x .word) (y .word)
       → reversing ks % 2 ≡ 0 → Le (resultOf on x ks) (resultOf on y ks)
   -- an odd number turns it round
-  pub odd-turns : (x y : Run) (ks : List Step) → Starts x → Starts y → Constants ks → Quiet on x ks → Quiet on y ks → Le (x .word) (y .word)
+  pub odd-turns : (x y : Run) (ks : List Step) → Starts x → Starts y → Constants ks → Quiet on x ks → Quiet on y ks
+      → Le (x .word) (y .word)
       → reversing ks % 2 ≡ 1 → Le (resultOf on y ks) (resultOf on x ks)
 
 -- demand 3: of the chip as it stands
@@ -158,7 +159,8 @@ abbrev pub Demand3 : Type 0
 Demand3 = (on : Settings) → Chains on
 
 -- ---- examples: the premise of the order can be met, and without it order can break
--- from reset, sr clear; and from a full stack with every error bit and the carry standing in the status, the service line high, sr set
+-- from reset, sr clear; and from a full stack with every error bit and the carry standing in the status, the service
+-- line high, sr set
 abbrev pub fromReset : ℕ → Run
 fromReset w = record { state = resetState; word = w; sr = λ (n : ℕ). false }
 
@@ -171,7 +173,8 @@ turned = Multiply 0x02800000 ∷ TakeFrom 0x01800000 ∷ []
 
 -- plus 1, times -2, take from 3, change sign, divided by 2, minus 1
 abbrev pub everyKind : List Step
-everyKind = Add 0x01800000 ∷ Multiply 0x82800000 ∷ TakeFrom 0x02c00000 ∷ Change ∷ Divide 0x02800000 ∷ Subtract 0x01800000 ∷ []
+everyKind =
+    Add 0x01800000 ∷ Multiply 0x82800000 ∷ TakeFrom 0x02c00000 ∷ Change ∷ Divide 0x02800000 ∷ Subtract 0x01800000 ∷ []
 
 -- times the greatest word; and then plus zero, which leaves a status with no error bit
 abbrev pub tooFar : List Step
@@ -182,16 +185,24 @@ tooFarAndOn = Multiply 0x3fffffff ∷ Add 0x00000000 ∷ []
 
 pub record Examples : Type 0 where
   -- two runs that meet every premise, on 1 and 2, give -1 and -3: turned round once
-  pub starts : Starts (fromReset 0x01800000) × Starts (fromFull 0x02800000) × Constants turned × Le 0x01800000 0x02800000
-  pub quiet-runs : Quiet (under Am9511A) (fromReset 0x01800000) turned × Quiet (under Am9511A) (fromFull 0x02800000) turned
-  pub results : (resultOf (under Am9511A) (fromReset 0x01800000) turned ≡ 0x81800000) × (resultOf (under Am9511A) (fromFull 0x02800000) turned ≡ 0x82c00000)
+  pub starts : Starts (fromReset 0x01800000) × Starts (fromFull 0x02800000) × Constants turned
+      × Le 0x01800000 0x02800000
+  pub quiet-runs : Quiet (under Am9511A) (fromReset 0x01800000) turned
+      × Quiet (under Am9511A) (fromFull 0x02800000) turned
+  pub results : (resultOf (under Am9511A) (fromReset 0x01800000) turned ≡ 0x81800000)
+      × (resultOf (under Am9511A) (fromFull 0x02800000) turned ≡ 0x82c00000)
   pub turned-round : (reversing turned ≡ 1) × (Le 0x81800000 0x82c00000 → ⊥)
   -- a chain of every kind of step, on 1 and 2, gives -4.5 and -5.5
-  pub every-kind : Constants everyKind × Quiet (under Am9511A) (fromReset 0x01800000) everyKind × Quiet (under Am9511A) (fromFull 0x02800000) everyKind × (reversing everyKind ≡ 3)
-  pub every-kind-results : (resultOf (under Am9511A) (fromReset 0x01800000) everyKind ≡ 0x83900000) × (resultOf (under Am9511A) (fromFull 0x02800000) everyKind ≡ 0x83b00000)
+  pub every-kind : Constants everyKind × Quiet (under Am9511A) (fromReset 0x01800000) everyKind
+      × Quiet (under Am9511A) (fromFull 0x02800000) everyKind × (reversing everyKind ≡ 3)
+  pub every-kind-results : (resultOf (under Am9511A) (fromReset 0x01800000) everyKind ≡ 0x83900000)
+      × (resultOf (under Am9511A) (fromFull 0x02800000) everyKind ≡ 0x83b00000)
   -- without the premise: no step reverses, the second run overflows, and the order of the values is broken
-  pub overflows : (reversing tooFar ≡ 0) × Quiet (under Am9511A) (fromReset 0x01800000) tooFar × (quiet (under Am9511A) resetState (eventsIn (fromReset 0x3fffffff) tooFar) ≡ false)
-  pub broken : (resultOf (under Am9511A) (fromReset 0x01800000) tooFar ≡ 0x3fffffff) × (resultOf (under Am9511A) (fromReset 0x3fffffff) tooFar ≡ 0x7efffffe)
+  pub overflows : (reversing tooFar ≡ 0) × Quiet (under Am9511A) (fromReset 0x01800000) tooFar
+      × (quiet (under Am9511A) resetState (eventsIn (fromReset 0x3fffffff) tooFar) ≡ false)
+  pub broken : (resultOf (under Am9511A) (fromReset 0x01800000) tooFar ≡ 0x3fffffff)
+      × (resultOf (under Am9511A) (fromReset 0x3fffffff) tooFar ≡ 0x7efffffe)
   pub crossed : Le 0x01800000 0x3fffffff × (Le 0x3fffffff 0x7efffffe → ⊥)
   -- a look at the last status alone would miss it
-  pub last-is-clear : (errorOf ((stateAtEnd (under Am9511A) (fromReset 0x3fffffff) tooFarAndOn) .status) ≡ 0) × (resultOf (under Am9511A) (fromReset 0x3fffffff) tooFarAndOn ≡ 0x7efffffe)
+  pub last-is-clear : (errorOf ((stateAtEnd (under Am9511A) (fromReset 0x3fffffff) tooFarAndOn) .status) ≡ 0)
+      × (resultOf (under Am9511A) (fromReset 0x3fffffff) tooFarAndOn ≡ 0x7efffffe)

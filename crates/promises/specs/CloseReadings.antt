@@ -1,4 +1,5 @@
--- Request 12 of document 02, close readings subtract without loss, under either rule; examples at the edge, and one beyond it. Definitions and the statements only:
+-- Request 12 of document 02, close readings subtract without loss, under either rule; examples at the edge, and one
+-- beyond it. Definitions and the statements only:
 -- proofs/CloseReadings.antt proves them. Assumes nothing.
 use Prim.Native.Nat.{ℕ, _^_}
 use mathlib.Core.Path.{_≡_}
@@ -6,21 +7,22 @@ use mathlib.Core.List.{List, [], _∷_, map}
 use lib.IntN.{pos, _+ℤ_}
 use Rattle.terms.specs.declared.Rule.{Rule}
 use Rattle.terms.specs.declared.Width.the-variants.{Double}
-use Rattle.terms.specs.Errors.{overflow}
-use Rattle.float.specs.Word.{value, FloatWord}
-use Rattle.float.specs.Float.{exactDifference, sub}
-use Rattle.float.specs.Close.{Close, Lossless}
+use Rattle.float.specs.Float.{sub}
+use Rattle.promises.specs.FloatWords.{value, FloatWord, exactDifference}
+use Rattle.promises.specs.FloatResults.{Close, Lossless}
 use Rattle.promises.specs.Bench.{BenchRow, two, expected}
 use Rattle.promises.specs.NearBench.{shownBy}
 
 -- ---- FSUB's result, the word and the error of its row
 pub record CloseReadings : Type 0 where
   -- exact where no error bit is set, after taking 128 from the exponent where underflow is
-  pub without-loss : (rule : Rule) (b a : ℕ) → FloatWord b → FloatWord a → Close b a → Lossless (exactDifference b a) (sub rule b a)
+  pub without-loss : (rule : Rule) (b a : ℕ) → FloatWord b → FloatWord a → Close b a
+      → Lossless (exactDifference b a) (sub rule b a)
   -- "Overflow never occurs there."
-  pub no-overflow : (rule : Rule) (b a : ℕ) → FloatWord b → FloatWord a → Close b a → (sub rule b a) .error ≡ overflow → ⊥
+  pub no-overflow : (rule : Rule) (b a : ℕ) → FloatWord b → FloatWord a → Close b a → (sub rule b a) .error ≡ 1 → ⊥
 
--- ---- through the whole step: B twice A, A twice B, neighbours, below zero, underflow, equal; the last is beyond: B a little more than twice A
+-- ---- through the whole step: B twice A, A twice B, neighbours, below zero, underflow, equal; the last is beyond: B a
+-- little more than twice A
 abbrev pub closeTable : List BenchRow
 closeTable =
     two 0x11 Double 0x02ffffff 0x01ffffff 0x01ffffff 0 0x00

@@ -1,32 +1,29 @@
--- Any core of the four calls' types that meets the promises is the chip of the statements. Definitions and the statement only: proofs/Cores.antt proves
+-- Any core of the four calls' types that meets the promises is the chip of the statements. Definitions and the
+-- statement only: proofs/Cores.antt proves
 -- it. Assumes nothing.
-use Prim.Native.Nat.{ℕ, _%_, _^_, _<_}
+use Prim.Native.Nat.{ℕ, _+_, _*_, _%_, _^_, _<_}
 use mathlib.Core.Path.{_≡_}
 use mathlib.Core.Logic.{_⊎_}
 use mathlib.Core.Bool.{Bool, true, _&&_}
 use mathlib.Core.List.{List, [], _∷_, map}
 use lib.Dec.{eqb}
 use lib.ListN.{length, take, getD}
-use Rattle.terms.specs.Refusal.{numberOf}
-use Rattle.float.specs.Word.{FloatWord}
-use Rattle.float.specs.Order.{Le}
-use Rattle.stack.specs.Stack.{Bytes, bytesOf, tos}
-use Rattle.chip.specs.declared.Event.{Event as ChipEvent}
-use Rattle.chip.specs.declared.Event.the-variants.{Push, Pop, Command, Status, Reset, Acknowledge}
-use Rattle.chip.specs.Status.{errorOf}
-use Rattle.chip.specs.Commands.{baseRule}
-use Rattle.memory.specs.declared.Event.{Event}
-use Rattle.memory.specs.declared.Event.the-variants.{Chip, Recall, Forget}
-use Rattle.memory.specs.Memory.{Card, eventIn}
-use Rattle.memory.specs.History.{afterAll}
-use Rattle.host.specs.Host.{hostOf, takenOf, hostReply, takenReply}
-use Rattle.stored.specs.Bytes.{isState, cardIn, laidOut}
-use Rattle.pundaliket.specs.Calls.{Called, Signal, Sent, Calls, Signals, sentOf, Sends, joinedOf}
+use Rattle.promises.specs.Subjects.{ChipEvent, Push, Pop, Command, Status, Reset, Acknowledge, Event, Chip}
+use Rattle.promises.specs.Subjects.{Recall, Forget, Card, eventIn}
+use Rattle.promises.specs.Subjects.{hostOf, takenOf, hostReply, takenReply, Called, Signal, Sent, Calls, Signals}
+use Rattle.promises.specs.Subjects.{sentOf, Sends}
+use Rattle.promises.specs.Stack.{Bytes, bytesOf, tos}
+use Rattle.promises.specs.RefusalNumbers.{numberOf}
+use Rattle.promises.specs.FloatWords.{FloatWord, Le}
+use Rattle.promises.specs.BusEvents.{errorOf}
+use Rattle.promises.specs.Remembered.{afterAll}
+use Rattle.promises.specs.StateBytes.{IsState, cardIn, laidOut}
 use Rattle.promises.specs.Given.{Given, Chosen, settingsIn, runCall, eventCall}
 use Rattle.promises.specs.Chains.{Step, Constants, reversing, wordAfter, runEvents}
 
 -- ---- cores
--- any four functions of the calls' types under the numbers that are given with them: what a call returns and what it leaves in each slice, by what it was lent;
+-- any four functions of the calls' types under the numbers that are given with them: what a call returns and what it
+-- leaves in each slice, by what it was lent;
 -- a program of the calls has one such core for each choice of numbers
 pub record Core : Type 0 where
   pub run : List ℕ → List ℕ → List ℕ → List ℕ → Called
@@ -93,7 +90,8 @@ returned c state (e ∷ es) = (c .event state (kindNumber e) (byteOf e)) .result
 -- a card's answers as the calls give them: 256 times the refusal plus the byte read
 abbrev pub answersOf : Card → List Event → List ℕ
 answersOf k [] = []
-answersOf k (e ∷ es) = joinedOf (numberOf ((eventIn k e) .refusal)) ((eventIn k e) .byte) ∷ answersOf ((eventIn k e) .card) es
+answersOf k (e ∷ es) =
+    (256 * numberOf ((eventIn k e) .refusal) + (eventIn k e) .byte) ∷ answersOf ((eventIn k e) .card) es
 
 -- the memory is not read
 abbrev pub NoRecall : List Event → Type 0
@@ -135,7 +133,7 @@ drivenQuietly c state (e ∷ es) = clearAfter e ((c .event state (kindNumber e) 
 -- the bytes of a state that 13 does not turn away, with nothing pending, and a proper word
 pub record Begins (state : List ℕ) (w : ℕ) : Type 0 where
   pub bytes : Bytes state
-  pub good : isState state ≡ true
+  pub good : IsState state
   pub whole : getD state 16 0 ≡ 0
   pub proper : FloatWord w
 
@@ -150,20 +148,27 @@ wordLeft c state es = tos 4 (driven c state es)
 -- ---- the statement: of the 19 or 21 bytes of any good state, and any events
 pub record Driven (g : Given) (c : Core) : Type 0 where
   -- the bytes after the events are those of the card that the statements speak of, as many as were lent
-  pub states : (state : List ℕ) (es : List Event) → Bytes state → isState state ≡ true → Sendable es → driven c state es ≡ laidOut (length state) (afterAll (cardIn (settingsIn g) state) es)
+  pub states : (state : List ℕ) (es : List Event) → Bytes state → IsState state → Sendable es
+      → driven c state es ≡ laidOut (length state) (afterAll (cardIn (settingsIn g) state) es)
   -- and the calls return its answers; of 19 bytes the memory is gone after each call
-  pub returns : (state : List ℕ) (es : List Event) → Bytes state → isState state ≡ true → Sendable es → Keeps state es → returned c state es ≡ answersOf (cardIn (settingsIn g) state) es
+  pub returns : (state : List ℕ) (es : List Event) → Bytes state → IsState state → Sendable es → Keeps state es
+      → returned c state es ≡ answersOf (cardIn (settingsIn g) state) es
   -- demand 3 at the event call: every call of a run returns 0, error bits or not
-  pub chain-answers : (state : List ℕ) (w : ℕ) (sr : ℕ → Bool) (ks : List Step) → Begins state w → Constants ks → allZero (returned c state (busRun w sr ks)) ≡ true
+  pub chain-answers : (state : List ℕ) (w : ℕ) (sr : ℕ → Bool) (ks : List Step) → Begins state w → Constants ks
+      → allZero (returned c state (busRun w sr ks)) ≡ true
   -- at the end the word of demand 2 lies on top, high byte first, a function of the word and the chain alone
-  pub chain-bytes : (state : List ℕ) (w : ℕ) (sr : ℕ → Bool) (ks : List Step) → Begins state w → Constants ks → take 4 (driven c state (busRun w sr ks)) ≡ bytesOf 4 (wordAfter (settingsIn g .rule) w ks)
-  pub chain-word : (state : List ℕ) (w : ℕ) (sr : ℕ → Bool) (ks : List Step) → Begins state w → Constants ks → wordLeft c state (busRun w sr ks) ≡ wordAfter (settingsIn g .rule) w ks
+  pub chain-bytes : (state : List ℕ) (w : ℕ) (sr : ℕ → Bool) (ks : List Step) → Begins state w → Constants ks
+      → take 4 (driven c state (busRun w sr ks)) ≡ bytesOf 4 (wordAfter (settingsIn g .rule) w ks)
+  pub chain-word : (state : List ℕ) (w : ℕ) (sr : ℕ → Bool) (ks : List Step) → Begins state w → Constants ks
+      → wordLeft c state (busRun w sr ks) ≡ wordAfter (settingsIn g .rule) w ks
   -- where neither run leaves an error bit, an even number of reversing steps keeps the order of the values
-  pub chain-even : (state state' : List ℕ) (v w : ℕ) (sr sr' : ℕ → Bool) (ks : List Step) → Begins state v → Begins state' w → Constants ks
+  pub chain-even : (state state' : List ℕ) (v w : ℕ) (sr sr' : ℕ → Bool) (ks : List Step) → Begins state v
+      → Begins state' w → Constants ks
       → drivenQuietly c state (busRun v sr ks) ≡ true → drivenQuietly c state' (busRun w sr' ks) ≡ true → Le v w
       → reversing ks % 2 ≡ 0 → Le (wordLeft c state (busRun v sr ks)) (wordLeft c state' (busRun w sr' ks))
   -- and an odd number turns it round
-  pub chain-odd : (state state' : List ℕ) (v w : ℕ) (sr sr' : ℕ → Bool) (ks : List Step) → Begins state v → Begins state' w → Constants ks
+  pub chain-odd : (state state' : List ℕ) (v w : ℕ) (sr sr' : ℕ → Bool) (ks : List Step) → Begins state v
+      → Begins state' w → Constants ks
       → drivenQuietly c state (busRun v sr ks) ≡ true → drivenQuietly c state' (busRun w sr' ks) ≡ true → Le v w
       → reversing ks % 2 ≡ 1 → Le (wordLeft c state' (busRun w sr' ks)) (wordLeft c state (busRun v sr ks))
 

@@ -1,14 +1,16 @@
--- 02, ask 13, by tables: entries each way and whole calls, byte by byte. Definitions and the statement only: proofs/DoubleBench.antt proves it. Assumes nothing.
+-- 02, ask 13, by tables: entries each way and whole calls, byte by byte. Definitions and the statement only:
+-- proofs/DoubleBench.antt proves it. Assumes nothing.
 use Prim.Native.Nat.{ℕ}
 use mathlib.Core.Path.{_≡_}
 use mathlib.Core.List.{List, [], _∷_, map}
 use lib.ListN.{replicate}
 use Rattle.terms.specs.declared.Rule.the-variants.{Cut, Nearest}
 use Rattle.buffers.specs.declared.Entry.{Entry}
-use Rattle.buffers.specs.Buffers.{Turn, wordsTurn, floatsTurn}
+use Rattle.promises.specs.Subjects.{Turn, wordsTurn, floatsTurn}
 use Rattle.promises.specs.Doubles.{outward, inward, turned}
 
--- a word, and what it says outward: 0, 1, -1, -2.5, pi cut, the largest, the least, the largest below it; three that are not proper
+-- a word, and what it says outward: 0, 1, -1, -2.5, pi cut, the largest, the least, the largest below it; three that
+-- are not proper
 pub record OutRow : Type 0 where
   pub word : ℕ
   pub refusal : ℕ
@@ -48,8 +50,10 @@ underBoth float e = record { float = float; by-cut = e; by-nearest = e }
 abbrev pub underEach : ℕ → Entry → Entry → InRow
 underEach float c n = record { float = float; by-cut = c; by-nearest = n }
 
--- exact ones; halfway between two words, the even one below and above; beside halfway; up to the next power of two; a third and its opposite;
--- the largest word, what rounds to it, and what rounds to 2 ^ 63; the least word and what lies under it; subnormal ones; minus zero; infinite or no number
+-- exact ones; halfway between two words, the even one below and above; beside halfway; up to the next power of two; a
+-- third and its opposite;
+-- the largest word, what rounds to it, and what rounds to 2 ^ 63; the least word and what lies under it; subnormal
+-- ones; minus zero; infinite or no number
 abbrev pub inTable : List InRow
 inTable =
     underBoth 0x0000000000000000 (gives 0 0x00000000 0)
@@ -94,7 +98,8 @@ threeBad =
     ∷ 0x00 ∷ 0x00 ∷ 0x00 ∷ 0x00 ∷ 0x00 ∷ 0x00 ∷ 0x00 ∷ 0x80
     ∷ []
 
--- calls: 1 and -2.5 out, two bytes to spare; 1 and a word that is not proper; 17, then 18, then 8; three f64s in under cut and under nearest, a byte to spare; the first
+-- calls: 1 and -2.5 out, two bytes to spare; 1 and a word that is not proper; 17, then 18, then 8; three f64s in under
+-- cut and under nearest, a byte to spare; the first
 -- of two bad ones; no bytes at all
 abbrev pub called : List Turn
 called =
@@ -130,7 +135,8 @@ expected =
     ∷ []
 
 pub record DoublesBench : Type 0 where
-  pub outward-rows : map (λ (r : OutRow). outward (r .word)) outTable ≡ map (λ (r : OutRow). gives (r .refusal) (r .bits) 0) outTable
+  pub outward-rows : map (λ (r : OutRow). outward (r .word)) outTable
+      ≡ map (λ (r : OutRow). gives (r .refusal) (r .bits) 0) outTable
   pub cut-rows : map (λ (r : InRow). inward Cut (r .float)) inTable ≡ map (λ (r : InRow). r .by-cut) inTable
   pub nearest-rows : map (λ (r : InRow). inward Nearest (r .float)) inTable ≡ map (λ (r : InRow). r .by-nearest) inTable
   pub call-rows : called ≡ expected

@@ -1,4 +1,5 @@
--- 02, ask 13: words for the Am9512 bench. One entry each way by its value, a buffer entry by entry, and the two calls by literal numbers and bytes.
+-- 02, ask 13: words for the Am9512 bench. One entry each way by its value, a buffer entry by entry, and the two calls
+-- by literal numbers and bytes.
 -- Definitions and the statements only: proofs/Doubles.antt proves them. Assumes nothing.
 use Prim.Native.Nat.{ℕ, zero, suc, _+_, _*_, _/_, _%_, _^_, _≤_, _<_}
 use mathlib.Core.Path.{_≡_}
@@ -6,29 +7,51 @@ use mathlib.Core.Logic.{_⊎_, _↔_}
 use mathlib.Core.Bool.{true, false}
 use mathlib.Core.List.{List, [], _∷_, _++_}
 use lib.ListN.{length, take, drop, getD}
-use lib.Ieee.{Float, binary64, ofBits}
+use lib.Ieee.{Float, binary64, ofBits, toBits}
 use lib.Ieee.Exact.{HasValue}
 use Rattle.terms.specs.declared.Rule.{Rule}
 use Rattle.terms.specs.declared.Rule.the-variants.{Cut, Nearest}
-use Rattle.float.specs.Word.{negative, proper, size88}
-use Rattle.stack.specs.Stack.{Bytes}
-use Rattle.host.specs.Values.{HasWord, Endless, IsMinusZero, Small, BroughtTo, LargeBy}
 use Rattle.host.specs.Double.{outwardOf, inwardOf}
+use Rattle.host.specs.declared.entry.Outward.{Outward}
+use Rattle.host.specs.declared.entry.Outward.the-variants.{Float as Floats, Refused as Stays}
 use Rattle.host.specs.declared.entry.Inward.{Inward}
 use Rattle.host.specs.declared.entry.Inward.the-variants.{Exact, Rounded, Refused}
 use Rattle.buffers.specs.declared.Entry.{Entry}
-use Rattle.buffers.specs.Buffers.{outwardEntry, inwardEntry, Turn, wordsTurn, floatsTurn, Turns}
+use Rattle.promises.specs.Subjects.{Turn, wordsTurn, floatsTurn, Turns}
+use Rattle.promises.specs.Stack.{Bytes}
+use Rattle.promises.specs.RefusalNumbers.{numberOf}
+use Rattle.promises.specs.FloatWords.{negative, proper, size88}
+use Rattle.promises.specs.HostFloats.{HasWord, Endless, IsMinusZero, Small, BroughtTo, LargeBy}
 
 -- ---- one entry
 
--- what a word says that goes out, and an f64, by its bits, that comes in under a rule: the refusal's number, the bits that are written for it, 1 where it was rounded
+-- what each case of an answer says: the number of its refusal; the word or the bits of the f64 that is written for it,
+-- 0 where there is none; 1 where it was rounded
+abbrev pub outwardEntry : Outward → Entry
+outwardEntry (Floats x) = record { refusal = 0; bits = toBits binary64 x; rounded = 0 }
+outwardEntry (Stays r) = record { refusal = numberOf r; bits = 0; rounded = 0 }
+
+abbrev pub inwardEntry : Inward → Entry
+inwardEntry (Exact w) = record { refusal = 0; bits = w; rounded = 0 }
+inwardEntry (Rounded w x) = record { refusal = 0; bits = w; rounded = 1 }
+inwardEntry (Refused r) = record { refusal = numberOf r; bits = 0; rounded = 0 }
+
+-- the f64 that each case carries, by its bits; 0 where it carries none
+abbrev pub carriedBits : Inward → ℕ
+carriedBits (Exact w) = 0
+carriedBits (Rounded w x) = toBits binary64 x
+carriedBits (Refused r) = 0
+
+-- what a word says that goes out, and an f64, by its bits, that comes in under a rule: the refusal's number, the bits
+-- that are written for it, 1 where it was rounded
 abbrev pub outward : ℕ → Entry
 outward w = outwardEntry (outwardOf w)
 
 abbrev pub inward : Rule → ℕ → Entry
 inward rule p = inwardEntry (inwardOf rule p)
 
--- "Outward is exact." A proper word gives an f64 of exactly its value: its sign, and in size its value times 2 ^ 88 over 2 ^ 88. Any other is refused with 4.
+-- "Outward is exact." A proper word gives an f64 of exactly its value: its sign, and in size its value times 2 ^ 88
+-- over 2 ^ 88. Any other is refused with 4.
 abbrev pub OutwardExact : Type 0
 OutwardExact =
     (w : ℕ) → w < 2 ^ 32 →
@@ -49,11 +72,15 @@ pub record Apart (rule : Rule) (x : Float) : Type 0 where
 pub record Answers (rule : Rule) (x : Float) (r : Inward) : Type 0 where
   -- "the value is exact": exactly if a proper word has the value and it is not minus zero, and then with that word
   pub exact : (w : ℕ) → r ≡ Exact w ↔ (HasWord x w × (IsMinusZero x → ⊥))
-  -- "or that it was brought to 24 bits by the chosen rule": exactly where the rule brings it to a word, no word has its value and it is not under 2 ^ -65 as it is given
-  pub rounded : (w : ℕ) → ((y : Float) × (r ≡ Rounded w y)) ↔ (BroughtTo rule x w × ((v : ℕ) → HasWord x v → ⊥) × (Small x → ⊥))
+  -- "or that it was brought to 24 bits by the chosen rule": exactly where the rule brings it to a word, no word has its
+  -- value and it is not under 2 ^ -65 as it is given
+  pub rounded : (w : ℕ)
+      → ((y : Float) × (r ≡ Rounded w y)) ↔ (BroughtTo rule x w × ((v : ℕ) → HasWord x v → ⊥) × (Small x → ⊥))
   -- "and in that case carries the f64 that the word stands for"
   pub carried : (w : ℕ) (y : Float) → r ≡ Rounded w y → HasWord y w
-  -- every other answer is 10, 15, 12, 11, each exactly where 02 has it: 12 by the magnitude that is given, 11 by the one that the rule brings it to
+  pub carried-bits : (w : ℕ) (y : Float) → r ≡ Rounded w y → carriedBits r ≡ outward w .bits
+  -- every other answer is 10, 15, 12, 11, each exactly where 02 has it: 12 by the magnitude that is given, 11 by the
+  -- one that the rule brings it to
   pub answered : (n : ℕ) → inwardEntry r .refusal ≡ n → (n ≡ 0) ⊎ (n ≡ 10) ⊎ (n ≡ 15) ⊎ (n ≡ 12) ⊎ (n ≡ 11)
   pub ten : inwardEntry r .refusal ≡ 10 ↔ Endless x
   pub fifteen : inwardEntry r .refusal ≡ 15 ↔ IsMinusZero x
@@ -93,7 +120,8 @@ turned result number out = record { result = result; number = number; out = out 
 
 -- words to f64s
 pub record WordsCall (words out : List ℕ) : Type 0 where
-  -- "18 for an input length that is no whole number of entries", before all else; the number is 0 and nothing is written
+  -- "18 for an input length that is no whole number of entries", before all else; the number is 0 and nothing is
+  -- written
   pub part : (length words % 4 ≡ 0 → ⊥) → wordsTurn words out ≡ turned 18 0 out
   -- "then 8 for too little room"
   pub room : length words % 4 ≡ 0 → length out < 2 * length words → wordsTurn words out ≡ turned 8 0 out
@@ -102,7 +130,8 @@ pub record WordsCall (words out : List ℕ) : Type 0 where
       → ((j : ℕ) → j < i → outward (wordIn words j) .refusal ≡ 0) → (outward (wordIn words i) .refusal ≡ 0 → ⊥)
       → wordsTurn words out ≡ turned (outward (wordIn words i) .refusal) (i + 1) out
   -- else 0, the number 0, every word's f64 in its place and the rest of the slice as it was
-  pub done : length words % 4 ≡ 0 → 2 * length words ≤ length out → ((j : ℕ) → j < length words / 4 → outward (wordIn words j) .refusal ≡ 0)
+  pub done : length words % 4 ≡ 0 → 2 * length words ≤ length out
+      → ((j : ℕ) → j < length words / 4 → outward (wordIn words j) .refusal ≡ 0)
       → (wordsTurn words out .result ≡ 0)
       × (wordsTurn words out .number ≡ 0)
       × ((i : ℕ) → i < length words / 4 → take 8 (drop (i * 8) (wordsTurn words out .out)) ≡ floatBytes (outward (wordIn words i) .bits))
@@ -130,12 +159,16 @@ pub record FloatsCall (floats out : List ℕ) : Type 0 where
   pub no-rule : (rule : ℕ) → 2 ≤ rule → floatsTurn rule floats out ≡ turned 17 0 out
   -- then 18, then 8
   pub part : (rule : ℕ) → rule < 2 → (length floats % 8 ≡ 0 → ⊥) → floatsTurn rule floats out ≡ turned 18 0 out
-  pub room : (rule : ℕ) → rule < 2 → length floats % 8 ≡ 0 → length out < length floats / 2 → floatsTurn rule floats out ≡ turned 8 0 out
+  pub room : (rule : ℕ) → rule < 2 → length floats % 8 ≡ 0 → length out < length floats / 2
+      → floatsTurn rule floats out ≡ turned 8 0 out
   -- then the first entry that is refused, counted from 1
-  pub bad : (rule : ℕ) (how : Rule) → Names rule how → length floats % 8 ≡ 0 → length floats / 2 ≤ length out → (i : ℕ) → i < length floats / 8
-      → ((j : ℕ) → j < i → inward how (floatIn floats j) .refusal ≡ 0) → (inward how (floatIn floats i) .refusal ≡ 0 → ⊥)
+  pub bad : (rule : ℕ) (how : Rule) → Names rule how → length floats % 8 ≡ 0 → length floats / 2 ≤ length out → (i : ℕ)
+      → i < length floats / 8
+      → ((j : ℕ) → j < i → inward how (floatIn floats j) .refusal ≡ 0)
+      → (inward how (floatIn floats i) .refusal ≡ 0 → ⊥)
       → floatsTurn rule floats out ≡ turned (inward how (floatIn floats i) .refusal) (i + 1) out
-  -- else 0, the number of entries that were brought to 24 bits, every f64's word in its place and the rest of the slice as it was
+  -- else 0, the number of entries that were brought to 24 bits, every f64's word in its place and the rest of the slice
+  -- as it was
   pub done : (rule : ℕ) (how : Rule) → Names rule how → length floats % 8 ≡ 0 → length floats / 2 ≤ length out
       → ((j : ℕ) → j < length floats / 8 → inward how (floatIn floats j) .refusal ≡ 0)
       → (floatsTurn rule floats out .result ≡ 0)
@@ -160,21 +193,26 @@ BuffersKept =
 -- a buffer of words that was turned to f64s comes back bit for bit, under either rule, with no entry rounded
 abbrev pub WordsBack : Type 0
 WordsBack =
-    (rule : ℕ) → rule < 2 → (words out back : List ℕ) → Bytes words → wordsTurn words out .result ≡ 0 → length words ≤ length back
+    (rule : ℕ) → rule < 2 → (words out back : List ℕ) → Bytes words → wordsTurn words out .result ≡ 0
+    → length words ≤ length back
     → floatsTurn rule (take (2 * length words) (wordsTurn words out .out)) back ≡ turned 0 0 (words ++ drop (length words) back)
 
 -- and a buffer of f64s that was turned to words, no entry rounded
 abbrev pub FloatsBack : Type 0
 FloatsBack =
-    (rule : ℕ) (floats out back : List ℕ) → Bytes floats → floatsTurn rule floats out .result ≡ 0 → floatsTurn rule floats out .number ≡ 0 → length floats ≤ length back
-    → wordsTurn (take (length floats / 2) (floatsTurn rule floats out .out)) back ≡ turned 0 0 (floats ++ drop (length floats) back)
+    (rule : ℕ) (floats out back : List ℕ) → Bytes floats → floatsTurn rule floats out .result ≡ 0
+    → floatsTurn rule floats out .number ≡ 0 → length floats ≤ length back
+    → wordsTurn (take (length floats / 2) (floatsTurn rule floats out .out)) back
+    ≡ turned 0 0 (floats ++ drop (length floats) back)
 
 -- ---- every call gets a fixed reply: two results, numbers and exits that its contract allows coincide
 abbrev pub WordsToF64Determined : Type 0
 WordsToF64Determined =
-    (words out : List ℕ) (r q n m : ℕ) (s t : List ℕ) → Turns (wordsTurn words out) r n s → Turns (wordsTurn words out) q m t → (r ≡ q) × (n ≡ m) × (s ≡ t)
+    (words out : List ℕ) (r q n m : ℕ) (s t : List ℕ) → Turns (wordsTurn words out) r n s
+    → Turns (wordsTurn words out) q m t → (r ≡ q) × (n ≡ m) × (s ≡ t)
 
 abbrev pub F64ToWordsDetermined : Type 0
 F64ToWordsDetermined =
-    (rule : ℕ) (floats out : List ℕ) (r q n m : ℕ) (s t : List ℕ) → Turns (floatsTurn rule floats out) r n s → Turns (floatsTurn rule floats out) q m t
+    (rule : ℕ) (floats out : List ℕ) (r q n m : ℕ) (s t : List ℕ) → Turns (floatsTurn rule floats out) r n s
+    → Turns (floatsTurn rule floats out) q m t
     → (r ≡ q) × (n ≡ m) × (s ≡ t)

@@ -1,4 +1,5 @@
--- 02, ask 3: "The bits are to be proved equal to what the history of statuses says", through the event call and through files; and a state of 19 bytes.
+-- 02, ask 3: "The bits are to be proved equal to what the history of statuses says", through the event call and through
+-- files; and a state of 19 bytes.
 -- Definitions and the statements only: proofs/ErrorMemory.antt proves them. Assumes nothing.
 use Prim.Native.Nat.{ℕ, _+_, _^_, _≤_, _<_}
 use mathlib.Core.Path.{_≡_}
@@ -6,21 +7,18 @@ use mathlib.Core.Bool.{true, cond}
 use mathlib.Core.List.{List, [], _∷_, _++_, map}
 use lib.Dec.{eqb, ltb}
 use lib.ListN.{length, take, drop, getD, replicate}
-use Rattle.stack.specs.Stack.{Bytes}
-use Rattle.chip.specs.declared.Event.the-variants.{Push, Pop, Command, Status, Reset, Acknowledge}
-use Rattle.memory.specs.declared.Memory.{Memory}
-use Rattle.memory.specs.declared.Event.{Event}
-use Rattle.memory.specs.declared.Event.the-variants.{Chip, Recall, Forget}
-use Rattle.memory.specs.Memory.{emptyMemory, Card}
-use Rattle.memory.specs.History.{History, memoryOf, from, told, afterAll, historyOf}
-use Rattle.records.specs.Run.{runOf}
-use Rattle.stored.specs.Bytes.{isState, cardIn}
+use Rattle.promises.specs.Subjects.{Push, Pop, Command, Status, Reset, Acknowledge, Memory, Event, Chip, Recall}
+use Rattle.promises.specs.Subjects.{Forget, Card, runOf}
+use Rattle.promises.specs.Stack.{Bytes}
+use Rattle.promises.specs.Remembered.{emptyMemory, History, memoryOf, from, told, afterAll, historyOf}
+use Rattle.promises.specs.StateBytes.{IsState, cardIn}
 use Rattle.promises.specs.Records.{joined, EachTaken, repliesOf}
 use Rattle.promises.specs.Given.{Given, Chosen, settingsIn}
 use Rattle.promises.specs.Cores.{Core, Meets, kindNumber, byteOf, Sendable, driven}
 
 -- ---- through the event call
--- the history of calls: a reset and a clearing that return less than 256 begin it anew, a command that does is told with its code and byte 17 of the state
+-- the history of calls: a reset and a clearing that return less than 256 begin it anew, a command that does is told
+-- with its code and byte 17 of the state
 -- after it; nothing else counts
 abbrev pub noted : Event → ℕ → ℕ → History → History
 noted (Chip (Push byte)) n status h = h
@@ -63,10 +61,11 @@ eventsIn (r ∷ rs) = recordEvents r ++ eventsIn rs
 abbrev pub rememberedAfter : Card → List Event → Memory
 rememberedAfter k es = memoryOf (historyOf k es (from (k .memory)))
 
--- what is lent for records in turn and one of kind 7 behind them: a good state, a report of nine bytes, records that are each taken, room for the reply
+-- what is lent for records in turn and one of kind 7 behind them: a good state, a report of nine bytes, records that
+-- are each taken, room for the reply
 pub record Lent (g : Given) (state : List ℕ) (rs : List (List ℕ)) (replies report : List ℕ) : Type 0 where
   pub bytes : Bytes state × Bytes (joined rs) × Bytes replies × Bytes report
-  pub good : isState state ≡ true
+  pub good : IsState state
   pub nine : length report ≡ 9
   pub each : EachTaken (cardIn (settingsIn g) state) rs (length replies)
   pub short : length (joined rs) + 4 ≤ 12288
@@ -74,12 +73,15 @@ pub record Lent (g : Given) (state : List ℕ) (rs : List (List ℕ)) (replies r
 
 -- ---- the statement, of every core that meets the promises
 pub record MemoryIsHistory (g : Given) (c : Core) : Type 0 where
-  -- the event call on 21 bytes: after any events the last two are what the history of the calls says, on top of the two that stood
-  pub events : (state : List ℕ) (es : List Event) → Bytes state → isState state ≡ true → length state ≡ 21 → Sendable es
+  -- the event call on 21 bytes: after any events the last two are what the history of the calls says, on top of the two
+  -- that stood
+  pub events : (state : List ℕ) (es : List Event) → Bytes state → IsState state → length state ≡ 21 → Sendable es
       → memoryAt (driven c state es) ≡ memoryOf (callHistory c state es (from (memoryAt state)))
   -- files on 21 bytes: the last two are what the history of the records' events says
-  pub files : (state : List ℕ) (rs : List (List ℕ)) (replies report : List ℕ) → Lent g state rs replies report → length state ≡ 21
-      → memoryAt ((c .run state (joined rs) replies report) .state) ≡ rememberedAfter (cardIn (settingsIn g) state) (eventsIn rs)
+  pub files : (state : List ℕ) (rs : List (List ℕ)) (replies report : List ℕ) → Lent g state rs replies report
+      → length state ≡ 21
+      → memoryAt ((c .run state (joined rs) replies report) .state)
+      ≡ rememberedAfter (cardIn (settingsIn g) state) (eventsIn rs)
   -- files on 19 or 21 bytes: a record of kind 7 behind them is answered with the two, which on 19 bytes began empty
   pub recalled : (state : List ℕ) (rs : List (List ℕ)) (replies report : List ℕ) → Lent g state rs replies report
       → take 7 (drop (length (joined (repliesOf (cardIn (settingsIn g) state) rs (length replies)))) ((c .run state (joined rs ++ (2 ∷ 0 ∷ 7 ∷ 0 ∷ [])) replies report) .replies))
@@ -90,16 +92,19 @@ ErrorMemory = (g : Given) → Chosen g → (c : Core) → Meets g c → MemoryIs
 
 -- the run of records in turn is the run of their events, whatever stands on the card
 abbrev pub RecordsAreEvents : Type 0
-RecordsAreEvents = (k : Card) (rs : List (List ℕ)) (room : ℕ) → EachTaken k rs room → runOf k (joined rs) room .state ≡ afterAll k (eventsIn rs)
+RecordsAreEvents = (k : Card) (rs : List (List ℕ)) (room : ℕ) → EachTaken k rs room
+    → runOf k (joined rs) room .state ≡ afterAll k (eventsIn rs)
 
 -- ---- a state of 19 bytes
 -- the same state with an empty memory
 abbrev pub lengthened : List ℕ → List ℕ
 lengthened state = state ++ (0 ∷ 0 ∷ [])
 
--- "a 19-byte state is read with an empty memory and written back as 19 bytes, memory dropped": whatever 19 bytes they are, good or not
+-- "a 19-byte state is read with an empty memory and written back as 19 bytes, memory dropped": whatever 19 bytes they
+-- are, good or not
 pub record Shortened (c : Core) : Type 0 where
-  pub run : (state input replies report : List ℕ) → length state ≡ 19 → Bytes state → Bytes input → Bytes replies → Bytes report
+  pub run : (state input replies report : List ℕ) → length state ≡ 19 → Bytes state → Bytes input → Bytes replies
+      → Bytes report
       → c .run state input replies report
       ≡ record {
         result = (c .run (lengthened state) input replies report) .result;

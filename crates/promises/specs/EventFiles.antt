@@ -1,22 +1,22 @@
--- Files and events are one: the records of events, run as a file, leave what the events leave given one at a time, and their replies hold the answers;
--- with that demand 3 for files. Definitions and the statements only: proofs/EventFiles.antt proves them. Assumes nothing.
+-- Files and events are one: the records of events, run as a file, leave what the events leave given one at a time, and
+-- their replies hold the answers;
+-- with that demand 3 for files. Definitions and the statements only: proofs/EventFiles.antt proves them. Assumes
+-- nothing.
 use Prim.Native.Nat.{ℕ, _/_, _%_, _≤_}
 use mathlib.Core.Path.{_≡_}
 use mathlib.Core.Bool.{Bool, true}
 use mathlib.Core.List.{List, [], _∷_, _++_}
 use lib.ListN.{length, take, drop, getD}
-use Rattle.float.specs.Order.{Le}
-use Rattle.stack.specs.Stack.{Bytes, bytesOf, tos}
-use Rattle.chip.specs.declared.Event.the-variants.{Push, Pop, Command, Status, Reset, Acknowledge}
-use Rattle.chip.specs.Commands.{baseRule}
-use Rattle.memory.specs.declared.Event.{Event}
-use Rattle.memory.specs.declared.Event.the-variants.{Chip, Recall, Forget}
-use Rattle.stored.specs.Bytes.{isState}
-use Rattle.pundaliket.specs.Calls.{Called}
+use Rattle.promises.specs.Subjects.{Push, Pop, Command, Status, Reset, Acknowledge, Event, Chip, Recall, Forget}
+use Rattle.promises.specs.Subjects.{Called}
+use Rattle.promises.specs.Stack.{Bytes, bytesOf, tos}
+use Rattle.promises.specs.FloatWords.{Le}
+use Rattle.promises.specs.StateBytes.{IsState}
 use Rattle.promises.specs.Given.{Given, Chosen, settingsIn}
 use Rattle.promises.specs.Records.{countAt}
 use Rattle.promises.specs.Chains.{Step, Constants, reversing, wordAfter}
-use Rattle.promises.specs.Cores.{Core, Meets, kindNumber, byteOf, Sendable, Keeps, driven, returned, drivenQuietly, Begins, busRun}
+use Rattle.promises.specs.Cores.{Core, Meets, kindNumber, byteOf, Sendable, Keeps, driven, returned}
+use Rattle.promises.specs.Cores.{drivenQuietly, Begins, busRun}
 
 -- the record of an event: its length, its kind, its payload
 abbrev pub recordOf : Event → List ℕ
@@ -38,7 +38,8 @@ abbrev pub codesBefore : Core → List ℕ → List Event → List ℕ
 codesBefore c state [] = []
 codesBefore c state (e ∷ es) = getD state 20 0 ∷ codesBefore c ((c .event state (kindNumber e) (byteOf e)) .state) es
 
--- the reply of an event for which the event call returns n: 256 times the refusal plus the byte read, which a pop, a status read and the memory read have;
+-- the reply of an event for which the event call returns n: 256 times the refusal plus the byte read, which a pop, a
+-- status read and the memory read have;
 -- the memory read has the code behind it
 abbrev pub replyTo : Event → ℕ → ℕ → List ℕ
 replyTo (Chip (Push byte)) n code = 3 ∷ 0 ∷ 129 ∷ 0 ∷ n / 256 ∷ []
@@ -63,10 +64,11 @@ pub record FileOfEvents (c : Called) (es : List Event) (state numbers codes repl
   pub all-taken : countAt (c .report) 1 ≡ length (fileOf es)
   pub all-written : countAt (c .report) 5 ≡ length (repliesTo es numbers codes)
 
--- what is lent for the file of some events: a good state, a report of nine bytes, room for the replies, and no more than 12,288 bytes of records
+-- what is lent for the file of some events: a good state, a report of nine bytes, room for the replies, and no more
+-- than 12,288 bytes of records
 pub record Lent (c : Core) (state : List ℕ) (es : List Event) (replies report : List ℕ) : Type 0 where
   pub bytes : Bytes state × Bytes replies × Bytes report
-  pub good : isState state ≡ true
+  pub good : IsState state
   pub told : Keeps state es
   pub nine : length report ≡ 9
   pub short : length (fileOf es) ≤ 12288
@@ -75,7 +77,8 @@ pub record Lent (c : Core) (state : List ℕ) (es : List Event) (replies report 
 -- ---- of any core that meets the promises, any events
 abbrev pub EventFiles : Type 0
 EventFiles =
-    (g : Given) → Chosen g → (c : Core) → Meets g c → (state : List ℕ) (es : List Event) (replies report : List ℕ) → Sendable es → Lent c state es replies report
+    (g : Given) → Chosen g → (c : Core) → Meets g c → (state : List ℕ) (es : List Event) (replies report : List ℕ)
+    → Sendable es → Lent c state es replies report
     → FileOfEvents (c .run state (fileOf es) replies report) es (driven c state es) (returned c state es) (codesBefore c state es) replies
 
 -- ---- demand 3 for files: the file of a chain's events
@@ -89,21 +92,27 @@ zerosFor (e ∷ es) = 0 ∷ zerosFor es
 
 pub record ChainFiles (g : Given) (c : Core) : Type 0 where
   -- every record is answered 0, error bits or not, and the call returns 0
-  pub answers : (state : List ℕ) (w : ℕ) (sr : ℕ → Bool) (ks : List Step) (replies report : List ℕ) → Begins state w → Constants ks → Lent c state (busRun w sr ks) replies report
+  pub answers : (state : List ℕ) (w : ℕ) (sr : ℕ → Bool) (ks : List Step) (replies report : List ℕ) → Begins state w
+      → Constants ks → Lent c state (busRun w sr ks) replies report
       → ((c .run state (chainFile w sr ks) replies report) .result ≡ 0)
       × ((c .run state (chainFile w sr ks) replies report) .replies
-      ≡ repliesTo (busRun w sr ks) (zerosFor (busRun w sr ks)) (zerosFor (busRun w sr ks)) ++ drop (length (repliesTo (busRun w sr ks) (zerosFor (busRun w sr ks)) (zerosFor (busRun w sr ks)))) replies)
+      ≡ repliesTo (busRun w sr ks) (zerosFor (busRun w sr ks)) (zerosFor (busRun w sr ks))
+      ++ drop (length (repliesTo (busRun w sr ks) (zerosFor (busRun w sr ks)) (zerosFor (busRun w sr ks)))) replies)
   -- the word of demand 2 lies on top, high byte first, a function of the word and the chain alone
-  pub bytes : (state : List ℕ) (w : ℕ) (sr : ℕ → Bool) (ks : List Step) (replies report : List ℕ) → Begins state w → Constants ks → Lent c state (busRun w sr ks) replies report
-      → take 4 ((c .run state (chainFile w sr ks) replies report) .state) ≡ bytesOf 4 (wordAfter (settingsIn g .rule) w ks)
-  -- where the events of neither file leave an error bit, an even number of reversing steps keeps the order of the values, and an odd number turns it round
+  pub bytes : (state : List ℕ) (w : ℕ) (sr : ℕ → Bool) (ks : List Step) (replies report : List ℕ) → Begins state w
+      → Constants ks → Lent c state (busRun w sr ks) replies report
+      → take 4 ((c .run state (chainFile w sr ks) replies report) .state)
+      ≡ bytesOf 4 (wordAfter (settingsIn g .rule) w ks)
+  -- where the events of neither file leave an error bit, an even number of reversing steps keeps the order of the
+  -- values, and an odd number turns it round
   pub even : (state state' : List ℕ) (v w : ℕ) (sr sr' : ℕ → Bool) (ks : List Step) (replies replies' report report' : List ℕ) → Begins state v → Begins state' w → Constants ks
       → Lent c state (busRun v sr ks) replies report → Lent c state' (busRun w sr' ks) replies' report'
       → drivenQuietly c state (busRun v sr ks) ≡ true → drivenQuietly c state' (busRun w sr' ks) ≡ true → Le v w → reversing ks % 2 ≡ 0
       → Le (tos 4 ((c .run state (chainFile v sr ks) replies report) .state)) (tos 4 ((c .run state' (chainFile w sr' ks) replies' report') .state))
   pub odd : (state state' : List ℕ) (v w : ℕ) (sr sr' : ℕ → Bool) (ks : List Step) (replies replies' report report' : List ℕ) → Begins state v → Begins state' w → Constants ks
       → Lent c state (busRun v sr ks) replies report → Lent c state' (busRun w sr' ks) replies' report'
-      → drivenQuietly c state (busRun v sr ks) ≡ true → drivenQuietly c state' (busRun w sr' ks) ≡ true → Le v w → reversing ks % 2 ≡ 1
+      → drivenQuietly c state (busRun v sr ks) ≡ true → drivenQuietly c state' (busRun w sr' ks) ≡ true → Le v w
+      → reversing ks % 2 ≡ 1
       → Le (tos 4 ((c .run state' (chainFile w sr' ks) replies' report') .state)) (tos 4 ((c .run state (chainFile v sr ks) replies report) .state))
 
 abbrev pub Demand3Files : Type 0

@@ -1,19 +1,15 @@
--- Demand 2, float results: how they are formed and cut, in whole numbers. Definitions and the statement only: proofs/Exact.antt proves it. Assumes nothing.
+-- Demand 2, float results: how they are formed and cut, in whole numbers. Definitions and the statement only:
+-- proofs/Exact.antt proves it. Assumes nothing.
 -- Results are taken from the definitions that the commands cite, under the rule of the chip as it stands.
 use Prim.Native.Nat.{ℕ, _+_, _*_, _^_, _≤_, _<_}
 use mathlib.Core.Path.{_≡_}
 use lib.IntN.{ℤ, pos, negℤ, _*ℤ_}
-use Rattle.float.specs.declared.Flagged.{Flagged}
-use Rattle.float.specs.Word.{mantissa, size88, value, FloatWord}
-use Rattle.float.specs.Float.{exactSum, exactDifference, exactProduct, dividend, divisor, add, sub, mul, div}
-use Rattle.float.specs.Convert.{integer, fltd, flts, wholePart, fixd, fixs, chsf}
-use Rattle.float.specs.Cut.{Pair}
-use Rattle.float.specs.Exact.{Exactly, Truncated}
-use Rattle.chip.specs.Commands.{baseRule}
-
--- a result that is the word w, with no error bit
-abbrev pub clean : ℕ → Flagged
-clean w = record { word = w; error = 0 }
+use Rattle.terms.specs.declared.Rule.the-variants.{Cut}
+use Rattle.float.specs.Float.{add, sub, mul, div}
+use Rattle.float.specs.Convert.{fltd, flts, fixd, fixs, chsf}
+use Rattle.promises.specs.FloatWords.{mantissa, size88, value, FloatWord, exactSum, exactDifference, exactProduct}
+use Rattle.promises.specs.FloatWords.{dividend, divisor}
+use Rattle.promises.specs.FloatResults.{clean, integer, wholePart, Pair, Exactly, Truncated}
 
 -- ---- the pair m, e of a magnitude n / d, e unbounded, by comparing products
 pub record OnePair : Type 0 where
@@ -22,30 +18,36 @@ pub record OnePair : Type 0 where
   -- and no other
   pub only : (n d m m' : ℕ) (e e' : ℤ) → 0 < d → Pair n d m e → Pair n d m' e' → (m ≡ m') × (e ≡ e')
 
--- ---- FADD, FSUB, FMUL, FDIV: zero gives the zero word; else sign kept, m of the pair, e of the pair after at most one step of 128, e within bounds
+-- ---- FADD, FSUB, FMUL, FDIV: zero gives the zero word; else sign kept, m of the pair, e of the pair after at most one
+-- step of 128, e within bounds
 pub record Operations : Type 0 where
   -- the exact sum and difference, times 2^88: e from -87 to 64
-  pub sum : (b a : ℕ) → FloatWord b → FloatWord a → Exactly (exactSum b a) (2 ^ 88) (negℤ (pos 87)) (pos 64) (add baseRule b a)
-  pub difference : (b a : ℕ) → FloatWord b → FloatWord a → Exactly (exactDifference b a) (2 ^ 88) (negℤ (pos 87)) (pos 64) (sub baseRule b a)
+  pub sum : (b a : ℕ) → FloatWord b → FloatWord a
+      → Exactly (exactSum b a) (2 ^ 88) (negℤ (pos 87)) (pos 64) (add Cut b a)
+  pub difference : (b a : ℕ) → FloatWord b → FloatWord a
+      → Exactly (exactDifference b a) (2 ^ 88) (negℤ (pos 87)) (pos 64) (sub Cut b a)
   -- the exact product, times 2^176: e from -129 to 126
-  pub product : (b a : ℕ) → FloatWord b → FloatWord a → Exactly (exactProduct b a) (2 ^ 176) (negℤ (pos 129)) (pos 126) (mul baseRule b a)
+  pub product : (b a : ℕ) → FloatWord b → FloatWord a
+      → Exactly (exactProduct b a) (2 ^ 176) (negℤ (pos 129)) (pos 126) (mul Cut b a)
   -- the exact quotient, two whole numbers: e from -127 to 128
-  pub quotient : (b a : ℕ) → FloatWord b → FloatWord a → (mantissa a ≡ 0 → ⊥) → Exactly (dividend b a) (divisor a) (negℤ (pos 127)) (pos 128) (div baseRule b a)
+  pub quotient : (b a : ℕ) → FloatWord b → FloatWord a → (mantissa a ≡ 0 → ⊥)
+      → Exactly (dividend b a) (divisor a) (negℤ (pos 127)) (pos 128) (div Cut b a)
   -- by zero: B, divide by zero
-  pub by-zero : (b a : ℕ) → FloatWord a → mantissa a ≡ 0 → div baseRule b a ≡ record { word = b; error = 8 }
+  pub by-zero : (b a : ℕ) → FloatWord a → mantissa a ≡ 0 → div Cut b a ≡ record { word = b; error = 8 }
 
 -- ---- what follows for the words
 pub record WordLaws : Type 0 where
   -- results are proper
-  pub proper-sum : (b a : ℕ) → FloatWord ((add baseRule b a) .word) × FloatWord ((sub baseRule b a) .word)
-  pub proper-product : (b a : ℕ) → FloatWord ((mul baseRule b a) .word)
-  pub proper-quotient : (b a : ℕ) → FloatWord b → FloatWord ((div baseRule b a) .word)
+  pub proper-sum : (b a : ℕ) → FloatWord ((add Cut b a) .word) × FloatWord ((sub Cut b a) .word)
+  pub proper-product : (b a : ℕ) → FloatWord ((mul Cut b a) .word)
+  pub proper-quotient : (b a : ℕ) → FloatWord b → FloatWord ((div Cut b a) .word)
   pub proper-change : (a : ℕ) → FloatWord a → FloatWord (chsf a)
   -- an exact result that is the value of a proper word is that word, with no error bit
-  pub sum-kept : (b a w : ℕ) → FloatWord w → value w ≡ exactSum b a → add baseRule b a ≡ clean w
-  pub difference-kept : (b a w : ℕ) → FloatWord w → value w ≡ exactDifference b a → sub baseRule b a ≡ clean w
-  pub product-kept : (b a w : ℕ) → FloatWord w → value w *ℤ pos (2 ^ 88) ≡ exactProduct b a → mul baseRule b a ≡ clean w
-  pub quotient-kept : (b a w : ℕ) → FloatWord w → (mantissa a ≡ 0 → ⊥) → value w *ℤ pos (divisor a) ≡ dividend b a *ℤ pos (2 ^ 88) → div baseRule b a ≡ clean w
+  pub sum-kept : (b a w : ℕ) → FloatWord w → value w ≡ exactSum b a → add Cut b a ≡ clean w
+  pub difference-kept : (b a w : ℕ) → FloatWord w → value w ≡ exactDifference b a → sub Cut b a ≡ clean w
+  pub product-kept : (b a w : ℕ) → FloatWord w → value w *ℤ pos (2 ^ 88) ≡ exactProduct b a → mul Cut b a ≡ clean w
+  pub quotient-kept : (b a w : ℕ) → FloatWord w → (mantissa a ≡ 0 → ⊥)
+      → value w *ℤ pos (divisor a) ≡ dividend b a *ℤ pos (2 ^ 88) → div Cut b a ≡ clean w
   -- two proper words of one value are one word
   pub one-word : (v w : ℕ) → FloatWord v → FloatWord w → value v ≡ value w → v ≡ w
   -- CHSF gives the opposite value
@@ -55,9 +57,9 @@ pub record WordLaws : Type 0 where
 pub record Conversions : Type 0 where
   -- FLTS: A's value, exact; FLTD: A's value, cut to 24 bits; neither sets an error
   pub flts-exact : (a : ℕ) → a < 2 ^ 16 → value ((flts a) .word) ≡ integer (2 ^ 15) a *ℤ pos (2 ^ 88)
-  pub fltd-cut : (a : ℕ) → a < 2 ^ 32 → Exactly (integer (2 ^ 31) a) 1 (pos 1) (pos 32) (fltd baseRule a)
-  pub no-error : (a : ℕ) → (a < 2 ^ 16 → (flts a) .error ≡ 0) × (a < 2 ^ 32 → (fltd baseRule a) .error ≡ 0)
-  pub proper-floats : (a : ℕ) → FloatWord ((flts a) .word) × FloatWord ((fltd baseRule a) .word)
+  pub fltd-cut : (a : ℕ) → a < 2 ^ 32 → Exactly (integer (2 ^ 31) a) 1 (pos 1) (pos 32) (fltd Cut a)
+  pub no-error : (a : ℕ) → (a < 2 ^ 16 → (flts a) .error ≡ 0) × (a < 2 ^ 32 → (fltd Cut a) .error ≡ 0)
+  pub proper-floats : (a : ℕ) → FloatWord ((flts a) .word) × FloatWord ((fltd Cut a) .word)
   -- FIXD, FIXS: |R| <= |A| < |R| + 1 with A's sign where the whole part is at most 2^31-1 or 32,767
   pub fixd-taken : (a : ℕ) → wholePart a < 2 ^ 31 → Truncated (2 ^ 31) a (fixd a)
   pub fixs-taken : (a : ℕ) → wholePart a < 2 ^ 15 → Truncated (2 ^ 15) a (fixs a)

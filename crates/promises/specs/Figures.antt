@@ -1,4 +1,5 @@
--- What stands under a name in the definitions, written out: 01's limits and refusal numbers, Figure 8 of 001 code by code, the bytes of a word, the fields of
+-- What stands under a name in the definitions, written out: 01's limits and refusal numbers, Figure 8 of 001 code by
+-- code, the bytes of a word, the fields of
 -- a float word and of the status. Definitions and the statement only: proofs/Figures.antt proves it. Assumes nothing.
 use Prim.Native.Nat.{ℕ, zero, suc, _+_, _*_, _/_, _%_, _^_, _≤_, _<_}
 use mathlib.Core.Path.{_≡_}
@@ -6,19 +7,21 @@ use mathlib.Core.Bool.{Bool, true, false, cond}
 use mathlib.Core.List.{List, [], _∷_, _++_, map}
 use lib.IntN.{pos, negℤ}
 use lib.ListN.{replicate}
-use Rattle.terms.specs.declared.Refusal.the-variants.{Done, UnknownCode, DerivedCode, HalfWord, Improper, NoSuchKind, CutShort, BadLength, NoRoom, InputTooLong, NotFinite, TooLarge, TooSmall, BadState, BadReport, MinusZero, BadMode, BadRule, PartEntry}
+use Rattle.terms.specs.declared.Refusal.the-variants.{Done, UnknownCode, DerivedCode, HalfWord, Improper, NoSuchKind}
+use Rattle.terms.specs.declared.Refusal.the-variants.{CutShort, BadLength, NoRoom, InputTooLong, NotFinite, TooLarge}
+use Rattle.terms.specs.declared.Refusal.the-variants.{TooSmall, BadState, BadReport, MinusZero, BadMode, BadRule}
+use Rattle.terms.specs.declared.Refusal.the-variants.{PartEntry}
 use Rattle.terms.specs.declared.Width.the-variants.{Single, Double}
-use Rattle.terms.specs.Refusal.{numberOf}
-use Rattle.terms.specs.Width.{sizeOf, bitsOf}
-use Rattle.terms.specs.Limits.{stackBytes, stateBytes, longStateBytes, reportBytes, mostInput, mostPayload, leastLength, mostLength}
-use Rattle.float.specs.Word.{proper, value}
-use Rattle.stack.specs.Stack.{bytesOf, lowFirst, tos}
 use Rattle.codes.specs.declared.FloatOp.the-variants.{Add as FAdd, Sub as FSub, Mul as FMul, Div as FDiv}
-use Rattle.codes.specs.declared.Command.the-variants.{Nop, Add, Sub, Mul, Muu, Div, Chs, Float, Chsf, Flt, Fix, Pto, Pop, Xch, Pupi, Sqrt}
+use Rattle.codes.specs.declared.Command.the-variants.{Nop, Add, Sub, Mul, Muu, Div, Chs, Float, Chsf, Flt, Fix, Pto}
+use Rattle.codes.specs.declared.Command.the-variants.{Pop, Xch, Pupi, Sqrt}
 use Rattle.codes.specs.declared.Kind.{Kind}
 use Rattle.codes.specs.declared.Kind.the-variants.{Known, Derived, Unknown}
 use Rattle.codes.specs.Codes.{decoded}
-use Rattle.chip.specs.Status.{errorOf}
+use Rattle.promises.specs.Stack.{sizeOf, bitsOf, bytesOf, lowFirst, tos}
+use Rattle.promises.specs.RefusalNumbers.{numberOf}
+use Rattle.promises.specs.FloatWords.{proper, value}
+use Rattle.promises.specs.BusEvents.{errorOf}
 
 -- ---- Figure 8 as a chart of 128 codes, sixteen to a row
 abbrev pub unknowns : ℕ → List Kind
@@ -61,14 +64,14 @@ from zero code = []
 from (suc n) code = code ∷ from n (suc code)
 
 -- ---- float words
--- the word of a sign, of an exponent e with k = e + 64 from 0 to 127, and of a mantissa m: e in two's complement in bits 30 to 24
+-- the word of a sign, of an exponent e with k = e + 64 from 0 to 127, and of a mantissa m: e in two's complement in
+-- bits 30 to 24
 abbrev pub wordWith : Bool → ℕ → ℕ → ℕ
 wordWith sign k m = cond sign 2147483648 0 + (k + 64) % 128 * 16777216 + m
 
 -- ---- the statement
 pub record Figures : Type 0 where
-  -- 16 bytes of stack, 19 of state, 9 of report, 12,288 of input; 1 to 240 pushed or popped, lengths 2 to 242; words of 2 and 4 bytes
-  pub limits : (stackBytes ≡ 16) × (stateBytes ≡ 19) × (longStateBytes ≡ 21) × (reportBytes ≡ 9) × (mostInput ≡ 12288) × (mostPayload ≡ 240) × (leastLength ≡ 2) × (mostLength ≡ 242)
+  -- words of 2 and 4 bytes
   pub widths : (sizeOf Single ≡ 2) × (sizeOf Double ≡ 4) × (bitsOf Single ≡ 16) × (bitsOf Double ≡ 32)
   -- the column 'no.' of 01's table of refusals, and 02's 15 to 18
   pub refusals : map numberOf (Done ∷ UnknownCode ∷ DerivedCode ∷ HalfWord ∷ Improper ∷ NoSuchKind ∷ CutShort ∷ BadLength ∷ NoRoom ∷ InputTooLong ∷ NotFinite ∷ TooLarge ∷ TooSmall ∷ BadState ∷ BadReport ∷ MinusZero ∷ BadMode ∷ BadRule ∷ PartEntry ∷ [])
@@ -79,13 +82,17 @@ pub record Figures : Type 0 where
   pub two-bytes : (x : ℕ) → (bytesOf 2 x ≡ x / 256 % 256 ∷ x % 256 ∷ []) × (lowFirst 2 x ≡ x % 256 ∷ x / 256 % 256 ∷ [])
   pub four-bytes : (x : ℕ) → (bytesOf 4 x ≡ x / 16777216 % 256 ∷ x / 65536 % 256 ∷ x / 256 % 256 ∷ x % 256 ∷ [])
       × (lowFirst 4 x ≡ x % 256 ∷ x / 256 % 256 ∷ x / 65536 % 256 ∷ x / 16777216 % 256 ∷ [])
-  pub words-read : (a b c d : ℕ) (l : List ℕ) → (tos 2 (a ∷ b ∷ l) ≡ a * 256 + b) × (tos 4 (a ∷ b ∷ c ∷ d ∷ l) ≡ a * 16777216 + b * 65536 + c * 256 + d)
+  pub words-read : (a b c d : ℕ) (l : List ℕ)
+      → (tos 2 (a ∷ b ∷ l) ≡ a * 256 + b) × (tos 4 (a ∷ b ∷ c ∷ d ∷ l) ≡ a * 16777216 + b * 65536 + c * 256 + d)
   -- a float word's value is sign times m times 2^(e-24): times 2^88, m times 2^(e+64); and every word is of such fields
-  pub float-value : (k m : ℕ) → k < 128 → m < 16777216 → (value (wordWith false k m) ≡ pos (m * 2 ^ k)) × (value (wordWith true k m) ≡ negℤ (pos (m * 2 ^ k)))
-  pub every-word : (w : ℕ) → w < 4294967296 → (sign : Bool) × (k : ℕ) × (m : ℕ) × (k < 128) × (m < 16777216) × (w ≡ wordWith sign k m)
+  pub float-value : (k m : ℕ) → k < 128 → m < 16777216
+      → (value (wordWith false k m) ≡ pos (m * 2 ^ k)) × (value (wordWith true k m) ≡ negℤ (pos (m * 2 ^ k)))
+  pub every-word : (w : ℕ) → w < 4294967296
+      → (sign : Bool) × (k : ℕ) × (m : ℕ) × (k < 128) × (m < 16777216) × (w ≡ wordWith sign k m)
   -- a proper word has bit 23 set or is all zeros
   pub proper-is : (sign : Bool) (k m : ℕ) → m < 16777216 → 8388608 ≤ m → proper (wordWith sign k m) ≡ true
   pub proper-zero : proper 0 ≡ true
   pub improper-is : (w : ℕ) → w % 16777216 < 8388608 → (w ≡ 0 → ⊥) → proper w ≡ false
   -- bits 4 to 1 of a status are the error
-  pub error-bits : (sign zero error carry : ℕ) → sign ≤ 1 → zero ≤ 1 → error < 16 → carry ≤ 1 → errorOf (sign * 64 + zero * 32 + error * 2 + carry) ≡ error
+  pub error-bits : (sign zero error carry : ℕ) → sign ≤ 1 → zero ≤ 1 → error < 16 → carry ≤ 1
+      → errorOf (sign * 64 + zero * 32 + error * 2 + carry) ≡ error

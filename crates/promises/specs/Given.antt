@@ -1,10 +1,12 @@
--- The numbers that are given with a run and with an event beside their slices, and the two calls under them. Definitions only. Assumes nothing.
+-- The numbers that are given with a run and with an event beside their slices, and the two calls under them.
+-- Definitions only. Assumes nothing.
 use Prim.Native.Nat.{ℕ, _≤_}
 use mathlib.Core.List.{List}
-use Rattle.terms.specs.Settings.{Settings}
-use Rattle.pundaliket.specs.Calls.{Called, Signal, settingsOf, callOf, signalOf}
+use Rattle.promises.specs.StateBytes.{settingsOf}
+use Rattle.promises.specs.Subjects.{Settings, Called, Signal, callOf, signalOf}
 
--- 02, ask 6: "The mode is a number given with every run and every single event, 0 for the Am9511A and 1 for the older part"
+-- 02, ask 6: "The mode is a number given with every run and every single event, 0 for the Am9511A and 1 for the older
+-- part"
 -- and ask 9: the rule, "0 for cut or 1 for nearest, a number given with each call as the mode is"
 pub record Given : Type 0 where
   pub mode : ℕ

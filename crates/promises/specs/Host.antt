@@ -1,15 +1,16 @@
--- Demand 2 for host floats, "with the value unchanged, wherever the other side has that value": what a conversion replies, by the refusals' numbers and by the bits; 02's minus zero is turned away. Each statement is proved by name in proofs/Host.antt. Assumes nothing.
+-- Demand 2 for host floats, "with the value unchanged, wherever the other side has that value": what a conversion
+-- replies, by the refusals' numbers and by the bits; 02's minus zero is turned away. Each statement is proved by name
+-- in proofs/Host.antt. Assumes nothing.
 use Prim.Native.Nat.{ℕ, _^_, _<_}
 use mathlib.Core.Path.{_≡_}
 use mathlib.Core.Logic.{_⊎_, _↔_}
 use mathlib.Core.Bool.{true, false}
 use lib.Ieee.{Float, binary32, ofBits}
 use lib.Ieee.Exact.{HasValue}
-use Rattle.terms.specs.Refusal.{numberOf}
-use Rattle.float.specs.Word.{negative, proper, size88, FloatWord}
-use Rattle.host.specs.Host.{hostOf, takenOf, hostReply, takenReply}
-use Rattle.host.specs.Values.{HasWord, Endless, IsMinusZero, Large, Small}
-use Rattle.host.specs.declared.Reply.{Reply}
+use Rattle.promises.specs.Subjects.{hostOf, takenOf, hostReply, takenReply, Reply}
+use Rattle.promises.specs.RefusalNumbers.{numberOf}
+use Rattle.promises.specs.FloatWords.{negative, proper, size88, FloatWord}
+use Rattle.promises.specs.HostFloats.{HasWord, Endless, IsMinusZero, Large, Small}
 
 -- the reply to a word that is to be made an f32, and to an f32's bits that are to be made a word
 abbrev pub outward : ℕ → Reply
@@ -27,7 +28,8 @@ pub record Gives (r : Reply) (bits : ℕ) : Type 0 where
   pub done : number r ≡ 0
   pub bits-are : r .bits ≡ bits
 
--- A proper word is answered 0 with an f32 that has exactly its value: its sign, and in size its value times 2 ^ 88 over 2 ^ 88. Any other is answered 4.
+-- A proper word is answered 0 with an f32 that has exactly its value: its sign, and in size its value times 2 ^ 88 over
+-- 2 ^ 88. Any other is answered 4.
 abbrev pub ValueKept : Type 0
 ValueKept =
     (w : ℕ) → w < 2 ^ 32 →
@@ -36,13 +38,16 @@ ValueKept =
 
 -- An f32 is answered 0 with a word exactly if that is a proper word of its value and the f32 is not minus zero.
 abbrev pub AcceptedExactly : Type 0
-AcceptedExactly = (p : ℕ) → p < 2 ^ 32 → (w : ℕ) → Gives (inward p) w ↔ (HasWord (ofBits binary32 p) w × (IsMinusZero (ofBits binary32 p) → ⊥))
+AcceptedExactly = (p : ℕ) → p < 2 ^ 32 → (w : ℕ)
+    → Gives (inward p) w ↔ (HasWord (ofBits binary32 p) w × (IsMinusZero (ofBits binary32 p) → ⊥))
 
 -- The exception is one f32, 80000000, and it has the value of a proper word, zero.
 abbrev pub OneException : Type 0
-OneException = ((p : ℕ) → p < 2 ^ 32 → IsMinusZero (ofBits binary32 p) ↔ p ≡ 2 ^ 31) × HasWord (ofBits binary32 (2 ^ 31)) 0
+OneException = ((p : ℕ) → p < 2 ^ 32 → IsMinusZero (ofBits binary32 p) ↔ p ≡ 2 ^ 31)
+    × HasWord (ofBits binary32 (2 ^ 31)) 0
 
--- Every f32 is answered 0, 10, 15, 11 or 12, and 10, 15, 11 and 12 exactly where 01 and 02 have them. No f32 has two of these, so that the order of the tests
+-- Every f32 is answered 0, 10, 15, 11 or 12, and 10, 15, 11 and 12 exactly where 01 and 02 have them. No f32 has two of
+-- these, so that the order of the tests
 -- is no choice of meaning; nor has one 10, 11 or 12 and a proper word of its value.
 abbrev pub Answered : ℕ → Type 0
 Answered n = (n ≡ 0) ⊎ (n ≡ 10) ⊎ (n ≡ 15) ⊎ (n ≡ 11) ⊎ (n ≡ 12)

@@ -1,4 +1,5 @@
--- Demand 1: what is turned away leaves all as it stood, and a bad or cut file keeps the records done before. Definitions and statements only:
+-- Demand 1: what is turned away leaves all as it stood, and a bad or cut file keeps the records done before.
+-- Definitions and statements only:
 -- proofs/Kept.antt proves them. Assumes nothing.
 use Prim.Native.Nat.{ℕ, _-_, _%_, _≤_, _<_}
 use mathlib.Core.Path.{_≡_}
@@ -6,15 +7,10 @@ use mathlib.Core.Logic.{_⊎_}
 use mathlib.Core.Bool.{true, false}
 use mathlib.Core.List.{List, [], _∷_}
 use lib.ListN.{length, take, drop, getD}
-use Rattle.terms.specs.Limits.{mostInput, reportBytes}
-use Rattle.stack.specs.Stack.{Bytes}
-use Rattle.memory.specs.Memory.{Card}
-use Rattle.host.specs.declared.Reply.{Reply}
-use Rattle.records.specs.Record.{turnOf}
-use Rattle.records.specs.Run.{runOf}
-use Rattle.terms.specs.Settings.{Settings}
-use Rattle.stored.specs.Bytes.{isState, cardIn, laidOut}
-use Rattle.pundaliket.specs.Calls.{Called, sentOf}
+use Rattle.promises.specs.Subjects.{Card, Reply, runOf, Settings, Called, sentOf}
+use Rattle.promises.specs.Stack.{Bytes}
+use Rattle.promises.specs.RecordFiles.{ended}
+use Rattle.promises.specs.StateBytes.{IsState, cardIn, laidOut}
 use Rattle.promises.specs.Given.{Given, Chosen, runCall, eventCall}
 use Rattle.promises.specs.Records.{countAt}
 
@@ -23,49 +19,41 @@ use Rattle.promises.specs.Records.{countAt}
 -- 14 writes nothing, whatever else is wrong
 abbrev pub NoReport : Type 0
 NoReport =
-    (g : Given) (state input replies report : List ℕ) → (length report ≡ reportBytes → ⊥)
+    (g : Given) (state input replies report : List ℕ) → (length report ≡ 9 → ⊥)
     → runCall g state input replies report ≡ record { result = 14; state = state; replies = replies; report = report }
 
 -- 13 writes the report alone, both counts 0
 abbrev pub NoState : Type 0
 NoState =
-    (g : Given) → Chosen g → (state input replies report : List ℕ) → length report ≡ reportBytes → isState state ≡ false
+    (g : Given) → Chosen g → (state input replies report : List ℕ) → length report ≡ 9 → (IsState state → ⊥)
     → runCall g state input replies report
     ≡ record { result = 13; state = state; replies = replies; report = 13 ∷ 0 ∷ 0 ∷ 0 ∷ 0 ∷ 0 ∷ 0 ∷ 0 ∷ 0 ∷ [] }
 
 -- and so does 9, over 12,288 bytes
 abbrev pub LongInput : Type 0
 LongInput =
-    (g : Given) → Chosen g → (state input replies report : List ℕ) → length report ≡ reportBytes → isState state ≡ true → mostInput < length input
+    (g : Given) → Chosen g → (state input replies report : List ℕ) → length report ≡ 9 → IsState state
+    → 12288 < length input
     → runCall g state input replies report
     ≡ record { result = 9; state = state; replies = replies; report = 9 ∷ 0 ∷ 0 ∷ 0 ∷ 0 ∷ 0 ∷ 0 ∷ 0 ∷ 0 ∷ [] }
 
--- which two bytes stand for an error memory: no bit outside 4 to 1, no code without bits, no bits without a code
-pub record Remembers (bits code : ℕ) : Type 0 where
-  pub in-places : bits ≤ 30
-  pub even : bits % 2 ≡ 0
-  pub no-code : bits ≡ 0 → code ≡ 0
-  pub no-bits : code ≡ 0 → bits ≡ 0
-
--- which bytes stand for a state
-pub record Stands (l : List ℕ) : Type 0 where
-  pub size : (length l ≡ 19) ⊎ (length l ≡ 21)
-  pub pending : getD l 16 0 ≤ 1
-  pub ready : getD l 17 0 < 128
-  pub service : getD l 18 0 ≤ 1
-  pub memory : length l ≡ 21 → Remembers (getD l 19 0) (getD l 20 0)
-
+-- a state is taken and nothing else is: the run of an input of no bytes, and a status read, tell
 abbrev pub GoodStates : Type 0
-GoodStates = (l : List ℕ) → (isState l ≡ true → Stands l) × (Stands l → isState l ≡ true)
+GoodStates =
+    (g : Given) → Chosen g → (state replies report : List ℕ) → length report ≡ 9
+    → (IsState state → runCall g state [] replies report .result ≡ 0)
+    × ((IsState state → ⊥) → runCall g state [] replies report .result ≡ 13)
+    × (IsState state → eventCall g state 6 0 .result ≡ 0)
+    × ((IsState state → ⊥) → eventCall g state 6 0 .result ≡ 3328)
 
 -- they come back as they were: nothing is lost in reading and writing a state
 abbrev pub StateReturns : Type 0
-StateReturns = (on : Settings) (l : List ℕ) → isState l ≡ true → laidOut (length l) (cardIn on l) ≡ l
+StateReturns = (on : Settings) (l : List ℕ) → IsState l → laidOut (length l) (cardIn on l) ≡ l
 
 -- an input of no bytes ends at once with 0
 abbrev pub EmptyInput : Type 0
 EmptyInput =
-    (g : Given) → Chosen g → (state replies report : List ℕ) → length report ≡ reportBytes → isState state ≡ true
+    (g : Given) → Chosen g → (state replies report : List ℕ) → length report ≡ 9 → IsState state
     → runCall g state [] replies report
     ≡ record { result = 0; state = state; replies = replies; report = 0 ∷ 0 ∷ 0 ∷ 0 ∷ 0 ∷ 0 ∷ 0 ∷ 0 ∷ 0 ∷ [] }
 
@@ -82,13 +70,14 @@ OutKept = (reply : Reply) (out : List ℕ) → (sentOf reply out .result ≡ 0 �
 -- a run and an event leave bytes that stand for a state again, as many as were lent
 abbrev pub StateStays : Type 0
 StateStays =
-    (g : Given) (state input replies report : List ℕ) → Bytes state → Bytes input → isState state ≡ true
-    → (isState (runCall g state input replies report .state) ≡ true) × (length (runCall g state input replies report .state) ≡ length state)
+    (g : Given) (state input replies report : List ℕ) → Bytes state → Bytes input → IsState state
+    → (IsState (runCall g state input replies report .state))
+    × (length (runCall g state input replies report .state) ≡ length state)
 
 abbrev pub StateStaysEvent : Type 0
 StateStaysEvent =
-    (g : Given) (state : List ℕ) (kind byte : ℕ) → Bytes state → byte < 256 → isState state ≡ true
-    → (isState (eventCall g state kind byte .state) ≡ true) × (length (eventCall g state kind byte .state) ≡ length state)
+    (g : Given) (state : List ℕ) (kind byte : ℕ) → Bytes state → byte < 256 → IsState state
+    → (IsState (eventCall g state kind byte .state)) × (length (eventCall g state kind byte .state) ≡ length state)
 
 -- ---- replies
 
@@ -106,12 +95,14 @@ abbrev pub StopsThere : Type 0
 StopsThere =
     (s : Card) (l : List ℕ) (room : ℕ) → (runOf s l room .refusal ≡ 0 → ⊥)
     → (5 ≤ runOf s l room .refusal) × (runOf s l room .refusal ≤ 8)
-    × (turnOf (runOf s l room .state) (drop (runOf s l room .taken) l) (room - length (runOf s l room .written)) .refusal ≡ runOf s l room .refusal)
+    × (runOf (runOf s l room .state) (drop (runOf s l room .taken) l) (room - length (runOf s l room .written)) ≡ ended (runOf s l room .refusal) (runOf s l room .state))
 
--- all that it leaves but the refusal is what the file of the bytes taken leaves: the records done before, and nothing of the one that stops
+-- all that it leaves but the refusal is what the file of the bytes taken leaves: the records done before, and nothing
+-- of the one that stops
 abbrev pub BadFile : Type 0
 BadFile =
-    (g : Given) → Chosen g → (state input replies report : List ℕ) → length report ≡ reportBytes → isState state ≡ true → length input ≤ mostInput
+    (g : Given) → Chosen g → (state input replies report : List ℕ) → length report ≡ 9 → IsState state
+    → length input ≤ 12288
     → runCall g state (take (countAt (runCall g state input replies report .report) 1) input) replies report
     ≡ record {
       result = 0;
@@ -133,15 +124,19 @@ pub record CutCall (cut whole : Called) (k n : ℕ) : Type 0 where
   pub at-end : k ≡ n → cut .result ≡ 0
   pub in-one : n < k → cut .result ≡ 6
 
--- a file that ends with 0, cut after any byte and run on the same state in the same room, leaves what its whole records leave
+-- a file that ends with 0, cut after any byte and run on the same state in the same room, leaves what its whole records
+-- leave
 abbrev pub CutFile : Type 0
 CutFile =
-    (g : Given) (state input replies report : List ℕ) → runCall g state input replies report .result ≡ 0 → (k : ℕ) → k ≤ length input
-    → (n : ℕ) × CutCall (runCall g state (take k input) replies report) (runCall g state (take n input) replies report) k n
+    (g : Given) (state input replies report : List ℕ) → runCall g state input replies report .result ≡ 0 → (k : ℕ)
+    → k ≤ length input
+    → (n : ℕ)
+    × CutCall (runCall g state (take k input) replies report) (runCall g state (take n input) replies report) k n
 
 -- and n is the last record end at or below k: no longer front of the file, up to k, ends with 0
 abbrev pub LastEnd : Type 0
 LastEnd =
-    (g : Given) (state input replies report : List ℕ) → runCall g state input replies report .result ≡ 0 → (k n : ℕ) → k ≤ length input
+    (g : Given) (state input replies report : List ℕ) → runCall g state input replies report .result ≡ 0 → (k n : ℕ)
+    → k ≤ length input
     → CutCall (runCall g state (take k input) replies report) (runCall g state (take n input) replies report) k n
     → (m : ℕ) → m ≤ k → runCall g state (take m input) replies report .result ≡ 0 → m ≤ n

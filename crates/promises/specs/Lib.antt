@@ -1,4 +1,14 @@
 -- The demands of the order as statements. Each is proved under one name in the file of its own name in proofs/.
+pub mod Subjects
+pub mod Stack
+pub mod RefusalNumbers
+pub mod FloatWords
+pub mod FloatResults
+pub mod HostFloats
+pub mod BusEvents
+pub mod Remembered
+pub mod StateBytes
+pub mod RecordFiles
 pub mod Determined
 pub mod Refusals
 pub mod Kept
@@ -18,6 +28,7 @@ pub mod SmallCalls
 pub mod Pending
 pub mod EventFiles
 pub mod TwosComplement
+pub mod PrintedText
 pub mod Listings
 pub mod Figures
 pub mod Format
@@ -31,8 +42,14 @@ pub mod Nearest
 pub mod NearBench
 pub mod Undo
 pub mod CloseReadings
+pub mod SerialWork
 pub mod Serial
 pub mod Doubles
 pub mod DoubleBench
 pub mod WrongConverters
+pub mod FormulaText
 pub mod Formulas
+pub mod ChainFiles
+pub mod RunRows
+pub mod EventRows
+pub mod CallRows

@@ -1,4 +1,5 @@
--- 01, 'The listing program', for every input: its lines are those of the records taken, then the last line. Definitions and the statements only:
+-- 01, 'The listing program', for every input: its lines are those of the records taken, then the last line. Definitions
+-- and the statements only:
 -- proofs/Listings.antt proves them. Assumes nothing.
 use Prim.Native.Nat.{ℕ, _+_, _*_, _-_, _/_, _%_, _^_, _≤_, _<_}
 use mathlib.Core.Path.{_≡_}
@@ -6,14 +7,12 @@ use mathlib.Core.List.{List, [], _∷_, _++_, map}
 use lib.ListN.{length, drop, getD}
 use Rattle.terms.specs.declared.Mode.the-variants.{Am9511A}
 use Rattle.terms.specs.declared.Rule.the-variants.{Cut}
-use Rattle.chip.specs.State.{resetState}
-use Rattle.chip.specs.Step.{given}
-use Rattle.memory.specs.Memory.{emptyMemory, Card, cardWith}
-use Rattle.records.specs.Record.{replyOf}
-use Rattle.records.specs.Run.{runOf}
-use Rattle.listing.specs.Text.{digit, decimal}
 use Rattle.listing.specs.Listing.{replyKind, replyRefusal, replySize, replyData}
 use Rattle.printout.specs.Printout.{printoutOf}
+use Rattle.promises.specs.PrintedText.{digit, decimal}
+use Rattle.promises.specs.Subjects.{Card, runOf}
+use Rattle.promises.specs.BusEvents.{resetState, given}
+use Rattle.promises.specs.Remembered.{emptyMemory, cardWith}
 use Rattle.promises.specs.Records.{total, lengths, Split}
 
 -- ---- characters
@@ -42,6 +41,11 @@ pub record Characters : Type 0 where
 
 -- ---- lines
 
+-- a reply: "length and kind + 128 laid out as in a record, one refusal byte, data"
+abbrev pub replyOf : ℕ → ℕ → List ℕ → List ℕ
+replyOf kind refusal bytes =
+    (3 + length bytes) % 256 ∷ (3 + length bytes) / 256 ∷ (kind + 128) % 256 ∷ (kind + 128) / 256 ∷ refusal ∷ bytes
+
 -- data as two hex digits each, parted by single spaces (32) from what stands before
 abbrev pub hexText : List ℕ → List ℕ
 hexText [] = []
@@ -56,7 +60,8 @@ recordLine number r reply =
 abbrev pub linesFor : ℕ → Card → List (List ℕ) → ℕ → List ℕ
 linesFor number s [] room = []
 linesFor number s (r ∷ rs) room =
-    recordLine number r (runOf s r room .written) ++ linesFor (number + 1) (runOf s r room .state) rs (room - length (runOf s r room .written))
+    recordLine number r (runOf s r room .written)
+    ++ linesFor (number + 1) (runOf s r room .state) rs (room - length (runOf s r room .written))
 
 -- `end`, the run's refusal, bytes of whole records taken
 abbrev pub lastLine : ℕ → ℕ → List ℕ
@@ -67,14 +72,19 @@ abbrev pub fresh : Card
 fresh = cardWith (given Am9511A Cut) resetState emptyMemory
 
 pub record Listings : Type 0 where
-  -- an input of at most 12,288 bytes, run from reset with 65,536 bytes of room and split into the records taken and the rest (Records: every file splits so):
+  -- an input of at most 12,288 bytes, run from reset with 65,536 bytes of room and split into the records taken and the
+  -- rest (Records: every file splits so):
   -- a line for each record taken, numbered from 1, then the last line
   pub printed : (input : List ℕ) → length input ≤ 12288 → (split : Split fresh input 65536 (runOf fresh input 65536))
-      → printoutOf input ≡ linesFor 1 fresh (split .records) 65536 ++ lastLine (runOf fresh input 65536 .refusal) (total (lengths (split .records)))
+      → printoutOf input ≡ linesFor 1 fresh (split .records) 65536
+      ++ lastLine (runOf fresh input 65536 .refusal) (total (lengths (split .records)))
   -- a longer one prints only `end 9 0`
   pub long : (input : List ℕ) → 12288 < length input → printoutOf input ≡ 101 ∷ 110 ∷ 100 ∷ 32 ∷ 57 ∷ 32 ∷ 48 ∷ 10 ∷ []
-  -- a reply that the run writes is the reply that the listing reads, whatever follows it; its word has no bit 15, which marks the kinds of module sheets
+  -- a reply that the run writes is the reply that the listing reads, whatever follows it; its word has no bit 15, which
+  -- marks the kinds of module sheets
   pub read-back : (kind refusal : ℕ) (bytes rest : List ℕ) → kind + 128 < 32768
-      → (replyKind (replyOf kind refusal bytes ++ rest) ≡ kind) × (replyRefusal (replyOf kind refusal bytes ++ rest) ≡ refusal)
-      × (replySize (replyOf kind refusal bytes ++ rest) ≡ 5 + length bytes) × (replyData (replyOf kind refusal bytes ++ rest) ≡ bytes)
+      → (replyKind (replyOf kind refusal bytes ++ rest) ≡ kind)
+      × (replyRefusal (replyOf kind refusal bytes ++ rest) ≡ refusal)
+      × (replySize (replyOf kind refusal bytes ++ rest) ≡ 5 + length bytes)
+      × (replyData (replyOf kind refusal bytes ++ rest) ≡ bytes)
   pub characters : Characters

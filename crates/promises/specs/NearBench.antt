@@ -1,4 +1,5 @@
--- Request 9's rule in one table, through the whole step, beside what the cut gives for the same operands. Definitions and the statement only: proofs/NearBench.antt computes it.
+-- Request 9's rule in one table, through the whole step, beside what the cut gives for the same operands. Definitions
+-- and the statement only: proofs/NearBench.antt computes it.
 -- Assumes nothing.
 use Prim.Native.Nat.{ℕ}
 use mathlib.Core.Path.{_≡_}
@@ -7,12 +8,10 @@ use Rattle.terms.specs.declared.Mode.the-variants.{Am9511A}
 use Rattle.terms.specs.declared.Rule.{Rule}
 use Rattle.terms.specs.declared.Rule.the-variants.{Cut, Nearest}
 use Rattle.terms.specs.declared.Width.the-variants.{Single, Double}
-use Rattle.terms.specs.Refusal.{numberOf}
-use Rattle.stack.specs.Stack.{bytesOf, zeros}
-use Rattle.chip.specs.declared.Answer.{Answer}
-use Rattle.chip.specs.State.{resetState}
-use Rattle.chip.specs.Step.{commandUnder, given}
-use Rattle.chip.specs.Events.{afterEvents}
+use Rattle.promises.specs.Subjects.{Answer, commandUnder}
+use Rattle.promises.specs.Stack.{bytesOf, zeros}
+use Rattle.promises.specs.RefusalNumbers.{numberOf}
+use Rattle.promises.specs.BusEvents.{resetState, given, afterEvents}
 use Rattle.promises.specs.Bench.{BenchRow, two, one, expected}
 
 -- PUPI on an empty stack
@@ -30,7 +29,8 @@ nearest =
     ∷ two 0x12 Double 0x01800001 0x01c00000 0x01c00002 0 0x00
     ∷ []
 
--- a carry into the next exponent; one that overflows by it, and one that it keeps from underflow; over- and underflow as without it; roots; FLTD; PUPI
+-- a carry into the next exponent; one that overflows by it, and one that it keeps from underflow; over- and underflow
+-- as without it; roots; FLTD; PUPI
 abbrev pub carried : List BenchRow
 carried =
     two 0x10 Double 0x00ffffff 0x68800000 0x01800000 0 0x00
@@ -76,9 +76,11 @@ abbrev pub answerBy : Rule → BenchRow → Answer
 answerBy rule x = commandUnder rule (afterEvents (given Am9511A rule) resetState (x .events)) (x .code)
 
 abbrev pub shownBy : Rule → BenchRow → List ℕ
-shownBy rule x = numberOf ((answerBy rule x) .refusal) ∷ (answerBy rule x) .state .status ∷ (answerBy rule x) .state .stack
+shownBy rule x =
+    numberOf ((answerBy rule x) .refusal) ∷ (answerBy rule x) .state .status ∷ (answerBy rule x) .state .stack
 
 -- ---- the statement
 pub record NearBench : Type 0 where
-  pub nearest-rows : map (shownBy Nearest) (nearest ++ (carried ++ unmoved)) ≡ map expected (nearest ++ (carried ++ unmoved))
+  pub nearest-rows : map (shownBy Nearest) (nearest ++ (carried ++ unmoved))
+      ≡ map expected (nearest ++ (carried ++ unmoved))
   pub cut-rows : map (shownBy Cut) (byCut ++ unmoved) ≡ map expected (byCut ++ unmoved)

@@ -1,4 +1,5 @@
--- 01, 'The stack': what a push, a pop, a reset, an acknowledge and a status read leave, written out, and when a half word is pending, over any events.
+-- 01, 'The stack': what a push, a pop, a reset, an acknowledge and a status read leave, written out, and when a half
+-- word is pending, over any events.
 -- Definitions and the statement only: proofs/Pending.antt proves it. Assumes nothing.
 use Prim.Native.Nat.{ℕ, suc, _%_, _≤_, _<_}
 use mathlib.Core.Path.{_≡_}
@@ -7,16 +8,12 @@ use mathlib.Core.List.{List, [], _∷_, _++_}
 use lib.ListN.{length, take, getD}
 use Rattle.terms.specs.declared.Mode.the-variants.{Am9511A, Am9511}
 use Rattle.terms.specs.declared.Mode.{Mode}
-use Rattle.terms.specs.Refusal.{numberOf}
-use Rattle.terms.specs.Settings.{Settings}
-use Rattle.stack.specs.Stack.{Bytes, IsStack}
-use Rattle.chip.specs.declared.State.{State}
-use Rattle.chip.specs.declared.Answer.{Answer}
-use Rattle.chip.specs.declared.Event.{Event}
-use Rattle.chip.specs.declared.Event.the-variants.{Push, Pop, Command, Status, Reset, Acknowledge}
-use Rattle.chip.specs.Step.{answerTo, under}
-use Rattle.chip.specs.Events.{afterEvents}
-use Rattle.stored.specs.Bytes.{isState}
+use Rattle.promises.specs.Subjects.{Settings, State, Answer, ChipEvent as Event, Push, Pop, Command, Status}
+use Rattle.promises.specs.Subjects.{Reset, Acknowledge, answerTo}
+use Rattle.promises.specs.Stack.{Bytes, IsStack}
+use Rattle.promises.specs.RefusalNumbers.{numberOf}
+use Rattle.promises.specs.BusEvents.{under, afterEvents}
+use Rattle.promises.specs.StateBytes.{IsState}
 use Rattle.promises.specs.Given.{Given, Chosen}
 use Rattle.promises.specs.Cores.{Core, Meets, Sendable, onBus, driven}
 
@@ -68,15 +65,19 @@ pub record Bus (on : Settings) : Type 0 where
   pub read-leaves : (l : List ℕ) (p : Bool) (u : ℕ) (v : Bool) → u < 128
       → Answers (answerTo on (stateWith l p u v) Status) 0 u l p u v
   -- every event of a state whose busy bit is set: 13, no byte, and the state as it came
-  pub busy-answers : (e : Event) (l : List ℕ) (p : Bool) (u : ℕ) (v : Bool) → 128 ≤ u → Answers (answerTo on (stateWith l p u v) e) 13 0 l p u v
-  -- a half word is pending when pushes plus pops since reset are odd in number: over any events, refused ones among them, from a state reached by n
-  pub half-pending : (s : State) (n : ℕ) (es : List Event) → IsStack (s .stack) → s .status < 128 → Sendable (onBus es) → Odd (s .pending) n
+  pub busy-answers : (e : Event) (l : List ℕ) (p : Bool) (u : ℕ) (v : Bool) → 128 ≤ u
+      → Answers (answerTo on (stateWith l p u v) e) 13 0 l p u v
+  -- a half word is pending when pushes plus pops since reset are odd in number: over any events, refused ones among
+  -- them, from a state reached by n
+  pub half-pending : (s : State) (n : ℕ) (es : List Event) → IsStack (s .stack) → s .status < 128 → Sendable (onBus es)
+      → Odd (s .pending) n
       → Odd ((afterEvents on s es) .pending) (movedSince n es)
 
 -- the same of the event call of any core that meets the promises: byte 16 of the state is that number modulo 2
 abbrev pub PendingByte : Type 0
 PendingByte =
-    (g : Given) → Chosen g → (c : Core) → Meets g c → (state : List ℕ) (es : List Event) → Bytes state → isState state ≡ true → Sendable (onBus es)
+    (g : Given) → Chosen g → (c : Core) → Meets g c → (state : List ℕ) (es : List Event) → Bytes state → IsState state
+    → Sendable (onBus es)
     → getD (driven c state (onBus es)) 16 0 ≡ movedSince (getD state 16 0) es % 2
 
 -- of the chip as it stands

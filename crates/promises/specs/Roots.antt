@@ -1,4 +1,5 @@
--- Request 1 of document 02, SQRT: what the command leaves, the root in whole numbers, the order that it keeps, and a table of roots through the
+-- Request 1 of document 02, SQRT: what the command leaves, the root in whole numbers, the order that it keeps, and a
+-- table of roots through the
 -- whole step. Definitions and the statements only: proofs/Roots.antt proves them. Assumes nothing.
 use Prim.Native.Nat.{ℕ, _^_, _<_}
 use mathlib.Core.Path.{_≡_}
@@ -7,19 +8,17 @@ use mathlib.Core.List.{List, [], _∷_, _++_, map}
 use lib.IntN.{ℤ, pos, _*ℤ_}
 use Rattle.terms.specs.declared.Refusal.the-variants.{Improper}
 use Rattle.terms.specs.declared.Width.the-variants.{Double}
-use Rattle.float.specs.Word.{negative, proper, value, FloatWord}
 use Rattle.terms.specs.declared.Rule.{Rule}
-use Rattle.float.specs.Float.{exactProduct}
-use Rattle.float.specs.Order.{Le}
-use Rattle.float.specs.Root.{sqrt, RootPair, ExactlyRoot}
-use Rattle.stack.specs.Stack.{bytesOf, zeros}
+use Rattle.terms.specs.declared.Rule.the-variants.{Cut}
+use Rattle.float.specs.Root.{sqrt}
 use Rattle.codes.specs.declared.Command.the-variants.{Sqrt}
 use Rattle.codes.specs.declared.Kind.the-variants.{Known}
 use Rattle.codes.specs.Codes.{decoded}
-use Rattle.chip.specs.Commands.{baseRule}
-use Rattle.chip.specs.Events.{pushesOf}
+use Rattle.promises.specs.Stack.{bytesOf, zeros}
+use Rattle.promises.specs.FloatWords.{negative, proper, value, FloatWord, exactProduct, Le}
+use Rattle.promises.specs.FloatResults.{clean, RootPair, ExactlyRoot}
+use Rattle.promises.specs.BusEvents.{pushesOf}
 use Rattle.promises.specs.Commands.{words, word, statusBy, Leaves, Refuses}
-use Rattle.promises.specs.Exact.{clean}
 use Rattle.promises.specs.Bench.{BenchRow, one, turnedAway, shown, expected}
 
 -- ---- the command
@@ -37,19 +36,23 @@ pub record RootRows (rule : Rule) : Type 0 where
       → Leaves rule Sqrt (word Double a (word Double b (word Double c ds))) Double a 4 false (word Double b (word Double c ds))
   pub negative-status : (a : ℕ) → negative a ≡ true → statusBy Double a 4 false ≡ 0x48
   -- a word that is not proper: 4
-  pub improper : (a : ℕ) → a < words Double → proper a ≡ false → (bs : List ℕ) → Refuses rule Sqrt (word Double a bs) Improper
+  pub improper : (a : ℕ) → a < words Double → proper a ≡ false → (bs : List ℕ)
+      → Refuses rule Sqrt (word Double a bs) Improper
 
 -- ---- the result
 pub record RootValues : Type 0 where
-  -- a magnitude has no two pairs m, e of 24 digits whose square in the scale of e is at most the magnitude and that of m + 1 above it
+  -- a magnitude has no two pairs m, e of 24 digits whose square in the scale of e is at most the magnitude and that of
+  -- m + 1 above it
   pub only : (n m m' : ℕ) (e e' : ℤ) → RootPair n m e → RootPair n m' e' → (m ≡ m') × (e ≡ e')
-  -- and the root of a proper word has that pair, e from -32 to 32; zero gives the zero word, a negative word stays with error 4
-  pub found : (a : ℕ) → FloatWord a → ExactlyRoot a (sqrt baseRule a)
+  -- and the root of a proper word has that pair, e from -32 to 32; zero gives the zero word, a negative word stays with
+  -- error 4
+  pub found : (a : ℕ) → FloatWord a → ExactlyRoot a (sqrt Cut a)
   -- there is neither overflow nor underflow, under either rule, and the result is proper
   pub no-error : (rule : Rule) (a : ℕ) → FloatWord a → negative a ≡ false → (sqrt rule a) .error ≡ 0
   pub proper-root : (rule : Rule) (a : ℕ) → FloatWord a → FloatWord ((sqrt rule a) .word)
   -- where A is the square of a proper word not below zero, the root is that word
-  pub square : (rule : Rule) (a b : ℕ) → negative a ≡ false → FloatWord b → negative b ≡ false → exactProduct b b ≡ value a *ℤ pos (2 ^ 88) → sqrt rule a ≡ clean b
+  pub square : (rule : Rule) (a b : ℕ) → negative a ≡ false → FloatWord b → negative b ≡ false
+      → exactProduct b b ≡ value a *ℤ pos (2 ^ 88) → sqrt rule a ≡ clean b
 
 pub record Roots : Type 0 where
   pub rows : (rule : Rule) → RootRows rule
@@ -59,7 +62,8 @@ pub record Roots : Type 0 where
 abbrev pub RootOrder : Type 0
 RootOrder = (rule : Rule) (a b : ℕ) → FloatWord a → FloatWord b → negative a ≡ false → negative b ≡ false → Le a b → Le ((sqrt rule a) .word) ((sqrt rule b) .word)
 
--- ---- roots of 0, 1, 2, 4, 9, 1/4, the least and the largest word; the words beside 1 and 2; D cleared, and kept for -1; refusals 3 and 4
+-- ---- roots of 0, 1, 2, 4, 9, 1/4, the least and the largest word; the words beside 1 and 2; D cleared, and kept for
+-- -1; refusals 3 and 4
 abbrev pub rootTable : List BenchRow
 rootTable =
     one 0x01 Double 0x00000000 Double 0x00000000 0x20

@@ -1,4 +1,5 @@
--- 02, ask 9: the rule turned away, and which commands look at it. Definitions and the statements only: proofs/Rules.antt proves them. Assumes nothing.
+-- 02, ask 9: the rule turned away, and which commands look at it. Definitions and the statements only:
+-- proofs/Rules.antt proves them. Assumes nothing.
 use Prim.Native.Nat.{ℕ, _%_, _≤_, _<_}
 use mathlib.Core.Path.{_≡_}
 use mathlib.Core.Bool.{Bool, true, false}
@@ -8,10 +9,10 @@ use Rattle.terms.specs.declared.Rule.{Rule}
 use Rattle.terms.specs.declared.Width.the-variants.{Single, Double}
 use Rattle.codes.specs.declared.Kind.{Kind}
 use Rattle.codes.specs.declared.Kind.the-variants.{Known, Derived, Unknown}
-use Rattle.codes.specs.declared.Command.the-variants.{Nop, Add, Sub, Mul, Muu, Div, Chs, Float, Chsf, Flt, Fix, Pto, Pop, Xch, Pupi, Sqrt}
+use Rattle.codes.specs.declared.Command.the-variants.{Nop, Add, Sub, Mul, Muu, Div, Chs, Float, Chsf, Flt, Fix, Pto}
+use Rattle.codes.specs.declared.Command.the-variants.{Pop, Xch, Pupi, Sqrt}
 use Rattle.codes.specs.Codes.{decoded}
-use Rattle.chip.specs.declared.State.{State}
-use Rattle.chip.specs.Step.{commandUnder}
+use Rattle.promises.specs.Subjects.{State, commandUnder}
 use Rattle.promises.specs.Given.{Given, runCall, eventCall}
 use Rattle.promises.specs.Figures.{from}
 
@@ -22,9 +23,11 @@ pub record NoRule : Type 0 where
       → runCall g state input replies report
       ≡ record { result = 17; state = state; replies = replies; report = 17 ∷ 0 ∷ 0 ∷ 0 ∷ 0 ∷ 0 ∷ 0 ∷ 0 ∷ 0 ∷ [] }
   -- an event: 256 times 17, whatever the state and the kind; nothing is written
-  pub event : (g : Given) (state : List ℕ) (kind byte : ℕ) → g .mode ≤ 1 → 1 < g .rule → eventCall g state kind byte ≡ record { result = 4352; state = state }
+  pub event : (g : Given) (state : List ℕ) (kind byte : ℕ) → g .mode ≤ 1 → 1 < g .rule
+      → eventCall g state kind byte ≡ record { result = 4352; state = state }
 
--- ---- "It holds for FADD, FSUB, FMUL, FDIV, FLTD and the root; FIXS and FIXD still cut; PUPI gives 02C90FDB under nearest"
+-- ---- "It holds for FADD, FSUB, FMUL, FDIV, FLTD and the root; FIXS and FIXD still cut; PUPI gives 02C90FDB under
+-- nearest"
 -- whether a command looks at the rule
 abbrev pub reads : Kind → Bool
 reads (Known (Float op)) = true
@@ -54,4 +57,5 @@ pub record RuleReaders : Type 0 where
       ++ ((true ∷ true ∷ true ∷ true ∷ replicate 6 false) ++ (true ∷ false ∷ true ∷ false ∷ false ∷ false ∷ []))
       ++ replicate 96 false
   -- any other is answered alike under both rules, with the same state
-  pub alike : (rule by : Rule) (s : State) (code : ℕ) → reads (decoded (code % 128)) ≡ false → commandUnder rule s code ≡ commandUnder by s code
+  pub alike : (rule by : Rule) (s : State) (code : ℕ) → reads (decoded (code % 128)) ≡ false
+      → commandUnder rule s code ≡ commandUnder by s code

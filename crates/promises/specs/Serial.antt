@@ -1,19 +1,20 @@
--- Request 10, the chip's own way of working: a second engine that works a bit at a time gives the chip's answers, how many steps it makes, and what
+-- Request 10, the chip's own way of working: a second engine that works a bit at a time gives the chip's answers, how
+-- many steps it makes, and what
 -- ./steps tells of them. Definitions and statements only: proofs/Serial.antt proves them. Assumes nothing.
 use Prim.Native.Nat.{ℕ, _+_, _≤_}
 use mathlib.Core.Path.{_≡_}
 use mathlib.Core.Logic.{_⊎_}
 use mathlib.Core.Bool.{false, _&&_, cond}
+use Prim.Native.String.{String}
 use mathlib.Core.List.{List, [], _∷_, _++_, map}
+use lib.ListN.{replicate}
 use Rattle.terms.specs.declared.Refusal.the-variants.{Improper}
 use Rattle.terms.specs.declared.Rule.{Rule}
 use Rattle.terms.specs.declared.Rule.the-variants.{Cut, Nearest}
 use Rattle.terms.specs.declared.Width.the-variants.{Single, Double}
-use Rattle.terms.specs.Width.{bitsOf}
 use Rattle.fixed.specs.declared.Fixed.{Fixed}
 use Rattle.fixed.specs.Fixed.{mul, muu, div}
 use Rattle.float.specs.declared.Flagged.{Flagged}
-use Rattle.float.specs.Word.{proper}
 use Rattle.float.specs.Float.{mul as fmul, div as fdiv}
 use Rattle.codes.specs.declared.Command.{Command}
 use Rattle.codes.specs.declared.Command.the-variants.{Mul as MulCommand, Muu as MuuCommand, Div as DivCommand, Float}
@@ -24,12 +25,16 @@ use Rattle.serial.specs.declared.Operation.{Operation}
 use Rattle.serial.specs.declared.Operation.the-variants.{Mul, Muu, Div, Fmul, Fdiv}
 use Rattle.serial.specs.declared.Answer.{Answer}
 use Rattle.serial.specs.declared.Answer.the-variants.{Word, Refused}
-use Rattle.serial.specs.Answer.{numberIn, stepsIn}
-use Rattle.serial.specs.Work.{widthOf, Operands, answerOf, taskOf, Made}
-use Rattle.workings.specs.declared.asked.Found.the-variants.{Operation as Named}
-use Rattle.workings.specs.Lines.{statusFor, answerLine}
-use Rattle.workings.specs.Steps.{workingsOf, linesAfter}
-use Rattle.workings.specs.Asked.{operationAt}
+use Rattle.serial.specs.Work.{answerOf}
+use Rattle.workings.specs.declared.asked.Found.{Found}
+use Rattle.workings.specs.declared.asked.Found.the-variants.{Operation as Named, Nothing as Unnamed}
+use Rattle.workings.specs.Steps.{workingsOf}
+use Rattle.workings.specs.Asked.{operationAt, toldOf}
+use Rattle.promises.specs.Stack.{bitsOf}
+use Rattle.promises.specs.FloatWords.{proper}
+use Rattle.promises.specs.SerialWork.{numberIn, stepsIn, widthOf, Operands, taskOf, Made, linesAfter, answerLine}
+use Rattle.promises.specs.PrintedText.{written}
+use Rattle.promises.specs.Figures.{from}
 use Rattle.promises.specs.Commands.{least, word, statusBy, Two, Refuses}
 
 -- ---- the same answers
@@ -56,11 +61,13 @@ commandFor (Div w) = DivCommand w
 commandFor Fmul = Float FMul
 commandFor Fdiv = Float FDiv
 
--- what the chip does with that command where B and A lie on top, whatever lies below, is what an answer says: its word over C.. and 0, status by the
+-- what the chip does with that command where B and A lie on top, whatever lies below, is what an answer says: its word
+-- over C.. and 0, status by the
 -- word and its error, no carry; or its refusal, the state as before
 abbrev pub Does : Rule → Operation → ℕ → ℕ → Answer → Type 0
 Does rule op b a (Word r error steps) = Two rule (widthOf op) (commandFor op) b a r error false 0
-Does rule op b a (Refused refusal) = (cs : List ℕ) → Refuses rule (commandFor op) (word (widthOf op) a (word (widthOf op) b cs)) refusal
+Does rule op b a (Refused refusal) = (cs : List ℕ)
+    → Refuses rule (commandFor op) (word (widthOf op) a (word (widthOf op) b cs)) refusal
 
 -- the number of an answer: 0, or 4 for an operand that is not proper
 abbrev pub ZeroOrFour : Answer → Type 0
@@ -69,7 +76,8 @@ ZeroOrFour r = (numberIn r ≡ 0) ⊎ (numberIn r ≡ 4)
 -- for all operands, widths and rules
 pub record SameEngine : Type 0 where
   -- the same word and error as the first engine's, or the same refusal
-  pub answers : (op : Operation) (rule : Rule) (b a : ℕ) → Operands op b a → answerOf op rule b a ≡ firstAnswer op rule b a (stepsIn (answerOf op rule b a))
+  pub answers : (op : Operation) (rule : Rule) (b a : ℕ) → Operands op b a
+      → answerOf op rule b a ≡ firstAnswer op rule b a (stepsIn (answerOf op rule b a))
   -- and the chip does what the answer says
   pub in-chip : (op : Operation) (rule : Rule) (b a : ℕ) → Operands op b a → Does rule op b a (answerOf op rule b a)
   pub numbers : (op : Operation) (rule : Rule) (b a : ℕ) → Operands op b a → ZeroOrFour (answerOf op rule b a)
@@ -86,20 +94,75 @@ mostSteps Fdiv = 26
 
 pub record Work : Type 0 where
   -- at most so many steps
-  pub at-most : (op : Operation) (rule : Rule) (b a : ℕ) → Operands op b a → stepsIn (answerOf op rule b a) ≤ mostSteps op
-  -- none where a row names the operands or one is refused; else fewer than so many exactly where no bits remain, of the multiplier or of the dividend
+  pub at-most : (op : Operation) (rule : Rule) (b a : ℕ) → Operands op b a
+      → stepsIn (answerOf op rule b a) ≤ mostSteps op
+  -- none where a row names the operands or one is refused; else fewer than so many exactly where no bits remain, of the
+  -- multiplier or of the dividend
   pub fewer : (op : Operation) (rule : Rule) (b a : ℕ) → Operands op b a → Made (taskOf op b a) (stepsIn (answerOf op rule b a))
 
 -- ---- what ./steps tells
 
+-- CODE: 6E 76 6F 2E 36 2F 12 13 and no other, over all 256
+abbrev pub eightCodes : List Found
+eightCodes =
+    replicate 18 Unnamed ++ (Named Fmul ∷ Named Fdiv ∷ replicate 26 Unnamed)
+    ++ (Named (Mul Double) ∷ Named (Div Double) ∷ replicate 6 Unnamed) ++ (Named (Muu Double) ∷ replicate 55 Unnamed)
+    ++ (Named (Mul Single) ∷ Named (Div Single) ∷ replicate 6 Unnamed) ++ (Named (Muu Single) ∷ replicate 137 Unnamed)
+
+-- what `./steps` tells for its arguments: CODE B A, and `--nearest` or nothing
+abbrev pub steps : String → String → String → List ℕ
+steps code b a = toldOf 4 (written code) (written b) (written a) []
+
+abbrev pub stepsNearest : String → String → String → List ℕ
+stepsNearest code b a = toldOf 5 (written code) (written b) (written a) (written "--nearest")
+
+-- a line, and more; the last one alone
+abbrev pub line : String → List ℕ → List ℕ
+line text more = written text ++ (10 ∷ more)
+
+abbrev pub last : String → List ℕ
+last text = line text []
+
 pub record StepsText : Type 0 where
-  -- its codes are the chip's
-  pub codes : (code : ℕ) (op : Operation) → operationAt code ≡ Named op → decoded code ≡ Known (commandFor op)
+  -- its codes are the eight, each the chip's own command
+  pub codes : map operationAt (from 256 0) ≡ eightCodes
+  pub chips : (code : ℕ) (op : Operation) → operationAt code ≡ Named op → decoded code ≡ Known (commandFor op)
   -- a line for each step, by its number, and then the answer
   pub lines : (op : Operation) (rule : Rule) (b a : ℕ) → Operands op b a
       → workingsOf op rule b a ≡ linesAfter (taskOf op b a) (stepsIn (answerOf op rule b a)) 0 ++ answerLine (widthOf op) (answerOf op rule b a)
-  -- the status that it prints is the one that the chip leaves
-  pub status : (op : Operation) (r error : ℕ) → statusFor (widthOf op) r error ≡ statusBy (widthOf op) r error false
+  -- each code by its text, B before A: 5 x 3, the upper half of -9 x 4, -16384 / 2; the same at 32 bits; -2.5 x 0, 4 /
+  -- -2; B and A not proper
+  pub smul : steps "6E" "0005" "0003"
+      ≡ line "1 1 0000000000000005" (line "2 0 000000000000000F" (last "word 000F error 0 status 00"))
+  pub smuu : steps "76" "FFF7" "0004"
+      ≡ line "1 2 0000000000000000" (line "2 1 0000000000000000" (line "3 0 0000000000000024" (last "word FFFF error 0 status 40")))
+  pub sdiv : steps "6F" "C000" "0002"
+      ≡ line "1 15 0000000000004000" (line "2 14 0000000000004000" (line "3 13 0000000000000000" (last "word E000 error 0 status 40")))
+  pub dmul : steps "2E" "FFFFFFFB" "00000003"
+      ≡ line "1 1 0000000000000005" (line "2 0 000000000000000F" (last "word FFFFFFF1 error 0 status 40"))
+  pub dmuu : steps "36" "7654321F" "00000005"
+      ≡ line "1 2 000000007654321F" (line "2 1 000000007654321F" (line "3 0 000000024FA4FA9B" (last "word 00000002 error 0 status 00")))
+  pub ddiv : steps "2F" "C0000000" "00000002"
+      ≡ line "1 31 0000000040000000" (line "2 30 0000000040000000" (line "3 29 0000000000000000" (last "word E0000000 error 0 status 40")))
+  pub fmul : steps "12" "81A00000" "00000000"
+      ≡ last "word 00000000 error 0 status 20"
+  pub fdiv : steps "13" "03800000" "82800000"
+      ≡ line "1 25 0000000000000000" (last "word 82800000 error 0 status 40")
+  pub refused : steps "12" "01400000" "01800000"
+      ≡ last "refused 4"
+  pub refused-a : steps "13" "01800000" "80000000"
+      ≡ last "refused 4"
+  -- `--nearest` last is the other rule; hex digits may be in lower case
+  pub third : steps "13" "01800000" "02C00000" ≡ workingsOf Fdiv Cut 0x01800000 0x02C00000
+  pub third-nearest : stepsNearest "13" "01800000" "02c00000" ≡ workingsOf Fdiv Nearest 0x01800000 0x02C00000
+  pub product-nearest : stepsNearest "12" "01800001" "01C00000" ≡ workingsOf Fmul Nearest 0x01800001 0x01C00000
+  pub third-words : (answerOf Fdiv Cut 0x01800000 0x02C00000 ≡ Word 0x7FAAAAAA 0 26)
+      × (answerOf Fdiv Nearest 0x01800000 0x02C00000 ≡ Word 0x7FAAAAAB 0 26)
+  -- "Anything else": another code, digits too few or too many, no digit, another option, an argument too many
+  pub usage : (steps "6C" "0005" "0003" ≡ last "usage") × (steps "6E" "005" "0003" ≡ last "usage")
+      × (steps "6E" "0005" "00000003" ≡ last "usage") × (steps "6E" "0005" "000G" ≡ last "usage")
+      × (toldOf 5 (written "6E") (written "0005") (written "0003") (written "--cut") ≡ last "usage")
+      × (toldOf 6 (written "6E") (written "0005") (written "0003") (written "--nearest") ≡ last "usage")
 
 -- ---- examples: the operation, B and A under a rule; the word, its error, the number of steps
 pub record StepsRow : Type 0 where
@@ -142,4 +205,5 @@ stepsTable =
     ∷ []
 
 abbrev pub StepsBench : Type 0
-StepsBench = map (λ (r : StepsRow). answerOf (r .operation) (r .rule) (r .b) (r .a)) stepsTable ≡ map (λ (r : StepsRow). r .answer) stepsTable
+StepsBench = map (λ (r : StepsRow). answerOf (r .operation) (r .rule) (r .b) (r .a)) stepsTable
+    ≡ map (λ (r : StepsRow). r .answer) stepsTable

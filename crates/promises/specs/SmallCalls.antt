@@ -1,4 +1,5 @@
--- 01, 'Record files': the exported event and the two exported conversions, number by number and byte by byte. Definitions and the statements only:
+-- 01, 'Record files': the exported event and the two exported conversions, number by number and byte by byte.
+-- Definitions and the statements only:
 -- proofs/SmallCalls.antt proves them. Assumes nothing.
 use Prim.Native.Nat.{ℕ, _-_, _/_, _%_, _≤_, _<_}
 use mathlib.Core.Path.{_≡_}
@@ -6,13 +7,12 @@ use mathlib.Core.Logic.{_⊎_}
 use mathlib.Core.Bool.{true, false}
 use mathlib.Core.List.{List, [], _∷_, _++_}
 use lib.ListN.{length, take, getD}
-use Rattle.stack.specs.Stack.{zeros}
-use Rattle.host.specs.declared.Reply.{Reply}
-use Rattle.stored.specs.Bytes.{isState}
-use Rattle.pundaliket.specs.Calls.{Signal, sentOf}
+use Rattle.promises.specs.Subjects.{Reply, Signal, sentOf}
+use Rattle.promises.specs.Stack.{zeros}
+use Rattle.promises.specs.StateBytes.{IsState}
 use Rattle.promises.specs.Host.{number, outward, inward}
 use Rattle.promises.specs.Given.{Given, Chosen, eventCall}
-use Rattle.promises.specs.Kept.{Remembers}
+use Rattle.promises.specs.Remembered.{Remembers}
 
 -- ---- a single event
 
@@ -35,12 +35,15 @@ pub record Parts (stack : List ℕ) (p u v : ℕ) (t : List ℕ) : Type 0 where
 
 pub record EventCallUnder (g : Given) : Type 0 where
   -- a bad state: 256 times 13, before the kind is looked at; nothing is written
-  pub bad-state : (state : List ℕ) (kind byte : ℕ) → isState state ≡ false → eventCall g state kind byte ≡ signalled 3328 state
+  pub bad-state : (state : List ℕ) (kind byte : ℕ) → (IsState state → ⊥) → eventCall g state kind byte ≡ signalled 3328 state
   -- a kind that is not 1 to 8, all of its bits looked at: 256 times 5, whatever the byte
-  pub bad-kind : (state : List ℕ) (kind byte : ℕ) → isState state ≡ true → (kind ≡ 0) ⊎ (8 < kind) → eventCall g state kind byte ≡ signalled 1280 state
+  pub bad-kind : (state : List ℕ) (kind byte : ℕ) → IsState state → (kind ≡ 0) ⊎ (8 < kind)
+      → eventCall g state kind byte ≡ signalled 1280 state
   -- the byte is ignored but for a push and a command
-  pub byte-ignored : (state : List ℕ) (kind byte other : ℕ) → (kind ≡ 1 → ⊥) → (kind ≡ 3 → ⊥) → eventCall g state kind byte ≡ eventCall g state kind other
-  -- 1 push, 2 pop, 4 status, 5 reset, 6 acknowledge: 0 and the byte read, and all bytes after; a reset empties the memory too
+  pub byte-ignored : (state : List ℕ) (kind byte other : ℕ) → (kind ≡ 1 → ⊥) → (kind ≡ 3 → ⊥)
+      → eventCall g state kind byte ≡ eventCall g state kind other
+  -- 1 push, 2 pop, 4 status, 5 reset, 6 acknowledge: 0 and the byte read, and all bytes after; a reset empties the
+  -- memory too
   pub push-call : (b : ℕ) (l : List ℕ) (p u v : ℕ) (t : List ℕ) → Parts l p u v t
       → eventCall g (l ++ (p ∷ u ∷ v ∷ t)) 1 b ≡ signalled 0 ((b ∷ take 15 l) ++ ((1 - p) ∷ u ∷ v ∷ t))
   pub pop-call : (b byte : ℕ) (l : List ℕ) (p u v : ℕ) (t : List ℕ) → Parts (b ∷ l) p u v t
@@ -53,7 +56,8 @@ pub record EventCallUnder (g : Given) : Type 0 where
   pub older-reset-call : g .mode ≡ 1 → (byte : ℕ) (l : List ℕ) (u v : ℕ) (t : List ℕ) → Parts l 0 u v t
       → eventCall g (l ++ (0 ∷ u ∷ v ∷ t)) 5 byte ≡ signalled 0 (l ++ (0 ∷ 0 ∷ 0 ∷ zeros (length t)))
   pub realigned-call : g .mode ≡ 1 → (b byte : ℕ) (l : List ℕ) (u v : ℕ) (t : List ℕ) → Parts (b ∷ l) 1 u v t
-      → eventCall g ((b ∷ l) ++ (1 ∷ u ∷ v ∷ t)) 5 byte ≡ signalled 0 ((take 14 l ++ (0 ∷ 0 ∷ [])) ++ (0 ∷ 0 ∷ 0 ∷ zeros (length t)))
+      → eventCall g ((b ∷ l) ++ (1 ∷ u ∷ v ∷ t)) 5 byte
+      ≡ signalled 0 ((take 14 l ++ (0 ∷ 0 ∷ [])) ++ (0 ∷ 0 ∷ 0 ∷ zeros (length t)))
   pub acknowledge-call : (byte : ℕ) (l : List ℕ) (p u v : ℕ) (t : List ℕ) → Parts l p u v t
       → eventCall g (l ++ (p ∷ u ∷ v ∷ t)) 6 byte ≡ signalled 0 (l ++ (p ∷ u ∷ 0 ∷ t))
   -- 7 the memory read, its bits alone, which are 0 on 19 bytes, and 8 the memory cleared; neither touches anything else
@@ -71,7 +75,8 @@ pub record Converts (reply : Reply) : Type 0 where
   -- a slice that is not four bytes: 8 before all else, and it is unwritten
   pub other-length : (out : List ℕ) → (length out ≡ 4 → ⊥) → sentOf reply out ≡ record { result = 8; out = out }
   -- else the refusal of the word or of the f32, and the slice is unwritten
-  pub refused : (out : List ℕ) → length out ≡ 4 → (number reply ≡ 0 → ⊥) → sentOf reply out ≡ record { result = number reply; out = out }
+  pub refused : (out : List ℕ) → length out ≡ 4 → (number reply ≡ 0 → ⊥)
+      → sentOf reply out ≡ record { result = number reply; out = out }
   -- and on 0 the 32 bits as four bytes, little-endian
   pub done : (out : List ℕ) → length out ≡ 4 → number reply ≡ 0
       → sentOf reply out ≡ record { result = 0; out = reply .bits % 256 ∷ reply .bits / 256 % 256 ∷ reply .bits / 65536 % 256 ∷ reply .bits / 16777216 % 256 ∷ [] }

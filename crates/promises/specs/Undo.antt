@@ -1,4 +1,5 @@
--- 02, ask 8: for every list of POPS, POPD, POPF, XCHS, XCHD and XCHF a list of the same commands that restores all 16 bytes, and the rule that makes it.
+-- 02, ask 8: for every list of POPS, POPD, POPF, XCHS, XCHD and XCHF a list of the same commands that restores all 16
+-- bytes, and the rule that makes it.
 -- Definitions and the statements only: proofs/Undo.antt proves them. Assumes nothing.
 use Prim.Native.Nat.{ℕ, suc}
 use mathlib.Core.Path.{_≡_}
@@ -7,18 +8,14 @@ use mathlib.Core.List.{List, [], _∷_, _++_}
 use lib.ListN.{take, drop, getD, replicate}
 use Rattle.terms.specs.declared.Mode.the-variants.{Am9511A}
 use Rattle.terms.specs.declared.Width.the-variants.{Single, Double}
-use Rattle.terms.specs.Settings.{Settings}
-use Rattle.stack.specs.Stack.{Bytes, IsStack}
 use Rattle.codes.specs.declared.Command.{Command}
 use Rattle.codes.specs.declared.Command.the-variants.{Pop, Xch}
 use Rattle.codes.specs.declared.Kind.the-variants.{Known}
 use Rattle.codes.specs.Codes.{decoded}
-use Rattle.chip.specs.declared.State.{State}
-use Rattle.chip.specs.declared.Event.{Event}
-use Rattle.chip.specs.Step.{answerTo, under}
-use Rattle.chip.specs.Events.{afterEvents, answered, AtRest}
-use Rattle.chip.specs.InTurn.{afterPops}
-use Rattle.stored.specs.Bytes.{isState}
+use Rattle.promises.specs.Subjects.{Settings, State, ChipEvent as Event, answerTo}
+use Rattle.promises.specs.Stack.{Bytes, IsStack}
+use Rattle.promises.specs.BusEvents.{under, afterEvents, answered, AtRest, afterPops}
+use Rattle.promises.specs.StateBytes.{IsState}
 use Rattle.promises.specs.Given.{Given, Chosen}
 use Rattle.promises.specs.Chains.{given}
 use Rattle.promises.specs.Cores.{Core, Meets, onBus, driven, returned, allZero}
@@ -81,25 +78,32 @@ abbrev pub shuffled : (ℕ → Bool) → List Shuffle → List Event
 shuffled sr [] = []
 shuffled sr (k ∷ ks) = given (sr 0) (codeOf k) ∷ shuffled (λ (n : ℕ). sr (suc n)) ks
 
--- at the chip, from any state that 13 does not turn away, with nothing pending: every command is answered 0, all 16 bytes are as at first, and nothing is
+-- at the chip, from any state that 13 does not turn away, with nothing pending: every command is answered 0, all 16
+-- bytes are as at first, and nothing is
 -- pending again
 pub record AtChip (on : Settings) (ks : List Shuffle) : Type 0 where
   pub every-answered : (s : State) (sr : ℕ → Bool) → AtRest s → answered on s (shuffled sr ks) ≡ true
-  pub all-bytes : (s : State) (sr : ℕ → Bool) → AtRest s → IsStack (s .stack) → (afterEvents on s (shuffled sr ks)) .stack ≡ s .stack
+  pub all-bytes : (s : State) (sr : ℕ → Bool) → AtRest s → IsStack (s .stack)
+      → (afterEvents on s (shuffled sr ks)) .stack ≡ s .stack
   pub ready-again : (s : State) (sr : ℕ → Bool) → AtRest s → AtRest (afterEvents on s (shuffled sr ks))
 
 -- the bytes of a state that 13 does not turn away, 19 or 21, with nothing pending
 pub record BytesAtRest (state : List ℕ) : Type 0 where
   pub bytes : Bytes state
-  pub good : isState state ≡ true
+  pub good : IsState state
   pub whole : getD state 16 0 ≡ 0
 
--- through the event call: every call returns 0, and of the bytes lent all come back but 17 and 18, the status and the service line
+-- through the event call: every call returns 0, and of the bytes lent all come back but 17 and 18, the status and the
+-- service line
 pub record AtCalls (c : Core) (ks : List Shuffle) : Type 0 where
-  pub all-return-0 : (state : List ℕ) (sr : ℕ → Bool) → BytesAtRest state → allZero (returned c state (onBus (shuffled sr ks))) ≡ true
-  pub bytes-0-to-15 : (state : List ℕ) (sr : ℕ → Bool) → BytesAtRest state → take 16 (driven c state (onBus (shuffled sr ks))) ≡ take 16 state
-  pub byte-16 : (state : List ℕ) (sr : ℕ → Bool) → BytesAtRest state → getD (driven c state (onBus (shuffled sr ks))) 16 0 ≡ 0
-  pub bytes-19-and-20 : (state : List ℕ) (sr : ℕ → Bool) → BytesAtRest state → drop 19 (driven c state (onBus (shuffled sr ks))) ≡ drop 19 state
+  pub all-return-0 : (state : List ℕ) (sr : ℕ → Bool) → BytesAtRest state
+      → allZero (returned c state (onBus (shuffled sr ks))) ≡ true
+  pub bytes-0-to-15 : (state : List ℕ) (sr : ℕ → Bool) → BytesAtRest state
+      → take 16 (driven c state (onBus (shuffled sr ks))) ≡ take 16 state
+  pub byte-16 : (state : List ℕ) (sr : ℕ → Bool) → BytesAtRest state
+      → getD (driven c state (onBus (shuffled sr ks))) 16 0 ≡ 0
+  pub bytes-19-and-20 : (state : List ℕ) (sr : ℕ → Bool) → BytesAtRest state
+      → drop 19 (driven c state (onBus (shuffled sr ks))) ≡ drop 19 state
 
 -- under every setting, and of every core that meets the promises under numbers that are not turned away
 pub record ChangesNoByte (ks : List Shuffle) : Type 0 where
@@ -120,9 +124,11 @@ pub record Composes : Type 0 where
   -- the undo of a joined list is the undos joined the other way round
   pub joined : (ks ls : List Shuffle) → undo (ks ++ ls) ≡ undo ls ++ undo ks
   -- and so do any lists restore, made by the rule or not
-  pub restoring : (ks ls back again : List Shuffle) → Restores ks back → Restores ls again → Restores (ks ++ ls) (again ++ back)
+  pub restoring : (ks ls back again : List Shuffle) → Restores ks back → Restores ls again
+      → Restores (ks ++ ls) (again ++ back)
   -- what changes no byte may be left out of a list that restores, wherever it stands
-  pub left-out : (ks back ms again : List Shuffle) → ChangesNoByte ms → Restores ks (back ++ (ms ++ again)) → Restores ks (back ++ again)
+  pub left-out : (ks back ms again : List Shuffle) → ChangesNoByte ms → Restores ks (back ++ (ms ++ again))
+      → Restores ks (back ++ again)
 
 -- "eight POPS and four POPD change no byte"
 pub record FullTurns : Type 0 where
@@ -131,10 +137,13 @@ pub record FullTurns : Type 0 where
   pub four-popf : ChangesNoByte fourPopf
 
 -- ---- a look at an entry
--- an entry of 16 bits read byte by byte moves the stack as POPS does, one of 32 bits as POPD; all 16 bytes read change nothing
+-- an entry of 16 bits read byte by byte moves the stack as POPS does, one of 32 bits as POPD; all 16 bytes read change
+-- nothing
 pub record Looks : Type 0 where
-  pub two-bytes : (on : Settings) (s : State) (sr : ℕ → Bool) → AtRest s → IsStack (s .stack) → (afterPops 2 s) .stack ≡ (afterEvents on s (shuffled sr (POPS ∷ []))) .stack
-  pub four-bytes : (on : Settings) (s : State) (sr : ℕ → Bool) → AtRest s → IsStack (s .stack) → (afterPops 4 s) .stack ≡ (afterEvents on s (shuffled sr (POPD ∷ []))) .stack
+  pub two-bytes : (on : Settings) (s : State) (sr : ℕ → Bool) → AtRest s → IsStack (s .stack)
+      → (afterPops 2 s) .stack ≡ (afterEvents on s (shuffled sr (POPS ∷ []))) .stack
+  pub four-bytes : (on : Settings) (s : State) (sr : ℕ → Bool) → AtRest s → IsStack (s .stack)
+      → (afterPops 4 s) .stack ≡ (afterEvents on s (shuffled sr (POPD ∷ []))) .stack
   pub sixteen-bytes : (s : State) → AtRest s → IsStack (s .stack) → afterPops 16 s ≡ s
 
 -- ---- the same said a second time
@@ -149,7 +158,8 @@ stacksAfter on s (e ∷ es) = (answerTo on s e) .state .stack ∷ stacksAfter on
 
 -- 16 different bytes, and a state with every error bit and the carry in its status, the service line high
 abbrev pub exampleBytes : List ℕ
-exampleBytes = 0x01 ∷ 0x02 ∷ 0x03 ∷ 0x04 ∷ 0x05 ∷ 0x06 ∷ 0x07 ∷ 0x08 ∷ 0x09 ∷ 0x0a ∷ 0x0b ∷ 0x0c ∷ 0x0d ∷ 0x0e ∷ 0x0f ∷ 0x10 ∷ []
+exampleBytes =
+    0x01 ∷ 0x02 ∷ 0x03 ∷ 0x04 ∷ 0x05 ∷ 0x06 ∷ 0x07 ∷ 0x08 ∷ 0x09 ∷ 0x0a ∷ 0x0b ∷ 0x0c ∷ 0x0d ∷ 0x0e ∷ 0x0f ∷ 0x10 ∷ []
 
 abbrev pub exampleState : State
 exampleState = record { stack = exampleBytes; pending = false; status = 0x7f; service = true }
@@ -159,7 +169,8 @@ abbrev pub exampleList : List Shuffle
 exampleList = XCHS ∷ POPD ∷ XCHF ∷ POPS ∷ XCHD ∷ POPF ∷ []
 
 abbrev pub exampleUndo : List Shuffle
-exampleUndo = POPF ∷ POPF ∷ POPF ∷ XCHD ∷ POPS ∷ POPS ∷ POPS ∷ POPS ∷ POPS ∷ POPS ∷ POPS ∷ XCHF ∷ POPD ∷ POPD ∷ POPD ∷ XCHS ∷ []
+exampleUndo =
+    POPF ∷ POPF ∷ POPF ∷ XCHD ∷ POPS ∷ POPS ∷ POPS ∷ POPS ∷ POPS ∷ POPS ∷ POPS ∷ XCHF ∷ POPD ∷ POPD ∷ POPD ∷ XCHS ∷ []
 
 -- with sr 0, on the Am9511A
 pub record UndoExample : Type 0 where

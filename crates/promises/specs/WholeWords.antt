@@ -1,4 +1,5 @@
--- The order's own fear, a word joined from two units: by which bytes a word goes in and comes out. Definitions and the statement only:
+-- The order's own fear, a word joined from two units: by which bytes a word goes in and comes out. Definitions and the
+-- statement only:
 -- proofs/WholeWords.antt proves it. Assumes nothing.
 use Prim.Native.Nat.{ℕ, zero, suc, _-_, _%_, _<_}
 use mathlib.Core.Path.{_≡_}
@@ -9,19 +10,13 @@ use Rattle.terms.specs.declared.Mode.{Mode}
 use Rattle.terms.specs.declared.Refusal.the-variants.{Done, HalfWord}
 use Rattle.terms.specs.declared.Width.{Width}
 use Rattle.terms.specs.declared.Width.the-variants.{Single, Double}
-use Rattle.terms.specs.Width.{sizeOf}
-use Rattle.terms.specs.Settings.{Settings}
-use Rattle.stack.specs.Stack.{IsStack, bytesOf, lowFirst, topByte, pushed, popped}
 use Rattle.codes.specs.declared.Command.{Command}
 use Rattle.codes.specs.declared.Kind.the-variants.{Known}
 use Rattle.codes.specs.Codes.{decoded}
-use Rattle.chip.specs.declared.State.{State}
-use Rattle.chip.specs.declared.Event.{Event}
-use Rattle.chip.specs.declared.Event.the-variants.{Push, Pop}
-use Rattle.chip.specs.State.{busy, moved}
-use Rattle.chip.specs.Step.{done, refused, pushOf, popOf, commandUnder, under}
-use Rattle.chip.specs.Events.{afterEvents}
-use Rattle.chip.specs.InTurn.{afterPushes, bytesPopped, resultBytes}
+use Rattle.promises.specs.Subjects.{Settings, State, ChipEvent as Event, Push, Pop, pushOf, popOf, commandUnder}
+use Rattle.promises.specs.Stack.{sizeOf, IsStack, bytesOf, lowFirst, topByte, pushed, popped}
+use Rattle.promises.specs.BusEvents.{busy, moved, done, refused, under, afterEvents, afterPushes, bytesPopped}
+use Rattle.promises.specs.BusEvents.{resultBytes}
 
 -- events that push or pop a byte, n in all
 pub data Moves : List Event → ℕ → Type 0 where
@@ -38,20 +33,27 @@ pub record Whole (on : Settings) : Type 0 where
   -- a byte pushed or popped is answered 0 and turns pending
   pub push-answer : (s : State) (byte : ℕ) → busy s ≡ false → pushOf s byte ≡ done 0 (moved s (pushed (s .stack) byte))
   pub pop-answer : (s : State) → busy s ≡ false → popOf s ≡ done (topByte (s .stack)) (moved s (popped (s .stack)))
-  -- with nothing pending, after an odd number of bytes pushed and popped a half word is pending, and after an even number none
-  pub parity : (s : State) (es : List Event) (n : ℕ) → Moves es n → busy s ≡ false → s .pending ≡ false → (afterEvents on s es) .pending ≡ odd n
+  -- with nothing pending, after an odd number of bytes pushed and popped a half word is pending, and after an even
+  -- number none
+  pub parity : (s : State) (es : List Event) (n : ℕ) → Moves es n → busy s ≡ false → s .pending ≡ false
+      → (afterEvents on s es) .pending ≡ odd n
   -- with nothing pending, a word's bytes pushed, low first, lie on top, the rest moves down, and nothing is pending
   pub lies-on-top : (w : Width) (s : State) (x : ℕ) → busy s ≡ false → s .pending ≡ false
       → afterPushes s (lowFirst (sizeOf w) x) ≡ record { stack = bytesOf (sizeOf w) x ++ take (16 - sizeOf w) (s .stack); pending = false; status = s .status; service = s .service }
   -- and as many pops hand out that word's bytes, high first
-  pub handed-back : (w : Width) (s : State) (x : ℕ) → busy s ≡ false → bytesPopped (sizeOf w) (afterPushes s (lowFirst (sizeOf w) x)) ≡ bytesOf (sizeOf w) x
+  pub handed-back : (w : Width) (s : State) (x : ℕ) → busy s ≡ false
+      → bytesPopped (sizeOf w) (afterPushes s (lowFirst (sizeOf w) x)) ≡ bytesOf (sizeOf w) x
   -- after any accepted command the pops hand out R's bytes
-  pub after-command : (s : State) (code : ℕ) (k : Command) → IsStack (s .stack) → decoded (code % 128) ≡ Known k → (commandUnder (on .rule) s code) .refusal ≡ Done
-      → bytesPopped (length (resultBytes (on .rule) k (s .stack))) ((commandUnder (on .rule) s code) .state) ≡ resultBytes (on .rule) k (s .stack)
+  pub after-command : (s : State) (code : ℕ) (k : Command) → IsStack (s .stack) → decoded (code % 128) ≡ Known k
+      → (commandUnder (on .rule) s code) .refusal ≡ Done
+      → bytesPopped (length (resultBytes (on .rule) k (s .stack))) ((commandUnder (on .rule) s code) .state)
+      ≡ resultBytes (on .rule) k (s .stack)
   -- an accepted command found nothing pending, and leaves nothing pending
-  pub nothing-pending : (s : State) (code : ℕ) → (commandUnder (on .rule) s code) .refusal ≡ Done → (s .pending ≡ false) × ((commandUnder (on .rule) s code) .state .pending ≡ false)
+  pub nothing-pending : (s : State) (code : ℕ) → (commandUnder (on .rule) s code) .refusal ≡ Done
+      → (s .pending ≡ false) × ((commandUnder (on .rule) s code) .state .pending ≡ false)
   -- while a half word is pending, every known command, NOP too, is refused with 3 and no byte changes
-  pub half-refused : (s : State) (code : ℕ) (k : Command) → decoded (code % 128) ≡ Known k → busy s ≡ false → s .pending ≡ true → commandUnder (on .rule) s code ≡ refused HalfWord s
+  pub half-refused : (s : State) (code : ℕ) (k : Command) → decoded (code % 128) ≡ Known k → busy s ≡ false
+      → s .pending ≡ true → commandUnder (on .rule) s code ≡ refused HalfWord s
 
 -- of the chip as it stands
 abbrev pub WholeWords : Type 0

@@ -1,77 +1,55 @@
--- `formula::parts::leaf` meets its contract: no byte, a letter, a hash, or another byte. Assumes nothing.
-use mathlib.Core.Path.{_≡_, refl, sym, _∙_}
-use mathlib.Core.Bool.{true, false}
-use Prim.Native.Nat.{_≤_}
+-- `formula::parts::leaf` meets its contract: a letter, a hash, or another byte or none. Assumes nothing.
+use mathlib.Core.Path.{_≡_, refl, sym, _∙_, ap}
+use Prim.Native.Nat.{ℕ}
 use native.Mathlib.Omega.{arith}
-use borrow.Author.Tests.{not-true, not-false}
-use lib.ListN.{length, getD}
+use lib.ListN.{getD}
 use denote.Ref.{now}
-use Rattle.formula.specs.Reader.{isLetter}
-use Rattle.formula.proofs.Digits.{letter-range}
-use Rattle.formula.proofs.Reading.{none-reads, later-reads, letter-reads, past-leaf, hash-leaf, no-leaf}
+use Rattle.formula.specs.Told.{atOf}
+use Rattle.formula.proofs.Places.{place-is}
+use Rattle.formula.proofs.Reading.{letter-stands, reads-as, none-reads, letter-reads, hash-leaf, no-leaf}
 use borrow.Author.Needs.{needs}
 use Rattle.formula.proofs.parts.leaf.Statement.{statement}
 use Rattle.formula.proofs.parts.leaf.Tie as tie
 
--- the letter's range, where it is one
-in-range : (c : tie.Then2) → let a = c .before .before .before .before .before .before .before .args in (0x61 ≤ getD (now (a .text)) (a .at) 0) × (getD (now (a .text)) (a .at) 0 ≤ 0x68)
-in-range c = let a = c .before .before .before .before .before .before .before .args in letter-range (getD (now (a .text)) (a .at) 0) (sym (c .before .is-letter .ensures) ∙ c .if2 .taken)
+-- the byte that was looked at
+byte-is : (c : tie.After-is-letter) → c .before .byte-at .result ≡ getD (now (c .before .before .before .before .args .text)) (atOf (c .before .before .before .before .args .place)) 0
+byte-is c = c .before .byte-at .ensures ∙ ap (λ (i : ℕ). getD (now (c .before .before .before .before .args .text)) i 0) (c .before .before .at-of .ensures)
+
+letter-requires : tie.Need-letter-requires
+letter-requires c κs =
+    let s = c .before .before .before .before .before .before in
+    let A = s .pre in
+    let i = letter-stands (now (s .args .text)) (atOf (s .args .place)) _ (byte-is (c .before .before)) (sym (c .before .before .is-letter .ensures) ∙ c .before .if1 .taken) in
+    omega (arith, place-is (s .args .place), A .few, A .short)
 
 returns : tie.Need-returns
 returns c =
-    let a = c .before .before .before .before .before .args in
-    let t = now (a .text) in
-    none-reads (now (a .letters)) t (a .at) (a .end) (now (a .out)) (now (a .out)) (c .before .before .before .before .before .pre .inside) (c .outside .ensures) (past-leaf t (a .at) (c .before .if1 .taken))
-
-sub-letter-word : tie.Need-sub-letter-word
-sub-letter-word c = in-range (c .before) .0
-
-cast-letter-word : tie.Need-cast-letter-word
-cast-letter-word c = let h = in-range (c .before) in omega arith
-
-letter-word-requires : tie.Need-letter-word-requires
-letter-word-requires c κs = let h = in-range (c .before) in omega arith
+    let s = c .before .before .before .before .before .before .before in
+    let t = now (s .args .text) in
+    let x = c .before .before .before .before .byte-at .result in
+    let b = byte-is (c .before .before .before) in
+    let l = sym (c .before .before .before .is-letter .ensures) ∙ c .before .before .if1 .taken in
+    letter-reads t (s .args .place) (now (s .args .out)) (c .letter .last .0) x (s .pre .short) (letter-stands t (atOf (s .args .place)) x b l) b l (c .letter .ensures .0) (c .letter .ensures .1)
 
 returns-2 : tie.Need-returns-2
 returns-2 c =
-    let a = c .before .before .before .before .before .before .before .before .before .before .before .before .args in
-    let t = now (a .text) in
-    let w = c .before .before .before .letter-word in
-    letter-reads (now (a .letters)) t (a .at) (a .end) (now (a .out)) (c .before .before .pushed .last .0) (w .result) (getD t (a .at) 0) (c .before .before .before .before .before .before .before .before .if1 .left) refl
-    (sym (c .before .before .before .before .before .before .is-letter .ensures) ∙ c .before .before .before .before .before .if2 .taken) (w .ensures) (c .before .before .pushed .ensures)
+    let s = c .before .before .before .before .before .before .before .before in
+    reads-as _ _ _ _ (hash-leaf (now (s .args .text)) (atOf (s .args .place)) _ (byte-is (c .before .before .before .before)) (sym (c .before .before .before .before .is-letter .ensures) ∙ c .before .before .before .if1 .left) (c .before .before .if2 .taken)) (c .constant .ensures)
 
 returns-3 : tie.Need-returns-3
 returns-3 c =
-    let a = c .before .before .before .before .before .before .before .before .before .before .before .before .args in
-    let t = now (a .text) in
-    later-reads (now (a .letters)) t (a .at) (a .end) (now (a .out)) (c .before .before .constant .last .1 .1 .0)
-    (hash-leaf t (a .at) (getD t (a .at) 0) (c .before .before .before .before .before .before .before .before .if1 .left) refl (sym (c .before .before .before .before .before .before .is-letter .ensures) ∙ (c .before .before .before .before .before .if2 .left)) (c .before .before .before .before .if3 .taken)) (c .before .before .constant .ensures)
-
-returns-4 : tie.Need-returns-4
-returns-4 c =
-    let a = c .before .before .before .before .before .before .before .before .before .args in
-    let t = now (a .text) in
-    none-reads (now (a .letters)) t (a .at) (a .end) (now (a .out)) (now (a .out)) (c .before .before .before .before .before .before .before .before .before .pre .inside) (c .outside2 .ensures)
-    (no-leaf t (a .at) (getD t (a .at) 0) (c .before .before .before .before .before .if1 .left) refl (sym (c .before .before .before .is-letter .ensures) ∙ (c .before .before .if2 .left)) (c .before .if3 .left))
+    let s = c .before .before .before .before .before .before in
+    none-reads _ _ _ _ refl (no-leaf (now (s .args .text)) (atOf (s .args .place)) _ (byte-is (c .before .before)) (sym (c .before .before .is-letter .ensures) ∙ c .before .if1 .left) (c .if2 .left))
 
 pub leaf-spec : {M : Type 1} → statement M
 leaf-spec =
     tie.close
     (tie.spec
     (λ c κs. search needs)
+    (λ c κs. search needs)
+    (λ c κs. search needs)
+    letter-requires
     returns
-    (λ c. search needs)
-    (λ c κs. search needs)
-    sub-letter-word
-    cast-letter-word
-    letter-word-requires
-    (λ c. search needs)
-    (λ c κs. search needs)
-    (λ c. search needs)
+    (λ c κs. (c .before .before .before .before .before .before .before .pre, sym (byte-is (c .before .before .before)) ∙ c .before .if2 .taken))
     returns-2
-    (λ c. search needs)
-    (λ c κs. search needs)
-    (λ c. search needs)
-    returns-3
-    (λ c κs. search needs)
-    returns-4)
+    returns-3)

@@ -1,0 +1,90 @@
+# What ./archive and tests/targets share. To be read by a script that has set `top`, the repository's folder, and `work`, a
+# folder for temporary files, and that has read tests/kit.sh.
+# Sets targets, the table of processors; defines take_module, same_object, target_names, target_row, compile_module, archive_of.
+targets=$top/scripts/targets.txt
+
+# make_module NAME: proves the library NAME and keeps the LLVM module that the toolchain makes of it, unless that is
+# current; sets module and library. The same proof makes the library's own archive, which then is current too.
+make_module() {
+    module=$top/target/module/$1.bc library=$top/target/staticlib/lib$1.a
+    current "$library" || rm -f "$top/target/made/$1.bc"
+    build "$module" keep_module "$1" || return 1
+    ! current "$module" || build "$library" : 2>/dev/null
+}
+
+# keep_module NAME: `rt staticlib NAME` with the kit given by links, but for its clang. In clang's place stands a script
+# that keeps a copy of the module and then is clang. (The toolchain runs it in a folder of its own, with no environment.)
+keep_module() {
+    linked=$work/kit on=on/$(uname -m)
+    rm -rf "$linked"
+    mkdir -p "$linked/$on/toolchain/bin" "$top/target/module" || return 1
+    for part in "$kit"/* "$kit/$on"/* "$kit/$on/toolchain"/* "$tools"/*; do
+        to=$linked/${part#"$kit/"}
+        [ -e "$to" ] || ln -s "$part" "$to" || return 1
+    done
+    rm "$linked/$on/toolchain/bin/clang"
+    printf '#!/bin/sh\ncp module.bc "%s" && exec "%s" "$@"\n' "$module" "$clang" >"$linked/$on/toolchain/bin/clang"
+    chmod +x "$linked/$on/toolchain/bin/clang"
+    RATTLE_HOME=$linked rt staticlib "$1"
+}
+
+# take_module NAME: the module as text, in $work/NAME.ll, if it is fit to be compiled for another processor: compiled here
+# for x86-64 it is the toolchain's own object byte for byte, and it is indifferent to the width of a pointer. Else says why.
+take_module() {
+    make_module "$1" || return 1
+    "$clang" --target=x86_64-unknown-linux-gnu -x ir "$module" -S -emit-llvm -Xclang -disable-llvm-passes -o "$work/$1.ll" || return 1
+    if ! same_object "$1" "$work/$1.ll"; then
+        echo "${0##*/}: compiled for x86-64, the module of $1 does not give the object that the toolchain made" >&2
+        return 1
+    fi
+    if ! awk -f "$top/scripts/pointer_width.awk" "$work/$1.ll" >"$work/$1.width"; then
+        head -n 5 "$work/$1.width" >&2
+        echo "${0##*/}: the module of $1 leans on the width of a pointer" >&2
+        return 1
+    fi
+}
+
+# same_object NAME TEXT: this module, compiled for x86-64, is the object in the library's own archive
+same_object() {
+    compile_text "$2" x86-64 '' "$work/own.o" && "$tools/llvm-ar" p "$top/target/staticlib/lib$1.a" "$1.o" | cmp -s - "$work/own.o"
+}
+
+# target_row TARGET: its line of the table; sets processor, triple, flags, loads, link_with, asks. Fails where there is none.
+target_row() {
+    columns=$(awk -F ' *[|] *' -v name="$1" '$1 == name { for (i = 2; i <= 6; i++) print $i }' "$targets")
+    [ -n "$columns" ] || return 1
+    { read -r processor; read -r triple flags; read -r loads; read -r link_with; read -r asks; } <<END
+$columns
+END
+}
+
+# target_names: the targets in the table's order
+target_names() { awk '!/^#/ && NF { print $1 }' "$targets"; }
+
+# compile_text TEXT TARGET SMALL OBJECT: a module's text compiled for the target, by the toolchain's own flags less those
+# that name x86-64; for size where SMALL is not empty. What clang's front end would say of the target is said here: that a
+# function is for size; that no guard page lies below the stack, where there is no system; that riscv64 hands back a number of
+# 32 bits with its sign extended.
+compile_text() {
+    target_row "$2" || return 1
+    level=-O3 size='' probe='' back=''
+    [ -z "$3" ] || { level=-Os size=' optsize'; }
+    case $triple in *-linux-*) ;; *) probe='s/ "probe-stack"="inline-asm"//' ;; esac
+    case $triple in riscv64*) back='s/^define noundef i32 @\([a-z]\)/define noundef signext i32 @\1/' ;; esac
+    sed -e '/^target /d' -e 's/ "target-cpu"="[^"]*"//' -e "s/^attributes #0 = { nounwind/&$size/" -e "$probe" -e "$back" \
+        "$1" >"$4.ll" || return 1
+    # shellcheck disable=SC2086
+    "$clang" --target="$triple" $flags "$level" -ffunction-sections -fdata-sections -mllvm -trap-unreachable \
+        -mllvm -no-trap-after-noreturn --no-default-config -no-canonical-prefixes -Werror -Wno-override-module \
+        -c -x ir "$4.ll" -o "$4" || return 1
+    rm "$4.ll"
+}
+
+# compile_module NAME TARGET SMALL OBJECT: the same of a module that take_module took
+compile_module() { compile_text "$work/$1.ll" "$2" "$3" "$4"; }
+
+# archive_of NAME OBJECT ARCHIVE: an archive of one member, NAME.o, with its index of names
+archive_of() {
+    mkdir -p "$work/member" && cp "$2" "$work/member/$1.o" && rm -f "$3" || return 1
+    (cd "$work/member" && "$tools/llvm-ar" rcsD --format=gnu "$3" "$1.o")
+}
