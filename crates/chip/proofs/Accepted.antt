@@ -10,12 +10,12 @@ use Rattle.terms.specs.declared.Refusal.the-variants.{Done, UnknownCode, Derive
 use Rattle.terms.specs.Refusal.{numberOf}
 use Rattle.terms.specs.declared.Rule.{Rule}
 use Rattle.stack.specs.Stack.{IsStack}
-use Rattle.codes.specs.declared.Command.{Command}
-use Rattle.codes.specs.declared.Kind.{Kind}
-use Rattle.codes.specs.declared.Kind.the-variants.{Known, Derived, Unknown}
+use Rattle.codes.specs.Command.{Command}
+use Rattle.codes.specs.Command.{Kind}
+use Rattle.codes.specs.Command.{Known, Derived, Unknown}
 use Rattle.codes.specs.Codes.{sr, decoded}
-use Rattle.chip.specs.declared.State.{State}
-use Rattle.chip.specs.declared.Answer.{Answer}
+use Rattle.chip.specs.State.{State}
+use Rattle.chip.specs.State.{Answer}
 use Rattle.chip.specs.State.{busy, settled}
 use Rattle.chip.specs.Commands.{outcomeOf, properOperands}
 use Rattle.chip.specs.Step.{done, refused, carried, answerByKind, commandUnder}

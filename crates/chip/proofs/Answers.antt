@@ -5,12 +5,12 @@ use Prim.Native.Nat.{ℕ, _%_, _<_}
 use borrow.Author.Tests.{lt-leb}
 use Rattle.terms.specs.declared.Refusal.the-variants.{HalfWord, Improper}
 use Rattle.terms.specs.declared.Rule.{Rule}
-use Rattle.codes.specs.declared.Command.{Command}
-use Rattle.codes.specs.declared.Kind.{Kind}
-use Rattle.codes.specs.declared.Kind.the-variants.{Known}
+use Rattle.codes.specs.Command.{Command}
+use Rattle.codes.specs.Command.{Kind}
+use Rattle.codes.specs.Command.{Known}
 use Rattle.codes.specs.Codes.{sr, decoded}
-use Rattle.chip.specs.declared.State.{State}
-use Rattle.chip.specs.declared.Answer.{Answer}
+use Rattle.chip.specs.State.{State}
+use Rattle.chip.specs.State.{Answer}
 use Rattle.chip.specs.State.{CommandOutcome, settled}
 use Rattle.chip.specs.Commands.{outcomeOf, properOperands}
 use Rattle.chip.specs.Step.{done, refused, unlessBusy, carried, answerByKind, commandUnder}

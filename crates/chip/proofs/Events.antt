@@ -14,13 +14,13 @@ use Rattle.float.specs.Word.{FloatWord}
 use Rattle.float.specs.Float.{Result}
 use Rattle.stack.specs.Stack.{bytesOf}
 use Rattle.codes.specs.declared.FloatOp.{FloatOp}
-use Rattle.codes.specs.declared.Command.the-variants.{Float}
-use Rattle.codes.specs.declared.Kind.the-variants.{Known}
+use Rattle.codes.specs.Command.{Float}
+use Rattle.codes.specs.Command.{Known}
 use Rattle.codes.specs.Codes.{decoded}
-use Rattle.chip.specs.declared.State.{State}
-use Rattle.chip.specs.declared.Answer.{Answer}
-use Rattle.chip.specs.declared.Event.{Event}
-use Rattle.chip.specs.declared.Event.the-variants.{Command}
+use Rattle.chip.specs.State.{State}
+use Rattle.chip.specs.State.{Answer}
+use Rattle.chip.specs.Event.{Event}
+use Rattle.chip.specs.Event.{Command}
 use Rattle.chip.specs.Status.{statusOf, errorOf}
 use Rattle.chip.specs.Commands.{floatOf}
 use Rattle.chip.specs.Step.{done, commandUnder, answerTo}

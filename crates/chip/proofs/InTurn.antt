@@ -14,11 +14,11 @@ use Rattle.terms.specs.Width.{sizeOf}
 use Rattle.terms.specs.declared.Rule.{Rule}
 use Rattle.stack.specs.Stack.{IsStack, bytesOf, topByte, pushed, popped, pushedAll, poppedAll, lowFirst, handedOut}
 use Rattle.stack.proofs.Moves.{pushes-lay, pops-read}
-use Rattle.codes.specs.declared.Command.{Command}
-use Rattle.codes.specs.declared.Kind.the-variants.{Known}
+use Rattle.codes.specs.Command.{Command}
+use Rattle.codes.specs.Command.{Known}
 use Rattle.codes.specs.Codes.{decoded}
-use Rattle.chip.specs.declared.State.{State}
-use Rattle.chip.specs.declared.Answer.{Answer}
+use Rattle.chip.specs.State.{State}
+use Rattle.chip.specs.State.{Answer}
 use Rattle.chip.specs.State.{moved}
 use Rattle.chip.specs.Commands.{outcomeOf}
 use Rattle.chip.specs.Step.{done, pushOf, popOf, commandUnder}

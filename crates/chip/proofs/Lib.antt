@@ -8,5 +8,5 @@ pub mod Accepted
 pub mod InTurn
 pub mod Ready
 pub mod OnTop
-pub mod InPlace
+pub mod Held
 pub mod Events

@@ -11,10 +11,10 @@ use Rattle.float.specs.Convert.{chsf}
 use Rattle.stack.specs.Stack.{bytesOf, zeros}
 use Rattle.stack.proofs.Words.{number-bytes}
 use Rattle.codes.specs.declared.FloatOp.{FloatOp}
-use Rattle.codes.specs.declared.Command.the-variants.{Float, Chsf, Xch}
-use Rattle.codes.specs.declared.Kind.the-variants.{Known}
+use Rattle.codes.specs.Command.{Float, Chsf, Xch}
+use Rattle.codes.specs.Command.{Known}
 use Rattle.codes.specs.Codes.{sr, decoded}
-use Rattle.chip.specs.declared.State.{State}
+use Rattle.chip.specs.State.{State}
 use Rattle.chip.specs.Status.{statusOf}
 use Rattle.chip.specs.Commands.{floatOf, floats}
 use Rattle.chip.specs.Step.{done, carried, commandUnder}

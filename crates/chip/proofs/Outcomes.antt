@@ -24,8 +24,8 @@ use Rattle.stack.specs.Stack.{IsStack, bytesOf, zeros, tos, nos, rotated, overA
 use Rattle.stack.proofs.Words.{tos-lt, nos-lt, length-bytes}
 use Rattle.stack.proofs.Layouts.{two-fit, overA-stack, overZero-stack, replaced-stack, rotated-stack, exchanged-stack, copied-stack, pushedWord-stack, converted-stack, widened-stack, narrowed-stack}
 use Rattle.stack.proofs.Moves.{pops-hand, pops-read}
-use Rattle.codes.specs.declared.Command.{Command}
-use Rattle.codes.specs.declared.Command.the-variants.{Nop, Add, Sub, Mul, Muu, Div, Chs, Float, Chsf, Flt, Fix, Pto, Pop, Xch, Pupi, Sqrt}
+use Rattle.codes.specs.Command.{Command}
+use Rattle.codes.specs.Command.{Nop, Add, Sub, Mul, Muu, Div, Chs, Float, Chsf, Flt, Fix, Pto, Pop, Xch, Pupi, Sqrt}
 use Rattle.chip.specs.State.{CommandOutcome}
 use Rattle.chip.specs.Status.{sign, zeroBits, statusOf, errorOf}
 use Rattle.chip.specs.Commands.{piOf, wordA, wordB, halfOf, ends, keepsA, losesA, changesA, floats, converts, widens, narrows, roots, floatOf, outcomeOf, properOperands}

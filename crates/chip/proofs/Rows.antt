@@ -16,13 +16,10 @@ use Rattle.float.specs.Convert.{flts, fltd, fixs, fixd, chsf}
 use Rattle.float.specs.Root.{sqrt}
 use Rattle.stack.specs.Stack.{tos, overA, overZero, replaced, converted, widened, narrowed}
 use Rattle.codes.specs.declared.FloatOp.{FloatOp}
-use Rattle.codes.specs.declared.Command.{Command}
-use Rattle.codes.specs.declared.Command.the-variants.{Flt, Sqrt}
+use Rattle.codes.specs.Command.{Flt, Sqrt}
 use Rattle.chip.specs.State.{CommandOutcome, left}
-use Rattle.chip.specs.declared.commands.Obeyed.{Obeyed}
 use Rattle.chip.specs.Status.{sign, statusOf}
 use Rattle.chip.specs.Commands.{wordA, wordB, halfOf, ends, moves, keepsA, losesA, changesA, floats, converts, widens, narrows, roots, floatOf, outcomeOf}
-use Rattle.chip.specs.Place.{Obeys}
 use Rattle.chip.proofs.Errors.{float-result}
 
 -- ---- the status from its parts
@@ -122,10 +119,6 @@ nor-other false q e = refl
 
 pub both : (p q : Bool) → p ≡ true → q ≡ true → (p && q) ≡ true
 both p q e f = rw (e, f)
-
--- a row holds of the command that was found to be its own
-pub obeys-as : (rule : Rule) {k l : Command} (before after : List ℕ) (o : Obeyed) → k ≡ l → Obeys rule l before after o → Obeys rule k before after o
-obeys-as rule before after o e = subst (λ (x : Command). Obeys rule x before after o) (sym e)
 
 -- an operation that was found to be its own, on B and A
 pub float-of : (rule : Rule) (b a : ℕ) {op of : FloatOp} {r : Flagged} → b < 4294967296 → proper b ≡ true → op ≡ of → r ≡ floatOf rule of b a → (r ≡ floatOf rule op b a) × (r .error < 16)

@@ -8,9 +8,9 @@ use Rattle.terms.specs.Refusal.{numberOf}
 use Rattle.terms.specs.Settings.{Settings}
 use Rattle.float.specs.declared.Flagged.{Flagged}
 use Rattle.stack.specs.Stack.{bytesOf, lowFirst}
-use Rattle.chip.specs.declared.State.{State}
-use Rattle.chip.specs.declared.Event.{Event}
-use Rattle.chip.specs.declared.Event.the-variants.{Push, Pop, Command, Status, Reset, Acknowledge}
+use Rattle.chip.specs.State.{State}
+use Rattle.chip.specs.Event.{Event}
+use Rattle.chip.specs.Event.{Push, Pop, Command, Status, Reset, Acknowledge}
 use Rattle.chip.specs.State.{busy}
 use Rattle.chip.specs.Status.{errorOf}
 use Rattle.chip.specs.Step.{commandUnder, answerTo}

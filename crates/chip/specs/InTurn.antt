@@ -11,9 +11,9 @@ use Rattle.terms.specs.declared.Rule.{Rule}
 use Rattle.float.specs.Convert.{flts, fltd, fixs, fixd, chsf}
 use Rattle.float.specs.Root.{sqrt}
 use Rattle.stack.specs.Stack.{bytesOf}
-use Rattle.codes.specs.declared.Command.{Command}
-use Rattle.codes.specs.declared.Command.the-variants.{Nop, Add, Sub, Mul, Muu, Div, Chs, Float, Chsf, Flt, Fix, Pto, Pop, Xch, Pupi, Sqrt}
-use Rattle.chip.specs.declared.State.{State}
+use Rattle.codes.specs.Command.{Command}
+use Rattle.codes.specs.Command.{Nop, Add, Sub, Mul, Muu, Div, Chs, Float, Chsf, Flt, Fix, Pto, Pop, Xch, Pupi, Sqrt}
+use Rattle.chip.specs.State.{State}
 use Rattle.chip.specs.Commands.{piOf, wordA, wordB, halfOf, floatOf}
 use Rattle.chip.specs.Step.{pushOf, popOf}
 

@@ -1,8 +1,9 @@
 -- The chip by value: its state, its status, what each command leaves, and what each event answers.
 pub mod State
+pub mod Event
 pub mod Status
 pub mod Commands
 pub mod Step
 pub mod Events
-pub mod Place
+pub mod Held
 pub mod InTurn

@@ -4,10 +4,23 @@ use mathlib.Core.Bool.{Bool, false, not, cond}
 use mathlib.Core.List.{List, _++_}
 use lib.Dec.{leb}
 use lib.ListN.{take}
+use Rattle.terms.specs.declared.Refusal.{Refusal}
 use Rattle.terms.specs.declared.Mode.{Mode}
 use Rattle.terms.specs.declared.Mode.the-variants.{Am9511A, Am9511}
 use Rattle.stack.specs.Stack.{zeros, popped}
-use Rattle.chip.specs.declared.State.{State}
+
+-- the stack's 16 bytes, top first, whether a half word is pending, the status, the service line
+pub record State : Type 0 where
+  pub stack : List ℕ
+  pub pending : Bool
+  pub status : ℕ
+  pub service : Bool
+
+-- what an event answers; the byte is 0 where there is none and in every refusal
+pub record Answer : Type 0 where
+  pub refusal : Refusal
+  pub byte : ℕ
+  pub state : State
 
 -- status bit 7
 abbrev pub busy : State → Bool

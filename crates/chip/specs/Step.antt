@@ -4,17 +4,17 @@ use mathlib.Core.Bool.{Bool, cond}
 use Rattle.terms.specs.declared.Refusal.{Refusal}
 use Rattle.terms.specs.declared.Refusal.the-variants.{Done, UnknownCode, DerivedCode, HalfWord, Improper, BadState}
 use Rattle.stack.specs.Stack.{topByte, pushed, popped}
-use Rattle.codes.specs.declared.Command.{Command}
-use Rattle.codes.specs.declared.Kind.{Kind}
-use Rattle.codes.specs.declared.Kind.the-variants.{Known, Derived, Unknown}
+use Rattle.codes.specs.Command.{Command}
+use Rattle.codes.specs.Command.{Kind}
+use Rattle.codes.specs.Command.{Known, Derived, Unknown}
 use Rattle.codes.specs.Codes.{sr, decoded}
 use Rattle.terms.specs.declared.Mode.{Mode}
 use Rattle.terms.specs.declared.Rule.{Rule}
 use Rattle.terms.specs.Settings.{Settings}
-use Rattle.chip.specs.declared.State.{State}
-use Rattle.chip.specs.declared.Answer.{Answer}
-use Rattle.chip.specs.declared.Event.{Event}
-use Rattle.chip.specs.declared.Event.the-variants.{Push, Pop, Command as CommandEvent, Status, Reset, Acknowledge}
+use Rattle.chip.specs.State.{State}
+use Rattle.chip.specs.State.{Answer}
+use Rattle.chip.specs.Event.{Event}
+use Rattle.chip.specs.Event.{Push, Pop, Command as CommandEvent, Status, Reset, Acknowledge}
 use Rattle.chip.specs.State.{busy, moved, afterReset, acknowledged, settled}
 use Rattle.chip.specs.Commands.{baseRule, outcomeOf, properOperands}
 

@@ -7,9 +7,9 @@ use Rattle.terms.specs.declared.Refusal.{Refusal}
 use Rattle.terms.specs.declared.Refusal.the-variants.{Done, UnknownCode, DerivedCode}
 use Rattle.terms.specs.declared.Width.the-variants.{Single, Double}
 use Rattle.codes.specs.declared.FloatOp.the-variants.{Add as FAdd, Sub as FSub, Mul as FMul, Div as FDiv}
-use Rattle.codes.specs.declared.Command.the-variants.{Nop, Add, Sub, Mul, Muu, Div, Chs, Float, Chsf, Flt, Fix, Pto, Pop, Xch, Pupi, Sqrt}
-use Rattle.codes.specs.declared.Kind.{Kind}
-use Rattle.codes.specs.declared.Kind.the-variants.{Known, Derived, Unknown}
+use Rattle.codes.specs.Command.{Nop, Add, Sub, Mul, Muu, Div, Chs, Float, Chsf, Flt, Fix, Pto, Pop, Xch, Pupi, Sqrt}
+use Rattle.codes.specs.Command.{Kind}
+use Rattle.codes.specs.Command.{Known, Derived, Unknown}
 
 -- bit 7 of a code: the service line after an accepted command
 abbrev pub sr : ℕ → Bool

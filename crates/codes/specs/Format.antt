@@ -5,10 +5,10 @@ use mathlib.Core.List.{List, [], _∷_}
 use lib.Dec.{eqb}
 use Rattle.terms.specs.declared.Width.{Width}
 use Rattle.terms.specs.declared.Width.the-variants.{Single, Double}
-use Rattle.codes.specs.declared.Command.{Command}
-use Rattle.codes.specs.declared.Command.the-variants.{Add, Sub, Mul, Muu, Div, Chs, Pto, Pop, Xch}
-use Rattle.codes.specs.declared.Kind.{Kind}
-use Rattle.codes.specs.declared.Kind.the-variants.{Known, Unknown}
+use Rattle.codes.specs.Command.{Command}
+use Rattle.codes.specs.Command.{Add, Sub, Mul, Muu, Div, Chs, Pto, Pop, Xch}
+use Rattle.codes.specs.Command.{Kind}
+use Rattle.codes.specs.Command.{Known, Unknown}
 
 -- the precision that a bit selects: 16 bits where it is 1, else 32
 abbrev pub widthOf : ℕ → Width

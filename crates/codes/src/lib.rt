@@ -1,10 +1,21 @@
-// The command codes of the Am9511A, decoded by their bits to a kind: a command that
-// carries its width, a derived function, or an unknown code.
+// The command codes of the Am9511A, decoded by their bits to a kind: a command that carries its width, in the groups of
+// the sheet, a derived function, or an unknown code.
 ghost use mathlib.Core.Path.{_≡_};
 ghost use Prim.Native.Nat.{_+_, _%_, _≤_, _<_};
+ghost use Rattle.codes.specs.Command.{kindIn};
 ghost use Rattle.codes.specs.Codes.{sr, decoded};
 ghost use Rattle.codes.specs.Format.{widthOf, fixedCode};
 use terms::Width;
+
+// The fixed-point operations, of 16 bits or of 32: those on B and A, and CHS on A.
+pub enum FixedOp {
+    Add,
+    Sub,
+    Mul,
+    Muu,
+    Div,
+    Chs,
+}
 
 // The four float operations on B and A.
 pub enum FloatOp {
@@ -14,29 +25,24 @@ pub enum FloatOp {
     Div,
 }
 
-// The carried commands. The D and F forms of PTO, POP and XCH do the same and are one case.
-pub enum Command {
+// The moves of words. Their D and F forms do the same and are one case.
+pub enum MoveOp {
+    Pto,
+    Pop,
+    Xch,
+}
+
+// What a code stands for, in the sheet's groups: a command that carries its width, a derived function, or nothing.
+pub enum Kind {
     Nop,
-    Add(Width),
-    Sub(Width),
-    Mul(Width),
-    Muu(Width),
-    Div(Width),
-    Chs(Width),
+    Fixed(FixedOp, Width),
     Float(FloatOp),
     Chsf,
     Flt(Width),
     Fix(Width),
-    Pto(Width),
-    Pop(Width),
-    Xch(Width),
+    Move(MoveOp, Width),
     Pupi,
     Sqrt,
-}
-
-// What a code stands for.
-pub enum Kind {
-    Known(Command),
     Derived,
     Unknown,
 }
@@ -55,38 +61,38 @@ fn width_of(bit: u8) -> Width
 // Operations 17 to 19, in every format: PTO, POP, XCH.
 fn moved(operation: u8, width: Width) -> Kind
     requires { ⌜ (0x17 ≤ operation) × (operation < 0x1a) ⌝ }
-    ensures { λ r. ⌜ r ≡ decoded (fixedCode width operation) ⌝ }
+    ensures { λ r. ⌜ kindIn r ≡ decoded (fixedCode width operation) ⌝ }
 {
     match operation {
-        0x17 => Kind::Known(Command::Pto(width)),
-        0x18 => Kind::Known(Command::Pop(width)),
-        _ => Kind::Known(Command::Xch(width)),
+        0x17 => Kind::Move(MoveOp::Pto, width),
+        0x18 => Kind::Move(MoveOp::Pop, width),
+        _ => Kind::Move(MoveOp::Xch, width),
     }
 }
 
 // Fixed-point operations 0C to 0F by their bits 1 and 0: ADD, SUB, MUL, DIV.
 fn arithmetic(low: u8, width: Width) -> Kind
     requires { ⌜ low < 4 ⌝ }
-    ensures { λ r. ⌜ r ≡ decoded (fixedCode width (0x0c + low)) ⌝ }
+    ensures { λ r. ⌜ kindIn r ≡ decoded (fixedCode width (0x0c + low)) ⌝ }
 {
     let odd = low % 2 == 1;
     if low / 2 == 1 {
         if odd {
-            Kind::Known(Command::Div(width))
+            Kind::Fixed(FixedOp::Div, width)
         } else {
-            Kind::Known(Command::Mul(width))
+            Kind::Fixed(FixedOp::Mul, width)
         }
     } else if odd {
-        Kind::Known(Command::Sub(width))
+        Kind::Fixed(FixedOp::Sub, width)
     } else {
-        Kind::Known(Command::Add(width))
+        Kind::Fixed(FixedOp::Add, width)
     }
 }
 
 // The operations of the fixed-point formats, at the width that bit 6 selects.
 fn fixed(operation: u8, width: Width) -> Kind
     requires { ⌜ operation < 32 ⌝ }
-    ensures { λ r. ⌜ r ≡ decoded (fixedCode width operation) ⌝ }
+    ensures { λ r. ⌜ kindIn r ≡ decoded (fixedCode width operation) ⌝ }
 {
     if operation / 4 == 3 {
         return arithmetic(operation % 4, width);
@@ -98,8 +104,8 @@ fn fixed(operation: u8, width: Width) -> Kind
         return moved(operation, width);
     }
     match operation {
-        0x14 => Kind::Known(Command::Chs(width)),
-        0x16 => Kind::Known(Command::Muu(width)),
+        0x14 => Kind::Fixed(FixedOp::Chs, width),
+        0x16 => Kind::Fixed(FixedOp::Muu, width),
         _ => Kind::Unknown,
     }
 }
@@ -107,27 +113,27 @@ fn fixed(operation: u8, width: Width) -> Kind
 // Float operations 10 to 13 by their bits 1 and 0: FADD, FSUB, FMUL, FDIV.
 fn primary(low: u8) -> Kind
     requires { ⌜ low < 4 ⌝ }
-    ensures { λ r. ⌜ r ≡ decoded (0x10 + low) ⌝ }
+    ensures { λ r. ⌜ kindIn r ≡ decoded (0x10 + low) ⌝ }
 {
     match low {
-        0 => Kind::Known(Command::Float(FloatOp::Add)),
-        1 => Kind::Known(Command::Float(FloatOp::Sub)),
-        2 => Kind::Known(Command::Float(FloatOp::Mul)),
-        _ => Kind::Known(Command::Float(FloatOp::Div)),
+        0 => Kind::Float(FloatOp::Add),
+        1 => Kind::Float(FloatOp::Sub),
+        2 => Kind::Float(FloatOp::Mul),
+        _ => Kind::Float(FloatOp::Div),
     }
 }
 
 // Float operations 00 to 0F: NOP, SQRT, and the derived functions 02 to 0B.
 fn derived(operation: u8) -> Kind
     requires { ⌜ operation < 0x10 ⌝ }
-    ensures { λ r. ⌜ r ≡ decoded operation ⌝ }
+    ensures { λ r. ⌜ kindIn r ≡ decoded operation ⌝ }
 {
     if 0x0c <= operation {
         return Kind::Unknown;
     }
     match operation {
-        0x00 => Kind::Known(Command::Nop),
-        0x01 => Kind::Known(Command::Sqrt),
+        0x00 => Kind::Nop,
+        0x01 => Kind::Sqrt,
         _ => Kind::Derived,
     }
 }
@@ -135,20 +141,20 @@ fn derived(operation: u8) -> Kind
 // Float operations 1C to 1F by their bits 1 and 0: FIX or FLT, and its width.
 fn conversion(low: u8) -> Kind
     requires { ⌜ low < 4 ⌝ }
-    ensures { λ r. ⌜ r ≡ decoded (0x1c + low) ⌝ }
+    ensures { λ r. ⌜ kindIn r ≡ decoded (0x1c + low) ⌝ }
 {
     let width = width_of(low % 2);
     if low / 2 == 1 {
-        Kind::Known(Command::Fix(width))
+        Kind::Fix(width)
     } else {
-        Kind::Known(Command::Flt(width))
+        Kind::Flt(width)
     }
 }
 
 // The operations of the float format.
 fn float(operation: u8) -> Kind
     requires { ⌜ operation < 32 ⌝ }
-    ensures { λ r. ⌜ r ≡ decoded operation ⌝ }
+    ensures { λ r. ⌜ kindIn r ≡ decoded operation ⌝ }
 {
     if operation / 4 == 4 {
         return primary(operation % 4);
@@ -161,7 +167,7 @@ fn float(operation: u8) -> Kind
     }
     if operation < 0x17 {
         if operation == 0x15 {
-            return Kind::Known(Command::Chsf);
+            return Kind::Chsf;
         }
         return Kind::Unknown;
     }
@@ -169,7 +175,7 @@ fn float(operation: u8) -> Kind
         return moved(operation, Width::Double);
     }
     if operation == 0x1a {
-        Kind::Known(Command::Pupi)
+        Kind::Pupi
     } else {
         Kind::Unknown
     }
@@ -178,7 +184,7 @@ fn float(operation: u8) -> Kind
 // What a code stands for, whatever its bit 7: bit 5 is 1 for fixed point, bit 6 then selects the width and is 0 for
 // floats, bits 4 to 0 are the operation.
 pub fn decode(code: u8) -> Kind
-    ensures { λ r. ⌜ r ≡ decoded (code % 128) ⌝ }
+    ensures { λ r. ⌜ kindIn r ≡ decoded (code % 128) ⌝ }
 {
     let operation = code % 32;
     if code / 32 % 2 == 1 {

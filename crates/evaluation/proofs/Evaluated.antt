@@ -14,7 +14,7 @@ use Rattle.stack.specs.Stack.{bytesOf}
 use Rattle.stack.proofs.Words.{length-bytes}
 use Rattle.codes.specs.declared.FloatOp.the-variants.{Add, Sub, Mul, Div}
 use Rattle.codes.specs.Codes.{decoded}
-use Rattle.chip.specs.declared.State.{State}
+use Rattle.chip.specs.State.{State}
 use Rattle.chip.specs.Events.{AtRest}
 use Rattle.memory.specs.declared.Memory.{Memory}
 use Rattle.formula.specs.Formula.{Operator, Plus, Less, Times, Over, Formula, Letter, Constant, Minus, Brackets, Joined, needOf}

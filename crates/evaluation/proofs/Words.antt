@@ -16,12 +16,12 @@ use Rattle.float.specs.Float.{Result}
 use Rattle.float.specs.Convert.{chsf}
 use Rattle.stack.specs.Stack.{bytesOf, zeros, lowFirst}
 use Rattle.codes.specs.declared.FloatOp.{FloatOp}
-use Rattle.codes.specs.declared.Command.the-variants.{Float}
-use Rattle.codes.specs.declared.Kind.the-variants.{Known}
+use Rattle.codes.specs.Command.{Float}
+use Rattle.codes.specs.Command.{Known}
 use Rattle.codes.specs.Codes.{sr, decoded}
-use Rattle.chip.specs.declared.State.{State}
-use Rattle.chip.specs.declared.Answer.{Answer}
-use Rattle.chip.specs.declared.Event.the-variants.{Command}
+use Rattle.chip.specs.State.{State}
+use Rattle.chip.specs.State.{Answer}
+use Rattle.chip.specs.Event.{Command}
 use Rattle.chip.specs.Status.{statusOf}
 use Rattle.chip.specs.Commands.{floatOf}
 use Rattle.chip.specs.Step.{done, commandUnder}

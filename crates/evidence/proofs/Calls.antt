@@ -19,7 +19,7 @@ use Rattle.memory.specs.Memory.{Card}
 use Rattle.records.specs.Run.{runOf as coreRun}
 use Rattle.records.proofs.Prefix.{lawful as core-lawful}
 use Rattle.stored.specs.Bytes.{isState as storedState, cardIn, laidOut, reportOf as storedReport}
-use Rattle.pundaliket.proofs.Calling.{good as core-good}
+use Rattle.stored.proofs.Calling.{good as core-good}
 use Rattle.ledger.specs.Ledger as ledger
 use Rattle.sheets.specs.Step.{Held, held, runOf}
 use Rattle.sheets.specs.Calls.{Called, callOf, ranOf}

@@ -15,7 +15,7 @@ use Rattle.files.proofs.Through.{through, tally, up-to-stop, stops-there as run
 use Rattle.files.proofs.Cut.{cut-anywhere}
 use Rattle.stored.specs.Bytes.{cardIn, laidOut}
 use Rattle.stored.proofs.Cards.{card-ready, card-returns}
-use Rattle.pundaliket.specs.Calls.{settingsOf}
+use Rattle.stored.specs.Calls.{settingsOf}
 use Rattle.ledger.specs.Ledger as ledger
 use Rattle.ledger.proofs.Ledgers.{is-long}
 use Rattle.sheets.specs.Step.{Held, held, lineOf, runOf}

@@ -16,8 +16,8 @@ use Rattle.records.specs.Run.{runOf as coreRun}
 use Rattle.records.proofs.Ready.{run-ready}
 use Rattle.stored.specs.Bytes.{isState as storedState, cardIn, laidOut}
 use Rattle.stored.proofs.Cards.{card-ready}
-use Rattle.pundaliket.specs.Calls.{Called as CoreCalled, settingsOf}
-use Rattle.pundaliket.proofs.Calling.{good as core-good}
+use Rattle.stored.specs.Calls.{Called as CoreCalled, settingsOf}
+use Rattle.stored.proofs.Calling.{good as core-good}
 use Rattle.evidence.specs.Bytes.{zeros}
 use Rattle.evidence.specs.Records.{kindOf, isOwnKind, split, recordsOf, joined, struck}
 use Rattle.evidence.specs.History.{Entry, stateAfter, entryAt, historyFrom}

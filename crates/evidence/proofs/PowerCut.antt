@@ -14,12 +14,14 @@ use Rattle.files.proofs.Tests.{either-lt, either-eq}
 use Rattle.files.proofs.Through.{through}
 use Rattle.files.proofs.Cut.{cut-anywhere}
 use Rattle.memory.specs.Memory.{Card}
-use Rattle.records.specs.declared.head.Event.{Event}
-use Rattle.records.specs.declared.head.Event.the-variants.{Push, Pop, Command, Status, Reset, Acknowledge, Recall, Forget}
+use Rattle.records.specs.Record.{Event}
+use Rattle.records.specs.Record.{Push, Pop, Command, Status, Reset, Acknowledge, Recall, Forget}
 use Rattle.records.specs.declared.head.Frame.{Frame}
-use Rattle.records.specs.declared.head.Head.{Head}
-use Rattle.records.specs.declared.head.Head.the-variants.{Whole, Stop}
-use Rattle.records.specs.Record.{exactly, rowUnder, headIn, headUnder, headNumber, frameUnder, answeredOf, turnBy, turnUnder, turnOf}
+use Rattle.records.specs.Record.{Head}
+use Rattle.records.specs.Record.{Whole, Stop}
+use Rattle.records.specs.declared.head.EventKind.{EventKind}
+use Rattle.records.specs.declared.head.EventKind.the-variants.{Push as PushKind, Pop as PopKind, Command as CommandKind, Status as StatusKind, Reset as ResetKind, Acknowledge as AcknowledgeKind, Recall as RecallKind, Forget as ForgetKind, Unknown as UnknownKind}
+use Rattle.records.specs.Record.{exactly, kindNamed, rowBy, rowUnder, headIn, headUnder, headNumber, frameUnder, answeredOf, turnBy, turnUnder, turnOf}
 use Rattle.ledger.specs.Ledger.{isSheets, closedIn, isOpen}
 use Rattle.ledger.proofs.Ledgers.{is-long}
 use Rattle.sheets.specs.Step.{Held, held, lineOf, runOf}
@@ -46,18 +48,21 @@ fine e z = omega arith
 exact : (wanted n : ℕ) (e : Event) → NotSix (exactly wanted n e)
 exact wanted n e = either-eq NotSix n wanted _ _ (λ h. fine e) (λ h. bad)
 
+no-six-by : (most : ℕ) (kind : EventKind) (n first : ℕ) → NotSix (rowBy most kind n first)
+no-six-by most PushKind n first = either-lt NotSix n 1 _ _ (λ h. bad) (λ h. fine (Push n))
+no-six-by most PopKind n first =
+    either-eq NotSix n 1 _ _
+    (λ h. either-lt NotSix first 1 _ _ (λ i. bad) (λ i. either-lt NotSix most first _ _ (λ j. bad) (λ j. fine (Pop first)))) (λ h. bad)
+no-six-by most CommandKind n first = exact 1 n (Command first)
+no-six-by most StatusKind n first = exact 0 n Status
+no-six-by most ResetKind n first = exact 0 n Reset
+no-six-by most AcknowledgeKind n first = exact 0 n Acknowledge
+no-six-by most RecallKind n first = exact 0 n Recall
+no-six-by most ForgetKind n first = exact 0 n Forget
+no-six-by most UnknownKind n first = λ z. omega arith
+
 no-six : (most kind n first : ℕ) → NotSix (rowUnder most kind n first)
-no-six most kind n first =
-    either-eq NotSix kind 1 _ _ (λ k. either-lt NotSix n 1 _ _ (λ h. bad) (λ h. fine (Push n))) (λ a.
-    either-eq NotSix kind 2 _ _
-    (λ k. either-eq NotSix n 1 _ _
-    (λ h. either-lt NotSix first 1 _ _ (λ i. bad) (λ i. either-lt NotSix most first _ _ (λ j. bad) (λ j. fine (Pop first)))) (λ h. bad)) (λ b.
-    either-eq NotSix kind 3 _ _ (λ k. exact 1 n (Command first)) (λ d.
-    either-eq NotSix kind 4 _ _ (λ k. exact 0 n Status) (λ e.
-    either-eq NotSix kind 5 _ _ (λ k. exact 0 n Reset) (λ f.
-    either-eq NotSix kind 6 _ _ (λ k. exact 0 n Acknowledge) (λ g.
-    either-eq NotSix kind 7 _ _ (λ k. exact 0 n Recall) (λ i.
-    either-eq NotSix kind 8 _ _ (λ k. exact 0 n Forget) (λ j z. omega arith))))))))
+no-six most kind n first = no-six-by most (kindNamed kind) n first
 
 -- so it is the frame's
 six-head : (l : List ℕ) → headNumber (headUnder mostPayload l) ≡ 6 → length l < 2 + wordAt l 0

@@ -13,8 +13,8 @@ use borrow.Author.Tests.{eq-eqb, ne-eqb}
 use Rattle.stack.specs.Stack.{Bytes as StackBytes}
 use Rattle.stack.proofs.Words.{bytes-take, bytes-drop}
 use Rattle.terms.specs.Settings.{Settings}
-use Rattle.chip.specs.declared.Event.the-variants.{Command as CommandEvent, Status as StatusEvent, Reset as ResetEvent, Acknowledge as AcknowledgeEvent}
-use Rattle.memory.specs.declared.Event.the-variants.{Chip, Recall as RecallEvent, Forget as ForgetEvent}
+use Rattle.chip.specs.Event.{Command as CommandEvent, Status as StatusEvent, Reset as ResetEvent, Acknowledge as AcknowledgeEvent}
+use Rattle.memory.specs.Event.{Chip, Recall as RecallEvent, Forget as ForgetEvent}
 use Rattle.memory.specs.Memory.{Card}
 use Rattle.memory.proofs.Good.{ReadyCard}
 use Rattle.memory.proofs.Kept.{settings-stay}
@@ -22,8 +22,8 @@ use Rattle.files.specs.Run.{Turned, Outcome, run, runBy, next as nextRun}
 use Rattle.files.proofs.Append.{alone}
 use Rattle.files.proofs.Tests.{either-eq}
 use Rattle.files.proofs.Through.{through}
-use Rattle.records.specs.declared.head.Event.{Event}
-use Rattle.records.specs.declared.head.Event.the-variants.{Push, Pop, Command, Status, Reset, Acknowledge, Recall, Forget}
+use Rattle.records.specs.Record.{Event}
+use Rattle.records.specs.Record.{Push, Pop, Command, Status, Reset, Acknowledge, Recall, Forget}
 use Rattle.records.specs.Record.{payloadOf as payloadIn, answerOf, turnOf}
 use Rattle.records.proofs.Steps.{steps}
 use Rattle.records.proofs.Prefix.{lawful as core-lawful}
@@ -31,7 +31,7 @@ use Rattle.records.proofs.Ready.{run-ready}
 use Rattle.stored.specs.Bytes.{isState as storedState, cardIn, laidOut}
 use Rattle.stored.proofs.States.{state-sized}
 use Rattle.stored.proofs.Cards.{laid-is, laid-length, card-returns, behind}
-use Rattle.pundaliket.specs.Calls.{settingsOf}
+use Rattle.stored.specs.Calls.{settingsOf}
 use Rattle.ledger.specs.Ledger as ledger
 use Rattle.ledger.proofs.Ledgers.{good as good-sheets, is-long}
 use Rattle.sheets.specs.Step.{Held, lineOf, runOf}

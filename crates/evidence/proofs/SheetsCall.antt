@@ -10,7 +10,7 @@ use Rattle.stack.specs.Stack.{Bytes as StackBytes}
 use Rattle.stored.specs.Bytes.{isState as storedState, cardIn, reportOf as storedReport}
 use Rattle.stored.proofs.States.{state-sized}
 use Rattle.stored.proofs.Cards.{card-ready}
-use Rattle.pundaliket.specs.Calls.{settingsOf}
+use Rattle.stored.specs.Calls.{settingsOf}
 use Rattle.ledger.specs.Ledger as ledger
 use Rattle.sheets.specs.Step.{held, runOf}
 use Rattle.sheets.specs.Calls.{callOf, ranOf}

@@ -22,16 +22,18 @@ use Rattle.files.specs.Run.{Turned, Outcome, idle}
 use Rattle.files.proofs.Append.{alone, first-stops}
 use Rattle.files.proofs.Tests.{either-lt, either-eq}
 use Rattle.files.proofs.Through.{Tally, tally}
-use Rattle.records.specs.declared.head.Head.{Head}
-use Rattle.records.specs.declared.head.Head.the-variants.{Whole, Stop}
-use Rattle.records.specs.Record.{payloadOf as payloadIn, answeredOf, answerOf, worked, rowUnder, headUnder, turnBy, turnUnder, turnOf, stopped as stoppedAt}
+use Rattle.records.specs.declared.head.EventKind.{EventKind}
+use Rattle.records.specs.declared.head.EventKind.the-variants.{Push as PushKind, Pop as PopKind, Command as CommandKind, Status as StatusKind, Reset as ResetKind, Acknowledge as AcknowledgeKind, Recall as RecallKind, Forget as ForgetKind, Unknown as UnknownKind}
+use Rattle.records.specs.Record.{Head}
+use Rattle.records.specs.Record.{Whole, Stop}
+use Rattle.records.specs.Record.{payloadOf as payloadIn, answeredOf, answerOf, worked, kindNamed, rowBy, rowUnder, headUnder, turnBy, turnUnder, turnOf, stopped as stoppedAt}
 use Rattle.records.specs.Run.{runOf as coreRun}
 use Rattle.records.proofs.Heads.{short, low, high, cut, whole}
 use Rattle.records.proofs.Prefix.{lawful as core-lawful}
 use Rattle.stored.specs.Bytes.{cardIn, laidOut}
 use Rattle.stored.proofs.Cards.{laid-is, laid-at, laid-length, card-long, laid-state, flag-read}
-use Rattle.pundaliket.specs.Calls.{ranOf as coreRan, settingsOf, callOf as coreCallOf}
-use Rattle.pundaliket.proofs.Calling.{good as core-good}
+use Rattle.stored.specs.Calls.{ranOf as coreRan, settingsOf, callOf as coreCallOf}
+use Rattle.stored.proofs.Calling.{good as core-good}
 use Rattle.ledger.specs.declared.Refusal.the-variants.{StillOpen, NoneOpen, NoSuchSlot, HalfPending, SlotEmpty, ListFull}
 use Rattle.ledger.specs.Ledger as ledger
 use Rattle.ledger.specs.Entering as entering
@@ -88,8 +90,19 @@ frame-stops c l room =
 -- ---- a record of the core, alone
 
 -- a record's row does not look past its own bytes
+kind-alone : (most : ℕ) (k : EventKind) (first other : ℕ) → rowBy most k 0 first ≡ rowBy most k 0 other
+kind-alone most PushKind first other = refl
+kind-alone most PopKind first other = refl
+kind-alone most CommandKind first other = refl
+kind-alone most StatusKind first other = refl
+kind-alone most ResetKind first other = refl
+kind-alone most AcknowledgeKind first other = refl
+kind-alone most RecallKind first other = refl
+kind-alone most ForgetKind first other = refl
+kind-alone most UnknownKind first other = refl
+
 row-alone : (most kind n first other : ℕ) → (0 < n → first ≡ other) → rowUnder most kind n first ≡ rowUnder most kind n other
-row-alone most kind zero first other e = refl
+row-alone most kind zero first other e = kind-alone most (kindNamed kind) first other
 row-alone most kind (suc n) first other e = ap (rowUnder most kind (suc n)) (e (omega arith))
 
 pub word-front : (n : ℕ) (l : List ℕ) (i : ℕ) → i + 1 < n → wordAt (take n l) i ≡ wordAt l i

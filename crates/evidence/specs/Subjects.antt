@@ -2,7 +2,7 @@
 -- `./sheets`. Nothing else stands in the book but the kit's whole numbers and lists. Definitions only. Assumes nothing.
 use Prim.Native.Nat.{ℕ}
 use mathlib.Core.List.{List}
-use Rattle.pundaliket.specs.Calls.{Called as CoreCalled, callOf as coreCallOf}
+use Rattle.stored.specs.Calls.{Called as CoreCalled, callOf as coreCallOf}
 use Rattle.sheets.specs.Calls.{Called, Calls, callOf}
 use Rattle.figures.specs.Telling.{Told, Tells, figuresOf}
 use Rattle.sheetprint.specs.Printout.{printoutUnder}

@@ -75,7 +75,7 @@ four-bytes : (l : List ℕ) (i : ℕ) → i + 4 ≤ length l → take 4 (drop i 
 four-bytes l i h =
     rw (next l i (i + 1) (omega arith) refl, next l (i + 1) (i + 2) (omega arith) (omega arith), next l (i + 2) (i + 3) (omega arith) (omega arith), next l (i + 3) (i + 4) (omega arith) (omega arith))
 
-same-bytes : (a b c d : ℕ) → a < 256 → b < 256 → c < 256 → d < 256 → le4 (a + b * 256 + c * 65536 + d * 16777216) ≡ a ∷ b ∷ c ∷ d ∷ []
+pub same-bytes : (a b c d : ℕ) → a < 256 → b < 256 → c < 256 → d < 256 → le4 (a + b * 256 + c * 65536 + d * 16777216) ≡ a ∷ b ∷ c ∷ d ∷ []
 same-bytes a b c d A B C D =
     let n = a + b * 256 + c * 65536 + d * 16777216 in
     let n₁ : n / 256 ≡ b + c * 256 + d * 65536 = omega arith in
@@ -104,7 +104,7 @@ eight-lt l i b = joined-lt (fourAt l i) (fourAt l (i + 4)) (four-lt l i b) (four
     joined-lt : (x y : ℕ) → x < 4294967296 → y < 4294967296 → x + y * 4294967296 < 2 ^ 64
     joined-lt x y p q = omega arith
 
-le8-joined : (x y : ℕ) → x < 4294967296 → le8 (x + y * 4294967296) ≡ le4 x ++ le4 y
+pub le8-joined : (x y : ℕ) → x < 4294967296 → le8 (x + y * 4294967296) ≡ le4 x ++ le4 y
 le8-joined x y h =
     let n = x + y * 4294967296 in
     let x₀ : n % 256 ≡ x % 256 = omega arith in

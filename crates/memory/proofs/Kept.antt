@@ -1,24 +1,26 @@
 -- What events keep: the chip goes its way whatever is remembered, and a refused event leaves the card as it came. Assumes nothing.
-use mathlib.Core.Path.{_≡_, refl, sym, ap, subst, _∙_}
+use mathlib.Core.Path.{_≡_, refl, sym, ap, ap₂, subst, _∙_}
 use mathlib.Core.Logic.{⊎-elim}
 use mathlib.Core.Bool.{Bool, true, false, cond}
 use mathlib.Core.List.{List, [], _∷_, map}
-use Prim.Native.Nat.{ℕ}
-use borrow.Author.Tests.{ne-eqb}
+use Prim.Native.Nat.{ℕ, _/_, _%_}
+use borrow.Author.Tests.{ne-eqb, eqb-true}
+use lib.Bits.{or-zero-r}
+use lib.Dec.{eqb}
 use Rattle.terms.specs.declared.Refusal.the-variants.{Done, BadState}
 use Rattle.terms.specs.Refusal.{numberOf}
 use Rattle.terms.specs.Settings.{Settings}
-use Rattle.chip.specs.declared.State.{State}
-use Rattle.chip.specs.declared.Event.{Event as ChipEvent}
-use Rattle.chip.specs.declared.Event.the-variants.{Push, Pop, Command, Status, Reset, Acknowledge}
+use Rattle.chip.specs.State.{State}
+use Rattle.chip.specs.Event.{Event as ChipEvent}
+use Rattle.chip.specs.Event.{Push, Pop, Command, Status, Reset, Acknowledge}
 use Rattle.chip.specs.State.{busy}
 use Rattle.chip.specs.Step.{answerTo}
 use Rattle.chip.specs.Events.{afterEvents}
 use Rattle.chip.proofs.Kept.{event-keeps}
 use Rattle.memory.specs.declared.Memory.{Memory}
-use Rattle.memory.specs.declared.Event.{Event}
-use Rattle.memory.specs.declared.Event.the-variants.{Chip, Recall, Forget}
-use Rattle.memory.specs.Memory.{emptyMemory, Card, CardAnswer, cardWith, keptBy, around, unlessBusy, eventIn}
+use Rattle.memory.specs.Event.{Event}
+use Rattle.memory.specs.Event.{Chip, Recall, Forget}
+use Rattle.memory.specs.Memory.{emptyMemory, Card, CardAnswer, cardWith, remembered, keptBy, around, unlessBusy, eventIn}
 use Rattle.memory.specs.History.{afterAll}
 
 -- whether 13 turns it away or not
@@ -106,3 +108,12 @@ event-keeps-card c Forget z =
 
 pub refused-leaves : (c : Card) (e : Event) → (numberOf (eventIn c e .refusal) ≡ 0 → ⊥) → eventIn c e .card ≡ c
 refused-leaves c e z = ap (λ (a : CardAnswer). a .card) (event-keeps-card c e z)
+
+-- ---- a command that left no error bit leaves what is remembered
+stood-or-none : (n : ℕ) (b : Bool) → eqb n 0 ≡ b → n ≡ cond b 0 n
+stood-or-none n true e = eqb-true n 0 e
+stood-or-none n false e = refl
+
+pub none-left : (m : Memory) (code status : ℕ) → status / 2 % 16 ≡ 0 → m ≡ remembered m code status
+none-left m code status h =
+    rw h (ap₂ (λ (x y : ℕ). record { bits = x; code = y }) (sym (or-zero-r (m .bits))) (stood-or-none (m .code) (eqb (m .code) 0) refl))

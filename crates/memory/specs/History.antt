@@ -4,14 +4,14 @@ use mathlib.Core.Bool.{cond}
 use mathlib.Core.List.{List, [], _∷_, _++_}
 use lib.Bits.{bitOr}
 use lib.Dec.{eqb}
-use Rattle.chip.specs.declared.Answer.{Answer}
-use Rattle.chip.specs.declared.Event.{Event as ChipEvent}
-use Rattle.chip.specs.declared.Event.the-variants.{Push, Pop, Command, Status, Reset, Acknowledge}
+use Rattle.chip.specs.State.{Answer}
+use Rattle.chip.specs.Event.{Event as ChipEvent}
+use Rattle.chip.specs.Event.{Push, Pop, Command, Status, Reset, Acknowledge}
 use Rattle.chip.specs.State.{busy}
 use Rattle.chip.specs.Step.{answerTo}
 use Rattle.memory.specs.declared.Memory.{Memory}
-use Rattle.memory.specs.declared.Event.{Event}
-use Rattle.memory.specs.declared.Event.the-variants.{Chip, Recall, Forget}
+use Rattle.memory.specs.Event.{Event}
+use Rattle.memory.specs.Event.{Chip, Recall, Forget}
 use Rattle.memory.specs.Memory.{emptyMemory, errorsOf, accepted, Card, eventIn}
 
 -- an accepted command: its code and the status that it left

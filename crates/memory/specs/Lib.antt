@@ -1,4 +1,5 @@
 -- The book of the error memory.
+pub mod Event
 pub mod Memory
 pub mod History
 pub mod Held

@@ -10,7 +10,7 @@ use Rattle.chip.specs.Step.{pushOf, popOf, readOf, carried, commandUnder}
 use Rattle.files.specs.Run.{run, runBy}
 use Rattle.records.specs.Record.{frameUnder, turnUnder}
 use Rattle.stored.specs.Bytes.{isState}
-use Rattle.pundaliket.specs.Calls.{callOf}
+use Rattle.stored.specs.Calls.{callOf}
 use Rattle.listing.specs.Text.{spelled}
 use Rattle.listing.specs.Listing.{hasReply, linesUpTo}
 use Rattle.listing.proofs.Examples.{exampleText}

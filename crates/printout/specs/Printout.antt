@@ -3,7 +3,7 @@ use Prim.Native.Nat.{ℕ}
 use mathlib.Core.List.{List, [], _∷_}
 use lib.ListN.{replicate}
 use Rattle.terms.specs.Limits.{stateBytes, reportBytes}
-use Rattle.pundaliket.specs.Calls.{Called, callOf}
+use Rattle.stored.specs.Calls.{Called, callOf}
 use Rattle.listing.specs.Listing.{newline, replyRoom, printedOf}
 use Rattle.options.specs.declared.Asked.{Asked}
 use Rattle.options.specs.declared.Asked.the-variants.{Under, Nothing}

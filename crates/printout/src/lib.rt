@@ -19,7 +19,7 @@ pub fn print(mode: u32, rule: u32, input: &[u8], text: &mut [u8; TEXT_ROOM]) -> 
     let mut state = [0u8; STATE_BYTES];
     let mut replies = [0u8; REPLY_ROOM];
     let mut report = [0u8; REPORT_BYTES];
-    pundaliket::pundaliket_run(mode, rule, &mut state, input, &mut replies, &mut report);
+    stored::calls::run(mode, rule, &mut state, input, &mut replies, &mut report);
     listing::list(&replies, &report, text)
 }
 

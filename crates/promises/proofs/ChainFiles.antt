@@ -22,8 +22,8 @@ use Rattle.records.proofs.Prefix.{lawful}
 use Rattle.memory.specs.History.{afterAll}
 use Rattle.memory.specs.Memory.{Card}
 use Rattle.stored.specs.Bytes.{isState, cardIn, laidOut}
-use Rattle.pundaliket.specs.Calls.{Called, ranOf, signalOf}
-use Rattle.pundaliket.proofs.Calling.{good}
+use Rattle.stored.specs.Calls.{Called, ranOf, signalOf}
+use Rattle.stored.proofs.Calling.{good}
 use Rattle.promises.specs.Stack.{tos}
 use Rattle.promises.specs.FloatWords.{Le}
 use Rattle.promises.specs.Given.{Given, Chosen, settingsIn, runCall}

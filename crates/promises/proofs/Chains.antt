@@ -22,13 +22,13 @@ use Rattle.float.proofs.SignChange.{chsf-word, chsf-turns}
 use Rattle.stack.specs.Stack.{tos, bytesOf}
 use Rattle.stack.proofs.Words.{number-bytes}
 use Rattle.codes.specs.declared.FloatOp.the-variants.{Add as FAdd, Sub as FSub, Mul as FMul, Div as FDiv}
-use Rattle.codes.specs.declared.Command.the-variants.{Float, Chsf, Xch}
-use Rattle.codes.specs.declared.Kind.{Kind}
-use Rattle.codes.specs.declared.Kind.the-variants.{Known}
+use Rattle.codes.specs.Command.{Float, Chsf, Xch}
+use Rattle.codes.specs.Command.{Kind}
+use Rattle.codes.specs.Command.{Known}
 use Rattle.codes.specs.Codes.{sr, decoded}
 use Rattle.codes.proofs.Counts.{either-way}
-use Rattle.chip.specs.declared.State.{State}
-use Rattle.chip.specs.declared.Event.{Event}
+use Rattle.chip.specs.State.{State}
+use Rattle.chip.specs.Event.{Event}
 use Rattle.chip.specs.Status.{statusOf}
 use Rattle.chip.specs.Commands.{floats}
 use Rattle.chip.specs.Step.{pushOf, carried, commandUnder, under}

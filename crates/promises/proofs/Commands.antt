@@ -36,14 +36,14 @@ use Rattle.float.proofs.Conversions.{fltd-no-error, flts-no-error}
 use Rattle.float.proofs.Fix.{fix-over, fix-within}
 use Rattle.stack.specs.Stack.{bytesOf, zeros, tos, nos, overA, overZero}
 use Rattle.stack.proofs.Words.{tos-over}
-use Rattle.codes.specs.declared.Command.{Command}
-use Rattle.codes.specs.declared.Command.the-variants.{Nop, Add, Sub, Mul, Muu, Div, Chs, Float, Chsf, Flt, Fix, Pto, Pop, Xch, Pupi}
+use Rattle.codes.specs.Command.{Command}
+use Rattle.codes.specs.Command.{Nop, Add, Sub, Mul, Muu, Div, Chs, Float, Chsf, Flt, Fix, Pto, Pop, Xch, Pupi}
 use Rattle.codes.specs.declared.FloatOp.{FloatOp}
 use Rattle.codes.specs.declared.FloatOp.the-variants.{Add as FAdd, Sub as FSub, Mul as FMul, Div as FDiv}
 use Rattle.chip.specs.Status.{statusOf}
 use Rattle.chip.specs.Commands.{baseRule, piOf, wordA, wordB, ends, moves, keepsA, losesA, changesA, floats, converts, widens, narrows, floatOf, outcomeOf, properOperands}
 use Rattle.chip.specs.Step.{done, carried, commandUnder}
-use Rattle.codes.specs.declared.Kind.the-variants.{Known}
+use Rattle.codes.specs.Command.{Known}
 use Rattle.codes.specs.Codes.{decoded}
 use Rattle.promises.proofs.Measures.{theirs-word}
 use Rattle.promises.specs.BusEvents.{piWord}

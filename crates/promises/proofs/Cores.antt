@@ -16,10 +16,10 @@ use Rattle.terms.specs.declared.Refusal.the-variants.{BadState}
 use Rattle.terms.specs.Refusal.{numberOf}
 use Rattle.stack.specs.Stack.{Bytes, numberFrom, bytesOf, pushed}
 use Rattle.stack.proofs.Words.{number-bytes}
-use Rattle.chip.specs.declared.State.{State}
-use Rattle.chip.specs.declared.Answer.{Answer}
-use Rattle.chip.specs.declared.Event.{Event as ChipEvent}
-use Rattle.chip.specs.declared.Event.the-variants.{Push, Pop, Command, Status, Reset, Acknowledge}
+use Rattle.chip.specs.State.{State}
+use Rattle.chip.specs.State.{Answer}
+use Rattle.chip.specs.Event.{Event as ChipEvent}
+use Rattle.chip.specs.Event.{Push, Pop, Command, Status, Reset, Acknowledge}
 use Rattle.chip.specs.State.{busy, moved}
 use Rattle.chip.specs.Status.{errorOf}
 use Rattle.chip.specs.Commands.{baseRule}
@@ -27,8 +27,8 @@ use Rattle.chip.specs.Step.{done, refused, pushOf, commandUnder, answerTo}
 use Rattle.chip.specs.Events.{afterEvents, answered, pushesOf, leavesClear, quiet}
 use Rattle.chip.proofs.Rows.{both-of}
 use Rattle.files.proofs.Tests.{either-eq}
-use Rattle.memory.specs.declared.Event.{Event}
-use Rattle.memory.specs.declared.Event.the-variants.{Chip, Recall, Forget}
+use Rattle.memory.specs.Event.{Event}
+use Rattle.memory.specs.Event.{Chip, Recall, Forget}
 use Rattle.memory.specs.Memory.{emptyMemory, Card, CardAnswer, cardWith, eventIn}
 use Rattle.memory.specs.History.{afterAll}
 use Rattle.memory.proofs.Kept.{settings-stay, chip-alone, event-alike, refused-leaves}
@@ -36,8 +36,8 @@ use Rattle.memory.proofs.Good.{ReadyCard, event-fair, Sendable as Sends}
 use Rattle.stored.specs.Bytes.{isState, stateOf, cardIn, laidOut}
 use Rattle.stored.proofs.Cards.{behind, laid-is, card-returns, card-ready, laid-at, laid-length, card-short, card-long, laid-state, laid-bytes}
 use Rattle.stored.proofs.States.{state-ready}
-use Rattle.pundaliket.specs.Calls.{Signal, signalBy, signalUnder, answerToKind, joinedOf}
-use Rattle.pundaliket.proofs.Calling.{event-chosen}
+use Rattle.stored.specs.Calls.{Signal, signalBy, signalUnder, answerToKind, joinedOf}
+use Rattle.stored.proofs.Calling.{event-chosen}
 use Rattle.promises.proofs.Measures.{ours-state, theirs-state}
 use Rattle.promises.specs.Given.{Given, Chosen, settingsIn, eventCall}
 use Rattle.promises.specs.Chains.{Step, Add, Subtract, Multiply, Divide, TakeFrom, Change, given, eventsOf, commandsIn, chainOf, Constants, wordAfter, Run, Starts, resultOf, Quiet, runEvents}

@@ -16,19 +16,19 @@ use Rattle.terms.specs.declared.Refusal.the-variants.{Done, InputTooLong, BadSt
 use Rattle.terms.specs.Refusal.{numberOf}
 use Rattle.stack.specs.Stack.{Bytes}
 use Rattle.stack.proofs.Words.{bytes-append}
-use Rattle.chip.specs.declared.State.{State}
-use Rattle.chip.specs.declared.Answer.{Answer}
-use Rattle.chip.specs.declared.Event.the-variants.{Push, Pop, Command, Status, Reset, Acknowledge}
+use Rattle.chip.specs.State.{State}
+use Rattle.chip.specs.State.{Answer}
+use Rattle.chip.specs.Event.{Push, Pop, Command, Status, Reset, Acknowledge}
 use Rattle.chip.specs.Step.{pushOf, popOf, resetOf, commandUnder}
 use Rattle.memory.specs.declared.Memory.{Memory}
-use Rattle.memory.specs.declared.Event.{Event}
-use Rattle.memory.specs.declared.Event.the-variants.{Chip, Recall, Forget}
+use Rattle.memory.specs.Event.{Event}
+use Rattle.memory.specs.Event.{Chip, Recall, Forget}
 use Rattle.memory.specs.Memory.{emptyMemory, isMemory, Card, cardWith, CardAnswer, eventIn}
 use Rattle.memory.proofs.Good.{ReadyCard}
 use Rattle.files.proofs.Tests.{either-eq}
 use Rattle.files.proofs.Append.{nothing}
-use Rattle.records.specs.declared.head.Event.{Event as RecordEvent}
-use Rattle.records.specs.declared.head.Event.the-variants.{Push as PushRecord, Pop as PopRecord, Command as CommandRecord, Status as StatusRecord, Reset as ResetRecord, Acknowledge as AcknowledgeRecord, Recall as RecallRecord, Forget as ForgetRecord}
+use Rattle.records.specs.Record.{Event as RecordEvent}
+use Rattle.records.specs.Record.{Push as PushRecord, Pop as PopRecord, Command as CommandRecord, Status as StatusRecord, Reset as ResetRecord, Acknowledge as AcknowledgeRecord, Recall as RecallRecord, Forget as ForgetRecord}
 use Rattle.records.specs.Record.{kindOf, Carried, Holds, before, pushAll, popAll, answerOf}
 use Rattle.records.specs.Run.{Outcome, runOf}
 use Rattle.records.proofs.Prefix.{lawful}
@@ -38,8 +38,8 @@ use Rattle.terms.specs.Limits.{mostPayload}
 use Rattle.stored.specs.Bytes.{isChip, isState, stateOf, memoryIn, cardIn, stateBytesOf, laidOut}
 use Rattle.stored.proofs.States.{short-state, long-state, long-bad, short-memory, long-memory}
 use Rattle.stored.proofs.Cards.{card-returns, card-ready, laid-at}
-use Rattle.pundaliket.specs.Calls.{Called, Signal, Calls, Signals, ranOf, away, callUnder, signalBy, signalUnder, answerToKind, joinedOf}
-use Rattle.pundaliket.proofs.Calling.{run-chosen, event-chosen, good}
+use Rattle.stored.specs.Calls.{Called, Signal, Calls, Signals, ranOf, away, callUnder, signalBy, signalUnder, answerToKind, joinedOf}
+use Rattle.stored.proofs.Calling.{run-chosen, event-chosen, good}
 use Rattle.promises.specs.StateBytes.{IsState}
 use Rattle.promises.specs.Remembered.{History, memoryOf, from, told, tells, afterAll, historyOf}
 use Rattle.promises.proofs.Measures.{theirs-state}

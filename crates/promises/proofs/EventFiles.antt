@@ -14,18 +14,18 @@ use Rattle.terms.specs.Refusal.{numberOf}
 use Rattle.promises.specs.FloatWords.{Le}
 use Rattle.stack.specs.Stack.{Bytes, tos}
 use Rattle.stack.proofs.Words.{byte-at, bytes-append}
-use Rattle.chip.specs.declared.State.{State}
+use Rattle.chip.specs.State.{State}
 use Rattle.terms.specs.Settings.{Settings}
-use Rattle.chip.specs.declared.Answer.{Answer}
-use Rattle.chip.specs.declared.Event.{Event as ChipEvent}
-use Rattle.chip.specs.declared.Event.the-variants.{Push, Pop, Command, Status, Reset, Acknowledge}
+use Rattle.chip.specs.State.{Answer}
+use Rattle.chip.specs.Event.{Event as ChipEvent}
+use Rattle.chip.specs.Event.{Push, Pop, Command, Status, Reset, Acknowledge}
 use Rattle.chip.specs.State.{busy}
 use Rattle.chip.specs.Step.{pushOf, popOf, readOf, acknowledgeOf, commandUnder}
 use Rattle.chip.proofs.InTurn.{pop-done}
 use Rattle.chip.proofs.Rows.{both-of}
 use Rattle.memory.specs.declared.Memory.{Memory}
-use Rattle.memory.specs.declared.Event.{Event}
-use Rattle.memory.specs.declared.Event.the-variants.{Chip, Recall, Forget}
+use Rattle.memory.specs.Event.{Event}
+use Rattle.memory.specs.Event.{Chip, Recall, Forget}
 use Rattle.memory.specs.Memory.{emptyMemory, Card, cardWith, CardAnswer, keptAfter, answerWith, eventIn}
 use Rattle.memory.specs.History.{afterAll}
 use Rattle.memory.proofs.Good.{memory-cases, ReadyCard}
@@ -36,8 +36,8 @@ use Rattle.records.proofs.Prefix.{lawful}
 use Rattle.records.proofs.Single.{reset-is}
 use Rattle.stored.specs.Bytes.{isState, cardIn, laidOut}
 use Rattle.stored.proofs.Cards.{card-returns, card-ready, laid-at}
-use Rattle.pundaliket.specs.Calls.{Called, ranOf, joinedOf}
-use Rattle.pundaliket.proofs.Calling.{good}
+use Rattle.stored.specs.Calls.{Called, ranOf, joinedOf}
+use Rattle.stored.proofs.Calling.{good}
 use Rattle.promises.proofs.Measures.{theirs-state}
 use Rattle.promises.specs.StateBytes.{IsState}
 use Rattle.promises.specs.Given.{Given, Chosen, settingsIn, runCall}

@@ -10,7 +10,7 @@ use Rattle.chip.specs.Status.{statusOf}
 use Rattle.chip.specs.Commands.{keepsA, losesA, changesA, floats, converts, widens, narrows, roots}
 use Rattle.chip.specs.Step.{pushOf, popOf, readOf, resetOf, acknowledgeOf, carried, commandUnder}
 use Rattle.stored.specs.Bytes.{isState}
-use Rattle.pundaliket.specs.Calls.{signalOf}
+use Rattle.stored.specs.Calls.{signalOf}
 use Rattle.promises.specs.EventRows.{EventRows}
 
 pub event-rows : EventRows

@@ -12,10 +12,10 @@ use Rattle.terms.specs.declared.Refusal.the-variants.{NoSuchKind, CutShort, Bad
 use Rattle.terms.specs.Refusal.{numberOf}
 use Rattle.terms.specs.Limits.{mostPayload}
 use Rattle.memory.specs.Memory.{Card}
-use Rattle.records.specs.declared.head.Event.{Event}
-use Rattle.records.specs.declared.head.Event.the-variants.{Push, Pop, Command, Status, Reset, Acknowledge, Recall, Forget}
+use Rattle.records.specs.Record.{Event}
+use Rattle.records.specs.Record.{Push, Pop, Command, Status, Reset, Acknowledge, Recall, Forget}
 use Rattle.records.specs.declared.head.Frame.the-variants.{Broken}
-use Rattle.records.specs.declared.head.Head.the-variants.{Stop}
+use Rattle.records.specs.Record.{Stop}
 use Rattle.little.specs.Little.{wordAt}
 use Rattle.records.specs.Record.{answeredOf, rowUnder, frameUnder, headIn, headOf, Holds, stopped, turnUnder, turnOf}
 use Rattle.files.proofs.Tests.{either-lt, either-eq}

@@ -14,22 +14,22 @@ use Rattle.little.proofs.Exact.{le4-exact}
 use Rattle.terms.specs.Refusal.{numberOf}
 use Rattle.terms.specs.declared.Rule.{Rule}
 use Rattle.terms.specs.Settings.{isMode, isRule}
-use Rattle.chip.specs.declared.State.{State}
-use Rattle.chip.specs.declared.Answer.{Answer}
+use Rattle.chip.specs.State.{State}
+use Rattle.chip.specs.State.{Answer}
 use Rattle.chip.specs.State.{busy}
 use Rattle.chip.specs.Commands.{properOperands}
 use Rattle.chip.specs.Step.{refused, unlessBusy, pushOf, popOf, readOf, resetOf, acknowledgeOf, carried, answerByKind, commandUnder}
-use Rattle.chip.specs.declared.Event.the-variants.{Push, Pop, Command, Status, Reset, Acknowledge}
+use Rattle.chip.specs.Event.{Push, Pop, Command, Status, Reset, Acknowledge}
 use Rattle.chip.proofs.Ready.{picked}
-use Rattle.memory.specs.declared.Event.the-variants.{Chip, Recall, Forget}
+use Rattle.memory.specs.Event.{Chip, Recall, Forget}
 use Rattle.memory.specs.declared.Memory.{Memory}
 use Rattle.memory.specs.Memory.{emptyMemory, Card, CardAnswer, unlessBusy as unlessCardBusy}
 use Rattle.memory.proofs.Good.{ReadyCard, event-fair}
 use Rattle.terms.specs.declared.Refusal.the-variants.{BadState, BadMode, BadRule}
 use Rattle.stack.specs.Stack.{Bytes, topByte}
 use Rattle.stack.proofs.Words.{bytes-take, byte-at}
-use Rattle.codes.specs.declared.Kind.{Kind}
-use Rattle.codes.specs.declared.Kind.the-variants.{Known, Derived, Unknown}
+use Rattle.codes.specs.Command.{Kind}
+use Rattle.codes.specs.Command.{Known, Derived, Unknown}
 use Rattle.codes.specs.Codes.{sr, decoded}
 use Rattle.files.proofs.Tests.{either-lt, either-eq}
 use Rattle.files.proofs.Append.{nothing, appended}
@@ -40,8 +40,10 @@ use Rattle.records.proofs.Prefix.{lawful}
 use Rattle.records.proofs.Ready.{run-ready}
 use Rattle.stored.specs.Bytes.{isState, memoryIn, cardIn, laidOut}
 use Rattle.stored.proofs.Cards.{card-returns, card-ready, laid-length, laid-state}
-use Rattle.pundaliket.specs.Calls.{Called, ranOf, callOf, Signal, signalOf, signalBy, unsent, answerToKind, Sent, sentOf}
-use Rattle.pundaliket.proofs.Calling.{bad-state, too-long, good}
+use Rattle.records.specs.declared.head.EventKind.{EventKind}
+use Rattle.stored.specs.Calls.{Called, ranOf, callOf, Signal, signalOf, signalBy, unsent, answerToKind, answeredBy}
+use Rattle.pundaliket.specs.Calls.{Sent, sentOf}
+use Rattle.stored.proofs.Calling.{bad-state, too-long, good}
 use Rattle.promises.specs.Given.{Given, Chosen, settingsIn, runCall, eventCall}
 use Rattle.promises.specs.StateBytes.{IsState}
 use Rattle.promises.specs.Records.{countAt}
@@ -224,14 +226,14 @@ command-byte rule s code =
 event-byte : (c : Card) (kind byte : ℕ) → topByte (c .chip .stack) < 256 → c .chip .status < 256 → c .memory .bits < 256 → answerToKind c kind byte .byte < 256
 unfolding pushOf popOf readOf resetOf acknowledgeOf
 event-byte c kind byte top status bits =
-    either-eq Small kind 1 _ _ (λ e. ready _ (omega arith)) (λ a.
-    either-eq Small kind 2 _ _ (λ e. ready _ top) (λ b.
-    either-eq Small kind 3 _ _ (λ e. let z = command-byte (c .on .rule) (c .chip) byte in omega arith) (λ d.
-    either-eq Small kind 4 _ _ (λ e. ready _ status) (λ f.
-    either-eq Small kind 5 _ _ (λ e. ready _ (omega arith)) (λ g.
-    either-eq Small kind 6 _ _ (λ e. ready _ (omega arith)) (λ h.
-    either-eq Small kind 7 _ _ (λ e. ready-card _ bits) (λ i.
-    either-eq Small kind 8 _ _ (λ e. ready-card _ (omega arith)) (λ j. omega arith))))))))
+    either-eq (λ (k : EventKind). Small (answeredBy c byte k)) kind 1 _ _ (λ e. ready _ (omega arith)) (λ a.
+    either-eq (λ (k : EventKind). Small (answeredBy c byte k)) kind 2 _ _ (λ e. ready _ top) (λ b.
+    either-eq (λ (k : EventKind). Small (answeredBy c byte k)) kind 3 _ _ (λ e. let z = command-byte (c .on .rule) (c .chip) byte in omega arith) (λ d.
+    either-eq (λ (k : EventKind). Small (answeredBy c byte k)) kind 4 _ _ (λ e. ready _ status) (λ f.
+    either-eq (λ (k : EventKind). Small (answeredBy c byte k)) kind 5 _ _ (λ e. ready _ (omega arith)) (λ g.
+    either-eq (λ (k : EventKind). Small (answeredBy c byte k)) kind 6 _ _ (λ e. ready _ (omega arith)) (λ h.
+    either-eq (λ (k : EventKind). Small (answeredBy c byte k)) kind 7 _ _ (λ e. ready-card _ bits) (λ i.
+    either-eq (λ (k : EventKind). Small (answeredBy c byte k)) kind 8 _ _ (λ e. ready-card _ (omega arith)) (λ j. omega arith))))))))
   where
     Small : CardAnswer → Type 0
     Small a = a .byte < 256
@@ -293,14 +295,14 @@ state-stays g state input replies report h i S =
 -- a single event
 pub event-ready : (c : Card) (kind byte : ℕ) → byte < 256 → ReadyCard c → ReadyCard (answerToKind c kind byte .card)
 event-ready c kind byte h r =
-    either-eq Left kind 1 _ _ (λ e. event-fair c (Chip (Push byte)) r h .left) (λ a.
-    either-eq Left kind 2 _ _ (λ e. event-fair c (Chip Pop) r tt .left) (λ b.
-    either-eq Left kind 3 _ _ (λ e. event-fair c (Chip (Command byte)) r tt .left) (λ d.
-    either-eq Left kind 4 _ _ (λ e. event-fair c (Chip Status) r tt .left) (λ f.
-    either-eq Left kind 5 _ _ (λ e. event-fair c (Chip Reset) r tt .left) (λ g.
-    either-eq Left kind 6 _ _ (λ e. event-fair c (Chip Acknowledge) r tt .left) (λ i.
-    either-eq Left kind 7 _ _ (λ e. event-fair c Recall r tt .left) (λ j.
-    either-eq Left kind 8 _ _ (λ e. event-fair c Forget r tt .left) (λ k. r))))))))
+    either-eq (λ (k : EventKind). Left (answeredBy c byte k)) kind 1 _ _ (λ e. event-fair c (Chip (Push byte)) r h .left) (λ a.
+    either-eq (λ (k : EventKind). Left (answeredBy c byte k)) kind 2 _ _ (λ e. event-fair c (Chip Pop) r tt .left) (λ b.
+    either-eq (λ (k : EventKind). Left (answeredBy c byte k)) kind 3 _ _ (λ e. event-fair c (Chip (Command byte)) r tt .left) (λ d.
+    either-eq (λ (k : EventKind). Left (answeredBy c byte k)) kind 4 _ _ (λ e. event-fair c (Chip Status) r tt .left) (λ f.
+    either-eq (λ (k : EventKind). Left (answeredBy c byte k)) kind 5 _ _ (λ e. event-fair c (Chip Reset) r tt .left) (λ g.
+    either-eq (λ (k : EventKind). Left (answeredBy c byte k)) kind 6 _ _ (λ e. event-fair c (Chip Acknowledge) r tt .left) (λ i.
+    either-eq (λ (k : EventKind). Left (answeredBy c byte k)) kind 7 _ _ (λ e. event-fair c Recall r tt .left) (λ j.
+    either-eq (λ (k : EventKind). Left (answeredBy c byte k)) kind 8 _ _ (λ e. event-fair c Forget r tt .left) (λ k. r))))))))
   where
     Left : CardAnswer → Type 0
     Left a = ReadyCard (a .card)

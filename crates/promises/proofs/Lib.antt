@@ -34,6 +34,7 @@ pub mod Nearest
 pub mod NearBench
 pub mod Undo
 pub mod CloseReadings
+pub mod StepsAsked
 pub mod Serial
 pub mod Doubles
 pub mod DoubleBench

@@ -12,14 +12,14 @@ use lib.ListN.{length, take, drop, getD, replicate, length-replicate}
 use lib.Seq.{take-append-seam}
 use Rattle.terms.specs.Refusal.{numberOf}
 use Rattle.memory.specs.Memory.{Card}
-use Rattle.records.specs.declared.head.Event.{Event}
-use Rattle.records.specs.declared.head.Event.the-variants.{Push, Pop, Command, Status, Reset, Acknowledge, Recall, Forget}
+use Rattle.records.specs.Record.{Event}
+use Rattle.records.specs.Record.{Push, Pop, Command, Status, Reset, Acknowledge, Recall, Forget}
 use Rattle.records.specs.Record.{wordAt, kindOf, answerOf, dataOf, replyOf}
 use Rattle.records.specs.Run.{Outcome, runOf}
 use Rattle.files.proofs.Through.{tally}
 use Rattle.stored.specs.Bytes.{isState}
-use Rattle.pundaliket.specs.Calls.{Called, ranOf}
-use Rattle.pundaliket.proofs.Calling.{too-long, good}
+use Rattle.stored.specs.Calls.{Called, ranOf}
+use Rattle.stored.proofs.Calling.{too-long, good}
 use Rattle.listing.specs.Text.{spelled as their-spelled, decimal as their-decimal}
 use Rattle.promises.specs.PrintedText.{digit, spelled, decimal}
 use Rattle.promises.proofs.PrintedText.{decimal-is}

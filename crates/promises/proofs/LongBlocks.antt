@@ -10,13 +10,13 @@ use lib.Dec.{lit≤}
 use lib.ListN.{length, getD, drop}
 use Rattle.stack.specs.Stack.{poppedAll, handedOut}
 use Rattle.stack.proofs.Round.{once-round, byte-round, last-pushed}
-use Rattle.chip.specs.declared.State.{State}
+use Rattle.chip.specs.State.{State}
 use Rattle.chip.specs.State.{busy}
 use Rattle.chip.specs.Step.{popOf}
 use Rattle.chip.specs.InTurn.{afterPushes, afterPops, bytesPopped}
-use Rattle.chip.specs.Place.{held}
+use Rattle.chip.specs.Held.{held}
 use Rattle.chip.proofs.InTurn.{turned, pushes-state, pops-state, pops-bytes}
-use Rattle.chip.proofs.InPlace.{flips}
+use Rattle.chip.proofs.Held.{flips}
 use Rattle.memory.specs.Memory.{cardWith}
 use Rattle.records.specs.Run.{took, runOf}
 use Rattle.records.proofs.Single.{push-alone, pop-alone}

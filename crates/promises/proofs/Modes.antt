@@ -17,10 +17,10 @@ use Rattle.terms.specs.Refusal.{numberOf}
 use Rattle.terms.specs.Settings.{Settings, ruleOf}
 use Rattle.stack.specs.Stack.{tos, pushed, popped}
 use Rattle.stack.proofs.Elems.{spelled}
-use Rattle.chip.specs.declared.State.{State}
-use Rattle.chip.specs.declared.Answer.{Answer}
-use Rattle.chip.specs.declared.Event.{Event as ChipEvent}
-use Rattle.chip.specs.declared.Event.the-variants.{Push as PushEvent, Pop as PopEvent, Command as CommandEvent, Status as StatusEvent, Reset as ResetEvent}
+use Rattle.chip.specs.State.{State}
+use Rattle.chip.specs.State.{Answer}
+use Rattle.chip.specs.Event.{Event as ChipEvent}
+use Rattle.chip.specs.Event.{Push as PushEvent, Pop as PopEvent, Command as CommandEvent, Status as StatusEvent, Reset as ResetEvent}
 use Rattle.chip.specs.State.{busy, moved, keptStack, afterReset}
 use Rattle.chip.specs.Step.{pushOf, popOf, resetOf, commandUnder}
 use Rattle.chip.specs.Events.{afterEvents}
@@ -28,18 +28,19 @@ use Rattle.chip.proofs.InTurn.{push-done, pop-done}
 use Rattle.memory.specs.declared.Memory.{Memory}
 use Rattle.memory.specs.Memory.{Card, CardAnswer, cardWith, answerWith}
 use Rattle.memory.proofs.Kept.{settings-stay}
-use Rattle.memory.specs.declared.Event.the-variants.{Chip, Recall as RecallEvent, Forget as ForgetEvent}
+use Rattle.memory.specs.Event.{Chip, Recall as RecallEvent, Forget as ForgetEvent}
 use Rattle.files.proofs.Append.{nothing, room-after}
 use Rattle.files.proofs.Tests.{either-eq}
-use Rattle.records.specs.declared.head.Event.{Event}
-use Rattle.records.specs.declared.head.Event.the-variants.{Push, Pop, Command, Status, Reset, Acknowledge, Recall, Forget}
+use Rattle.records.specs.Record.{Event}
+use Rattle.records.specs.Record.{Push, Pop, Command, Status, Reset, Acknowledge, Recall, Forget}
 use Rattle.records.specs.Record.{kindOf, answerOf, replyOf}
 use Rattle.records.specs.Run.{Outcome, took, after, runOf}
 use Rattle.records.proofs.Prefix.{lawful}
 use Rattle.records.proofs.Single.{reset-is}
 use Rattle.stored.specs.Bytes.{isState, stateOf, memoryIn, cardIn}
-use Rattle.pundaliket.specs.Calls.{Called, Signal, ranOf, away, callUnder, signalBy, signalUnder, unsent, answerToKind}
-use Rattle.pundaliket.proofs.Calling.{run-chosen, event-chosen, bad-mode, no-mode}
+use Rattle.records.specs.declared.head.EventKind.{EventKind}
+use Rattle.stored.specs.Calls.{Called, Signal, ranOf, away, callUnder, signalBy, signalUnder, unsent, answerToKind, answeredBy}
+use Rattle.stored.proofs.Calling.{run-chosen, event-chosen, bad-mode, no-mode}
 use Rattle.promises.specs.Given.{Given, Chosen, settingsIn, runCall, eventCall}
 use Rattle.promises.specs.RecordFiles.{IsRecord}
 use Rattle.promises.proofs.RecordFiles.{theirs-record}
@@ -231,14 +232,17 @@ module _ (by : Settings) where
 
   event-told : (c : Card) (kind byte : ℕ) → c .on .rule ≡ by .rule → (kind ≡ 5 → ⊥) → Rereads (answerToKind (over c) kind byte) (answerToKind c kind byte)
   event-told c kind byte q z =
-      rw (ne-eqb kind 5 z)
-      (pick (eqb kind 1) (record { is = refl })
-      (pick (eqb kind 2) (record { is = refl })
-      (pick (eqb kind 3) (record { is = ap (λ (x : Rule). answerWith by (c .memory) (CommandEvent byte) (commandUnder x (c .chip) byte)) (sym q) })
-      (pick (eqb kind 4) (record { is = refl })
-      (pick (eqb kind 6) (record { is = refl })
-      (pick (eqb kind 7) (pick (busy (c .chip)) (record { is = refl }) (record { is = refl }))
-      (pick (eqb kind 8) (pick (busy (c .chip)) (record { is = refl }) (record { is = refl })) (record { is = refl }))))))))
+      either-eq T kind 1 _ _ (λ e. record { is = refl }) (λ a.
+      either-eq T kind 2 _ _ (λ e. record { is = refl }) (λ b.
+      either-eq T kind 3 _ _ (λ e. record { is = ap (λ (x : Rule). answerWith by (c .memory) (CommandEvent byte) (commandUnder x (c .chip) byte)) (sym q) }) (λ d.
+      either-eq T kind 4 _ _ (λ e. record { is = refl }) (λ f.
+      either-eq T kind 5 _ _ (λ e. absurd (z e)) (λ g.
+      either-eq T kind 6 _ _ (λ e. record { is = refl }) (λ h.
+      either-eq T kind 7 _ _ (λ e. pick (busy (c .chip)) (record { is = refl }) (record { is = refl })) (λ i.
+      either-eq T kind 8 _ _ (λ e. pick (busy (c .chip)) (record { is = refl }) (record { is = refl })) (λ j. record { is = refl }))))))))
+    where
+      T : EventKind → Type 0
+      T k = Rereads (answeredBy (over c) byte k) (answeredBy c byte k)
 
 -- ---- the calls
 module _ (g h : Given) (C : Chosen g) (D : Chosen h) (same : g .rule ≡ h .rule) where

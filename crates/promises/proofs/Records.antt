@@ -16,9 +16,9 @@ use Rattle.memory.proofs.Good.{ReadyCard}
 use Rattle.files.proofs.Tests.{either-lt}
 use Rattle.files.proofs.Append.{room-after, first-stops, alone, appended}
 use Rattle.files.proofs.Through.{through, tally}
-use Rattle.records.specs.declared.head.Event.{Event}
-use Rattle.records.specs.declared.head.Head.{Head}
-use Rattle.records.specs.declared.head.Head.the-variants.{Whole, Stop}
+use Rattle.records.specs.Record.{Event}
+use Rattle.records.specs.Record.{Head}
+use Rattle.records.specs.Record.{Whole, Stop}
 use Rattle.records.specs.Record.{kindOf, payloadOf, answeredOf, headOf, answerOf, dataOf, replyOf, stopped, turnOf}
 use Rattle.records.specs.Run.{Outcome, ended, took, after, runOf}
 use Rattle.terms.specs.Limits.{mostPayload}
@@ -28,7 +28,7 @@ use Rattle.records.proofs.Prefix.{holds-too, within, lawful}
 use Rattle.records.proofs.Single.{one-turn, no-turn, stopped-by, push-alone, pop-alone, command-alone, status-alone, reset-alone, acknowledge-alone, recall-alone, forget-alone}
 use Rattle.records.proofs.Ready.{event-fair, run-ready}
 use Rattle.stored.specs.Bytes.{cardIn}
-use Rattle.pundaliket.proofs.Calling.{good}
+use Rattle.stored.proofs.Calling.{good}
 use Rattle.promises.specs.Given.{settingsIn}
 use Rattle.promises.proofs.Measures.{theirs-stack, theirs-memory, theirs-state}
 use Rattle.promises.specs.RecordFiles.{IsRecord}

@@ -4,12 +4,12 @@ use mathlib.Core.Bool.{true, false}
 use Prim.Native.Nat.{ℕ, _%_}
 use Rattle.terms.specs.Refusal.{numberOf}
 use Rattle.terms.specs.Settings.{Settings}
-use Rattle.codes.specs.declared.Command.{Command}
-use Rattle.codes.specs.declared.Kind.the-variants.{Known, Derived, Unknown}
+use Rattle.codes.specs.Command.{Command}
+use Rattle.codes.specs.Command.{Known, Derived, Unknown}
 use Rattle.codes.specs.Codes.{decoded}
-use Rattle.chip.specs.declared.State.{State}
-use Rattle.chip.specs.declared.Event.{Event}
-use Rattle.chip.specs.declared.Event.the-variants.{Push, Pop, Command as CommandEvent, Status, Reset, Acknowledge}
+use Rattle.chip.specs.State.{State}
+use Rattle.chip.specs.Event.{Event}
+use Rattle.chip.specs.Event.{Push, Pop, Command as CommandEvent, Status, Reset, Acknowledge}
 use Rattle.chip.specs.State.{busy}
 use Rattle.chip.specs.Commands.{properOperands}
 use Rattle.chip.specs.Step.{pushOf, popOf, readOf, resetOf, acknowledgeOf, carried, commandUnder, answerTo, under}

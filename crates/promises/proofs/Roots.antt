@@ -18,7 +18,7 @@ use Rattle.float.specs.Root.{sqrt}
 use Rattle.float.proofs.RootCut.{root-negative, root-none}
 use Rattle.float.proofs.RootExact.{one-root, root-exactly, root-no-error, root-result, root-keeps, root-exact}
 use Rattle.stack.specs.Stack.{zeros}
-use Rattle.codes.specs.declared.Command.the-variants.{Sqrt}
+use Rattle.codes.specs.Command.{Sqrt}
 use Rattle.codes.specs.Codes.{decoded}
 use Rattle.chip.specs.Status.{statusOf}
 use Rattle.chip.specs.Commands.{wordA, ends, roots, properOperands}

@@ -4,13 +4,13 @@ use mathlib.Core.Bool.{Bool, true, false, false≢true}
 use Prim.Native.Nat.{ℕ, _%_}
 use Rattle.terms.specs.declared.Rule.{Rule}
 use Rattle.terms.specs.declared.Width.the-variants.{Single, Double}
-use Rattle.codes.specs.declared.Kind.{Kind}
-use Rattle.codes.specs.declared.Kind.the-variants.{Known, Derived, Unknown}
-use Rattle.codes.specs.declared.Command.the-variants.{Nop, Add, Sub, Mul, Muu, Div, Chs, Float, Chsf, Flt, Fix, Pto, Pop, Xch, Pupi, Sqrt}
+use Rattle.codes.specs.Command.{Kind}
+use Rattle.codes.specs.Command.{Known, Derived, Unknown}
+use Rattle.codes.specs.Command.{Nop, Add, Sub, Mul, Muu, Div, Chs, Float, Chsf, Flt, Fix, Pto, Pop, Xch, Pupi, Sqrt}
 use Rattle.codes.specs.Codes.{sr, decoded}
-use Rattle.chip.specs.declared.State.{State}
+use Rattle.chip.specs.State.{State}
 use Rattle.chip.specs.Step.{unlessBusy, carried, answerByKind, commandUnder}
-use Rattle.pundaliket.proofs.Calling.{bad-rule, no-rule}
+use Rattle.stored.proofs.Calling.{bad-rule, no-rule}
 use Rattle.promises.specs.Rules.{NoRule, reads, RuleReaders}
 
 pub no-such-rule : NoRule

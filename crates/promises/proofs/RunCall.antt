@@ -14,8 +14,8 @@ use Rattle.terms.specs.Settings.{Settings, isMode, isRule}
 use Rattle.stack.specs.Stack.{Bytes}
 use Rattle.memory.specs.Memory.{Card, cardWith}
 use Rattle.memory.proofs.Good.{ReadyCard}
-use Rattle.records.specs.declared.head.Head.{Head}
-use Rattle.records.specs.declared.head.Head.the-variants.{Whole, Stop}
+use Rattle.records.specs.Record.{Head}
+use Rattle.records.specs.Record.{Whole, Stop}
 use Rattle.records.specs.Record.{payloadOf, answeredOf, answerOf, worked, headOf, turnBy, turnUnder, turnOf, stopped}
 use Rattle.records.specs.Run.{Outcome, ended, runOf}
 use Rattle.files.specs.Run.{Turned, idle}
@@ -23,8 +23,8 @@ use Rattle.files.proofs.Append.{nothing, first-stops}
 use Rattle.files.proofs.Through.{tally, stops-there}
 use Rattle.stored.specs.Bytes.{isState, cardIn, laidOut}
 use Rattle.stored.proofs.Cards.{laid-is, card-returns, card-ready, card-short, card-long, laid-state}
-use Rattle.pundaliket.specs.Calls.{Called, ranOf, away, callOf}
-use Rattle.pundaliket.proofs.Calling.{good}
+use Rattle.stored.specs.Calls.{Called, ranOf, away, callOf}
+use Rattle.stored.proofs.Calling.{good}
 use Rattle.promises.proofs.Measures.{ours-state, theirs-state}
 use Rattle.promises.specs.Given.{settingsIn, runCall}
 use Rattle.promises.specs.Records.{joined, total, lengths}

@@ -18,7 +18,7 @@ use Rattle.chip.specs.Step.{pushOf, popOf, readOf, resetOf, acknowledgeOf, carr
 use Rattle.files.specs.Run.{run, runBy}
 use Rattle.records.specs.Record.{frameUnder, turnUnder}
 use Rattle.stored.specs.Bytes.{isState}
-use Rattle.pundaliket.specs.Calls.{callOf}
+use Rattle.stored.specs.Calls.{callOf}
 use Rattle.promises.specs.PrintedText.{bytes}
 use Rattle.promises.specs.StateBytes.{IsState}
 use Rattle.promises.specs.Given.{Given}

@@ -23,9 +23,9 @@ use Rattle.float.specs.declared.Flagged.{Flagged}
 use Rattle.float.specs.Word.{mantissa, proper}
 use Rattle.promises.specs.FloatWords.{FloatWord}
 use Rattle.float.specs.Cut.{packed, errorAt, cutSize, cut}
-use Rattle.codes.specs.declared.Command.the-variants.{Mul as MulCommand, Muu as MuuCommand, Div as DivCommand}
+use Rattle.codes.specs.Command.{Mul as MulCommand, Muu as MuuCommand, Div as DivCommand}
 use Rattle.codes.specs.declared.FloatOp.the-variants.{Mul as FMul, Div as FDiv}
-use Rattle.codes.specs.declared.Kind.the-variants.{Known}
+use Rattle.codes.specs.Command.{Known}
 use Rattle.codes.specs.Codes.{decoded}
 use Rattle.serial.specs.declared.Operation.{Operation}
 use Rattle.serial.specs.declared.Operation.the-variants.{Mul, Muu, Div, Fmul, Fdiv}
@@ -54,6 +54,7 @@ use Rattle.promises.proofs.PrintedText.{decimal-is, hex-is}
 use Rattle.promises.specs.Figures.{from}
 use Rattle.promises.specs.Commands.{least, words, word, statusBy, Two}
 use Rattle.promises.specs.Serial.{floatAnswer, firstAnswer, commandFor, Does, ZeroOrFour, SameEngine, mostSteps, Work, eightCodes, StepsText, StepsBench}
+use Rattle.promises.proofs.StepsAsked.{told, not-told}
 use Rattle.promises.proofs.Commands.{accepted, loses, rows}
 
 -- ---- the same answers
@@ -216,6 +217,8 @@ steps-text = record {
   codes = eight;
   chips = coded;
   lines = told-lines;
+  told = told;
+  not-told = not-told;
   smul = refl;
   smuu = refl;
   sdiv = refl;

@@ -12,21 +12,24 @@ use lib.Seq.{take-at, take-append-le, getD-append-add}
 use Rattle.terms.specs.declared.Mode.{Mode}
 use Rattle.terms.specs.declared.Mode.the-variants.{Am9511A, Am9511}
 use Rattle.terms.specs.declared.Rule.{Rule}
-use Rattle.terms.specs.Settings.{Settings, modeOf, ruleOf}
+use Rattle.terms.specs.Settings.{Settings, isMode, modeOf, isRule, ruleOf}
 use Rattle.stack.specs.Stack.{zeros}
-use Rattle.chip.specs.declared.State.{State}
-use Rattle.chip.specs.declared.Event.the-variants.{Reset}
+use Rattle.chip.specs.State.{State}
+use Rattle.chip.specs.Event.{Reset}
 use Rattle.chip.specs.State.{afterReset}
 use Rattle.chip.specs.Step.{done, pushOf, popOf, readOf, resetOf, acknowledgeOf, given}
 use Rattle.memory.specs.declared.Memory.{Memory}
-use Rattle.memory.specs.Memory.{emptyMemory, Card, cardWith, around, answerWith}
+use Rattle.memory.specs.Memory.{emptyMemory, Card, CardAnswer, cardWith, around, answerWith}
 use Rattle.host.specs.declared.Reply.{Reply}
-use Rattle.terms.specs.declared.Refusal.the-variants.{Done}
+use Rattle.terms.specs.declared.Refusal.the-variants.{Done, BadState, BadMode, BadRule}
 use Rattle.stored.specs.Bytes.{isState, stateOf, memoryIn, cardIn, flagOf, laidOut}
+use Rattle.files.proofs.Tests.{either-eq}
 use Rattle.stored.proofs.States.{short-memory, long-memory}
 use Rattle.stored.proofs.Cards.{flag-back, laid-is}
-use Rattle.pundaliket.specs.Calls.{Signal, signalBy, signalUnder, signalOf, answerToKind, sentOf}
-use Rattle.pundaliket.proofs.Calling.{event-chosen}
+use Rattle.records.specs.declared.head.EventKind.{EventKind}
+use Rattle.stored.specs.Calls.{Signal, settingsOf, signalBy, unsent, signalUnder, signalOf, answerToKind, answeredBy}
+use Rattle.pundaliket.specs.Calls.{sentOf}
+use Rattle.stored.proofs.Calling.{event-chosen}
 use Rattle.promises.proofs.Measures.{theirs-state, no-state-is}
 use Rattle.promises.specs.Given.{Given, Chosen, settingsIn, eventCall}
 use Rattle.promises.specs.Host.{number, outward, inward}
@@ -54,9 +57,25 @@ bad-kind on state kind byte g h =
     )
 
 -- neither a push nor a command
+same-byte : (c : Card) (byte other kind : ℕ) → (kind ≡ 1 → ⊥) → (kind ≡ 3 → ⊥) → answerToKind c kind byte ≡ answerToKind c kind other
+same-byte c byte other kind a b =
+    either-eq T kind 1 _ _ (λ e. absurd (a e)) (λ i.
+    either-eq T kind 2 _ _ (λ e. refl) (λ j.
+    either-eq T kind 3 _ _ (λ e. absurd (b e)) (λ k.
+    either-eq T kind 4 _ _ (λ e. refl) (λ l.
+    either-eq T kind 5 _ _ (λ e. refl) (λ m.
+    either-eq T kind 6 _ _ (λ e. refl) (λ n.
+    either-eq T kind 7 _ _ (λ e. refl) (λ o.
+    either-eq T kind 8 _ _ (λ e. refl) (λ p. refl))))))))
+  where
+    T : EventKind → Type 0
+    T k = answeredBy c byte k ≡ answeredBy c other k
+
 byte-ignored : (g : Given) (state : List ℕ) (kind byte other : ℕ) → (kind ≡ 1 → ⊥) → (kind ≡ 3 → ⊥) → eventCall g state kind byte ≡ eventCall g state kind other
 unfolding signalOf
-byte-ignored g state kind byte other a b = rw (ne-eqb kind 1 a, ne-eqb kind 3 b)
+byte-ignored g state kind byte other a b =
+    ap (λ (x : CardAnswer). cond (isMode (g .mode)) (cond (isRule (g .rule)) (cond (isState state) (signalBy state x) (unsent BadState state)) (unsent BadRule state)) (unsent BadMode state))
+    (same-byte (cardIn (settingsOf (g .mode) (g .rule)) state) byte other kind a b)
 
 -- ---- done
 -- a flag turned is 1 less its byte

@@ -15,7 +15,7 @@ use Rattle.terms.specs.declared.Rule.{Rule}
 use Rattle.terms.specs.declared.Mode.the-variants.{Am9511A}
 use Rattle.stack.specs.Stack.{Bytes, bytesOf, numberFrom}
 use Rattle.stack.proofs.Words.{number-bytes}
-use Rattle.chip.specs.declared.State.{State}
+use Rattle.chip.specs.State.{State}
 use Rattle.chip.specs.State.{resetState}
 use Rattle.chip.specs.Events.{AtRest}
 use Rattle.memory.specs.declared.Memory.{Memory}

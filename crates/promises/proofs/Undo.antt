@@ -18,14 +18,14 @@ use Rattle.stack.specs.Stack.{IsStack, rotated, poppedAll, exchanged}
 use Rattle.stack.proofs.Elems.{elems, spelled}
 use Rattle.stack.proofs.Several.{pops-block}
 use Rattle.stack.proofs.Round.{once-round}
-use Rattle.codes.specs.declared.Command.{Command}
-use Rattle.codes.specs.declared.Command.the-variants.{Pop, Xch}
-use Rattle.codes.specs.declared.Kind.the-variants.{Known}
+use Rattle.codes.specs.Command.{Command}
+use Rattle.codes.specs.Command.{Pop, Xch}
+use Rattle.codes.specs.Command.{Known}
 use Rattle.codes.specs.Codes.{sr, decoded}
-use Rattle.chip.specs.declared.State.{State}
-use Rattle.chip.specs.declared.Answer.{Answer}
-use Rattle.chip.specs.declared.Event.{Event}
-use Rattle.chip.specs.declared.Event.the-variants.{Command as CommandEvent}
+use Rattle.chip.specs.State.{State}
+use Rattle.chip.specs.State.{Answer}
+use Rattle.chip.specs.Event.{Event}
+use Rattle.chip.specs.Event.{Command as CommandEvent}
 use Rattle.chip.specs.State.{settled}
 use Rattle.chip.specs.Status.{statusOf, errorOf}
 use Rattle.chip.specs.Commands.{outcomeOf, properOperands}
@@ -37,15 +37,14 @@ use Rattle.chip.proofs.Accepted.{accepts}
 use Rattle.chip.proofs.InTurn.{turned as passed, pops-state}
 use Rattle.chip.proofs.OnTop.{idle}
 use Rattle.chip.proofs.Events.{at-rest-lt, at-rest}
-use Rattle.memory.specs.declared.Event.{Event as CardEvent}
-use Rattle.memory.specs.declared.Event.the-variants.{Chip}
+use Rattle.memory.specs.Event.{Event as CardEvent}
+use Rattle.memory.specs.Event.{Chip}
 use Rattle.memory.specs.Memory.{Card, eventIn, keptAfter}
 use Rattle.memory.specs.History.{afterAll}
-use Rattle.memory.proofs.Kept.{chip-alone}
-use Rattle.records.proofs.Turning.{none-left}
+use Rattle.memory.proofs.Kept.{chip-alone, none-left}
 use Rattle.stored.specs.Bytes.{stateOf, cardIn, stateBytesOf, memoryBytesOf, flagOf, laidOut}
 use Rattle.stored.proofs.Cards.{behind, laid-is, laid-at, card-returns, card-ready}
-use Rattle.pundaliket.specs.Calls.{joinedOf}
+use Rattle.stored.specs.Calls.{joinedOf}
 use Rattle.promises.proofs.Measures.{theirs-stack, ours-stack, theirs-rest, ours-rest, theirs-state}
 use Rattle.promises.specs.Chains.{given}
 use Rattle.promises.specs.Given.{Given, Chosen, settingsIn}

@@ -15,12 +15,12 @@ use Rattle.terms.specs.Width.{sizeOf}
 use Rattle.terms.specs.Settings.{Settings}
 use Rattle.stack.specs.Stack.{numberFrom, bytesOf, Bytes, pushed, popped}
 use Rattle.stack.proofs.Words.{bytes-take, bytes-drop, number-below}
-use Rattle.codes.specs.declared.Command.{Command}
-use Rattle.codes.specs.declared.Kind.the-variants.{Known}
+use Rattle.codes.specs.Command.{Command}
+use Rattle.codes.specs.Command.{Known}
 use Rattle.codes.specs.Codes.{decoded}
-use Rattle.chip.specs.declared.State.{State}
-use Rattle.chip.specs.declared.Answer.{Answer}
-use Rattle.chip.specs.declared.Event.{Event}
+use Rattle.chip.specs.State.{State}
+use Rattle.chip.specs.State.{Answer}
+use Rattle.chip.specs.Event.{Event}
 use Rattle.chip.specs.State.{busy, moved}
 use Rattle.chip.specs.Step.{refused, carried, commandUnder, under}
 use Rattle.chip.specs.Events.{afterEvents}

@@ -15,12 +15,13 @@ use Rattle.chip.specs.Step.{pushOf, resetOf}
 use Rattle.chip.proofs.Rows.{both-of}
 use Rattle.host.specs.Host.{hostOf, takenOf}
 use Rattle.files.specs.Run.{run, runBy}
-use Rattle.records.specs.declared.head.Event.the-variants.{Push, Reset}
+use Rattle.records.specs.Record.{Push, Reset}
 use Rattle.records.specs.Record.{frameUnder, turnUnder}
 use Rattle.stored.specs.Bytes.{isState, cardIn}
 use Rattle.records.specs.Run.{runOf}
-use Rattle.pundaliket.specs.Calls.{Called, Calls, Signal, Signals, ranOf, callOf, signalUnder, sentOf}
-use Rattle.pundaliket.proofs.Calling.{bad-state, too-long, good, event-chosen}
+use Rattle.stored.specs.Calls.{Called, Calls, Signal, Signals, ranOf, callOf, signalUnder}
+use Rattle.pundaliket.specs.Calls.{sentOf}
+use Rattle.stored.proofs.Calling.{bad-state, too-long, good, event-chosen}
 use Rattle.promises.proofs.Measures.{ours-state, theirs-state, no-state-is}
 use Rattle.promises.specs.Given.{Given, Chosen, settingsIn, runCall}
 use Rattle.promises.specs.Chains.{Change}

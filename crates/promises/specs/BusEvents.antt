@@ -21,9 +21,9 @@ use Rattle.float.specs.Convert.{flts, fltd, fixs, fixd, chsf}
 use Rattle.float.specs.Root.{sqrt}
 use Rattle.codes.specs.declared.FloatOp.{FloatOp}
 use Rattle.codes.specs.declared.FloatOp.the-variants.{Add as FAdd, Sub as FSub, Mul as FMul, Div as FDiv}
-use Rattle.codes.specs.declared.Command.{Command as Operation}
-use Rattle.codes.specs.declared.Command.the-variants.{Nop, Add, Sub, Mul, Muu, Div, Chs, Float, Chsf, Flt, Fix, Pto}
-use Rattle.codes.specs.declared.Command.the-variants.{Pop as PopWord, Xch, Pupi, Sqrt}
+use Rattle.codes.specs.Command.{Command as Operation}
+use Rattle.codes.specs.Command.{Nop, Add, Sub, Mul, Muu, Div, Chs, Float, Chsf, Flt, Fix, Pto}
+use Rattle.codes.specs.Command.{Pop as PopWord, Xch, Pupi, Sqrt}
 use Rattle.promises.specs.Subjects.{Settings, State, Answer, ChipEvent as Event, Push, Pop, Command, Status}
 use Rattle.promises.specs.Subjects.{Reset, Acknowledge, pushOf, popOf, commandUnder, answerTo}
 use Rattle.promises.specs.Stack.{sizeOf, bitsOf, zeros, bytesOf, lowFirst, tos, nos, popped}

@@ -19,12 +19,12 @@ use Rattle.terms.specs.declared.Rule.{Rule}
 use Rattle.terms.specs.declared.Rule.the-variants.{Cut, Nearest}
 use Rattle.float.specs.Float.{add, sub, mul, div}
 use Rattle.float.specs.Convert.{fltd, flts}
-use Rattle.codes.specs.declared.Command.{Command}
-use Rattle.codes.specs.declared.Command.the-variants.{Nop, Add, Sub, Mul, Muu, Div, Chs, Float, Chsf, Flt, Fix, Pto}
-use Rattle.codes.specs.declared.Command.the-variants.{Pop, Xch, Pupi}
+use Rattle.codes.specs.Command.{Command}
+use Rattle.codes.specs.Command.{Nop, Add, Sub, Mul, Muu, Div, Chs, Float, Chsf, Flt, Fix, Pto}
+use Rattle.codes.specs.Command.{Pop, Xch, Pupi}
 use Rattle.codes.specs.declared.FloatOp.{FloatOp}
 use Rattle.codes.specs.declared.FloatOp.the-variants.{Add as FAdd, Sub as FSub, Mul as FMul, Div as FDiv}
-use Rattle.codes.specs.declared.Kind.the-variants.{Known}
+use Rattle.codes.specs.Command.{Known}
 use Rattle.codes.specs.Codes.{decoded}
 use Rattle.promises.specs.Subjects.{State, commandUnder}
 use Rattle.promises.specs.Stack.{sizeOf, bitsOf, bytesOf, zeros}

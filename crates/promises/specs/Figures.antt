@@ -13,10 +13,10 @@ use Rattle.terms.specs.declared.Refusal.the-variants.{TooSmall, BadState, BadRe
 use Rattle.terms.specs.declared.Refusal.the-variants.{PartEntry}
 use Rattle.terms.specs.declared.Width.the-variants.{Single, Double}
 use Rattle.codes.specs.declared.FloatOp.the-variants.{Add as FAdd, Sub as FSub, Mul as FMul, Div as FDiv}
-use Rattle.codes.specs.declared.Command.the-variants.{Nop, Add, Sub, Mul, Muu, Div, Chs, Float, Chsf, Flt, Fix, Pto}
-use Rattle.codes.specs.declared.Command.the-variants.{Pop, Xch, Pupi, Sqrt}
-use Rattle.codes.specs.declared.Kind.{Kind}
-use Rattle.codes.specs.declared.Kind.the-variants.{Known, Derived, Unknown}
+use Rattle.codes.specs.Command.{Nop, Add, Sub, Mul, Muu, Div, Chs, Float, Chsf, Flt, Fix, Pto}
+use Rattle.codes.specs.Command.{Pop, Xch, Pupi, Sqrt}
+use Rattle.codes.specs.Command.{Kind}
+use Rattle.codes.specs.Command.{Known, Derived, Unknown}
 use Rattle.codes.specs.Codes.{decoded}
 use Rattle.promises.specs.Stack.{sizeOf, bitsOf, bytesOf, lowFirst, tos}
 use Rattle.promises.specs.RefusalNumbers.{numberOf}

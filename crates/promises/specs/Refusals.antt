@@ -5,8 +5,8 @@ use Prim.Native.Nat.{ℕ, _%_}
 use mathlib.Core.Path.{_≡_}
 use mathlib.Core.Bool.{true, false}
 use Rattle.terms.specs.declared.Mode.{Mode}
-use Rattle.codes.specs.declared.Command.{Command}
-use Rattle.codes.specs.declared.Kind.the-variants.{Known, Derived, Unknown}
+use Rattle.codes.specs.Command.{Command}
+use Rattle.codes.specs.Command.{Known, Derived, Unknown}
 use Rattle.codes.specs.Codes.{decoded}
 use Rattle.promises.specs.Subjects.{Settings, State, Answer, ChipEvent as Event, Push, Pop, Status, Reset}
 use Rattle.promises.specs.Subjects.{Acknowledge, commandUnder, answerTo}

@@ -11,8 +11,8 @@ use Rattle.terms.specs.declared.Width.the-variants.{Double}
 use Rattle.terms.specs.declared.Rule.{Rule}
 use Rattle.terms.specs.declared.Rule.the-variants.{Cut}
 use Rattle.float.specs.Root.{sqrt}
-use Rattle.codes.specs.declared.Command.the-variants.{Sqrt}
-use Rattle.codes.specs.declared.Kind.the-variants.{Known}
+use Rattle.codes.specs.Command.{Sqrt}
+use Rattle.codes.specs.Command.{Known}
 use Rattle.codes.specs.Codes.{decoded}
 use Rattle.promises.specs.Stack.{bytesOf, zeros}
 use Rattle.promises.specs.FloatWords.{negative, proper, value, FloatWord, exactProduct, Le}

@@ -16,10 +16,10 @@ use Rattle.fixed.specs.declared.Fixed.{Fixed}
 use Rattle.fixed.specs.Fixed.{mul, muu, div}
 use Rattle.float.specs.declared.Flagged.{Flagged}
 use Rattle.float.specs.Float.{mul as fmul, div as fdiv}
-use Rattle.codes.specs.declared.Command.{Command}
-use Rattle.codes.specs.declared.Command.the-variants.{Mul as MulCommand, Muu as MuuCommand, Div as DivCommand, Float}
+use Rattle.codes.specs.Command.{Command}
+use Rattle.codes.specs.Command.{Mul as MulCommand, Muu as MuuCommand, Div as DivCommand, Float}
 use Rattle.codes.specs.declared.FloatOp.the-variants.{Mul as FMul, Div as FDiv}
-use Rattle.codes.specs.declared.Kind.the-variants.{Known}
+use Rattle.codes.specs.Command.{Known}
 use Rattle.codes.specs.Codes.{decoded}
 use Rattle.serial.specs.declared.Operation.{Operation}
 use Rattle.serial.specs.declared.Operation.the-variants.{Mul, Muu, Div, Fmul, Fdiv}
@@ -32,7 +32,7 @@ use Rattle.workings.specs.Steps.{workingsOf}
 use Rattle.workings.specs.Asked.{operationAt, toldOf}
 use Rattle.promises.specs.Stack.{bitsOf}
 use Rattle.promises.specs.FloatWords.{proper}
-use Rattle.promises.specs.SerialWork.{numberIn, stepsIn, widthOf, Operands, taskOf, Made, linesAfter, answerLine}
+use Rattle.promises.specs.SerialWork.{numberIn, stepsIn, widthOf, Operands, taskOf, Made, linesAfter, answerLine, Asks}
 use Rattle.promises.specs.PrintedText.{written}
 use Rattle.promises.specs.Figures.{from}
 use Rattle.promises.specs.Commands.{least, word, statusBy, Two, Refuses}
@@ -130,6 +130,12 @@ pub record StepsText : Type 0 where
   -- a line for each step, by its number, and then the answer
   pub lines : (op : Operation) (rule : Rule) (b a : ℕ) → Operands op b a
       → workingsOf op rule b a ≡ linesAfter (taskOf op b a) (stepsIn (answerOf op rule b a)) 0 ++ answerLine (widthOf op) (answerOf op rule b a)
+  -- what a call asks for is told, and where it asks for nothing that the program does, `usage`
+  pub told : (words : ℕ) (code b a option : List ℕ) (op : Operation) (rule : Rule) (x y : ℕ) → Asks words code b a option op rule x y
+      → toldOf words code b a option ≡ workingsOf op rule x y
+  pub not-told : (words : ℕ) (code b a option : List ℕ)
+      → ((op : Operation) (rule : Rule) (x y : ℕ) → Asks words code b a option op rule x y → ⊥)
+      → toldOf words code b a option ≡ last "usage"
   -- each code by its text, B before A: 5 x 3, the upper half of -9 x 4, -16384 / 2; the same at 32 bits; -2.5 x 0, 4 /
   -- -2; B and A not proper
   pub smul : steps "6E" "0005" "0003"

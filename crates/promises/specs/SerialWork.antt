@@ -5,8 +5,11 @@ use mathlib.Core.Path.{_≡_}
 use mathlib.Core.Logic.{_↔_}
 use mathlib.Core.Bool.{false, _&&_, _||_, cond}
 use mathlib.Core.List.{List, [], _∷_, _++_}
-use lib.Dec.{leb, eqb}
+use lib.Dec.{leb, ltb, eqb}
+use lib.ListN.{length}
 use lib.Ieee.{size}
+use Rattle.terms.specs.declared.Rule.{Rule}
+use Rattle.terms.specs.declared.Rule.the-variants.{Cut, Nearest}
 use Rattle.terms.specs.declared.Width.{Width}
 use Rattle.terms.specs.declared.Width.the-variants.{Double}
 use Rattle.serial.specs.declared.Operation.{Operation}
@@ -15,6 +18,8 @@ use Rattle.serial.specs.declared.Answer.{Answer}
 use Rattle.serial.specs.declared.Answer.the-variants.{Word, Refused}
 use Rattle.serial.specs.declared.tasks.Task.{Task}
 use Rattle.serial.specs.declared.tasks.Task.the-variants.{Nothing, Multiply, Divide}
+use Rattle.workings.specs.declared.asked.Found.the-variants.{Operation as Named}
+use Rattle.workings.specs.Asked.{operationAt}
 use Rattle.promises.specs.Stack.{sizeOf, bitsOf}
 use Rattle.promises.specs.RefusalNumbers.{numberOf}
 use Rattle.promises.specs.FloatWords.{mantissa, proper}
@@ -110,3 +115,44 @@ answerLine w (Word word error steps) =
     written "word " ++ (hexOf (2 * sizeOf w) word ++ (written " error" ++ ((32 ∷ decimal error)
     ++ (written " status " ++ (hexOf 2 (statusBy w word error false) ++ (10 ∷ []))))))
 answerLine w (Refused refusal) = written "refused" ++ ((32 ∷ decimal (numberOf refusal)) ++ (10 ∷ []))
+
+-- ---- the arguments of ./steps: `CODE B A`, B and A four or eight hex digits, `--nearest` last for the other rule
+-- the value of a hex digit, 0 to 9, A to F or a to f, and 16 for a character that is none
+abbrev pub hexDigit : ℕ → ℕ
+hexDigit c =
+    cond (ltb c 48) 16
+    (cond (ltb c 58) (c - 48)
+    (cond (ltb c 65) 16
+    (cond (ltb c 71) (c - 55)
+    (cond (ltb c 97) 16
+    (cond (ltb c 103) (c - 87) 16)))))
+
+-- every character is one
+abbrev pub AllHex : List ℕ → Type 0
+AllHex [] = Unit
+AllHex (c ∷ cs) = (hexDigit c < 16) × AllHex cs
+
+-- the number that hex digits stand for, the top one first; a is the number of the digits before them
+abbrev pub hexNumber : ℕ → List ℕ → ℕ
+hexNumber a [] = a
+hexNumber a (c ∷ cs) = hexNumber (a * 16 + hexDigit c) cs
+
+-- so many hex digits that stand for a number
+pub record IsHex (digits : ℕ) (text : List ℕ) (n : ℕ) : Type 0 where
+  pub size : length text ≡ digits
+  pub each : AllHex text
+  pub stands : hexNumber 0 text ≡ n
+
+-- the rule of a call of so many words, its own name among them
+pub data Ruled (words : ℕ) (option : List ℕ) : Rule → Type 0 where
+  cut : words ≡ 4 → Ruled words option Cut
+  nearest : words ≡ 5 → option ≡ written "--nearest" → Ruled words option Nearest
+
+-- a call asks for an operation on B and A under a rule
+pub record Asks (words : ℕ) (code b a option : List ℕ) (op : Operation) (rule : Rule) (x y : ℕ) : Type 0 where
+  pub number : ℕ
+  pub code-is : IsHex 2 code number
+  pub names : operationAt number ≡ Named op
+  pub ruled : Ruled words option rule
+  pub b-is : IsHex (2 * sizeOf (widthOf op)) b x
+  pub a-is : IsHex (2 * sizeOf (widthOf op)) a y

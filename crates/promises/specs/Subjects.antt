@@ -5,8 +5,8 @@
 
 -- ---- the seven calls of pundaliket.h: what each returns and leaves in each slice, and the relation that its contract
 -- states
-pub use Rattle.pundaliket.specs.Calls.{Called, Calls, callOf}
-pub use Rattle.pundaliket.specs.Calls.{Signal, Signals, signalOf}
+pub use Rattle.stored.specs.Calls.{Called, Calls, callOf}
+pub use Rattle.stored.specs.Calls.{Signal, Signals, signalOf}
 pub use Rattle.pundaliket.specs.Calls.{Sent, Sends, sentOf}
 pub use Rattle.host.specs.declared.Reply.{Reply}
 pub use Rattle.host.specs.Host.{hostOf, hostReply, takenOf, takenReply}
@@ -18,11 +18,11 @@ pub use Rattle.records.specs.Run.{Outcome, runUnder, runOf}
 pub use Rattle.terms.specs.Settings.{Settings}
 pub use Rattle.memory.specs.declared.Memory.{Memory}
 pub use Rattle.memory.specs.Memory.{Card, eventIn}
-pub use Rattle.memory.specs.declared.Event.{Event}
-pub use Rattle.memory.specs.declared.Event.the-variants.{Chip, Recall, Forget}
+pub use Rattle.memory.specs.Event.{Event}
+pub use Rattle.memory.specs.Event.{Chip, Recall, Forget}
 -- ---- the chip by value: its state, its events, its answers
-pub use Rattle.chip.specs.declared.State.{State}
-pub use Rattle.chip.specs.declared.Answer.{Answer}
-pub use Rattle.chip.specs.declared.Event.{Event as ChipEvent}
-pub use Rattle.chip.specs.declared.Event.the-variants.{Push, Pop, Command, Status, Reset, Acknowledge}
+pub use Rattle.chip.specs.State.{State}
+pub use Rattle.chip.specs.State.{Answer}
+pub use Rattle.chip.specs.Event.{Event as ChipEvent}
+pub use Rattle.chip.specs.Event.{Push, Pop, Command, Status, Reset, Acknowledge}
 pub use Rattle.chip.specs.Step.{pushOf, popOf, commandUnder, answerTo}

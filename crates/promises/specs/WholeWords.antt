@@ -10,8 +10,8 @@ use Rattle.terms.specs.declared.Mode.{Mode}
 use Rattle.terms.specs.declared.Refusal.the-variants.{Done, HalfWord}
 use Rattle.terms.specs.declared.Width.{Width}
 use Rattle.terms.specs.declared.Width.the-variants.{Single, Double}
-use Rattle.codes.specs.declared.Command.{Command}
-use Rattle.codes.specs.declared.Kind.the-variants.{Known}
+use Rattle.codes.specs.Command.{Command}
+use Rattle.codes.specs.Command.{Known}
 use Rattle.codes.specs.Codes.{decoded}
 use Rattle.promises.specs.Subjects.{Settings, State, ChipEvent as Event, Push, Pop, pushOf, popOf, commandUnder}
 use Rattle.promises.specs.Stack.{sizeOf, IsStack, bytesOf, lowFirst, topByte, pushed, popped}

@@ -7,7 +7,8 @@ ghost use Rattle.buffers.specs.Buffers.{wordsTurn, floatsTurn, Turns};
 // Words, four bytes each, to f64s, eight bytes each. Returns the refusal: 18, 8, then 4; `out` is written on 0 alone.
 #[no_mangle]
 pub extern "C" fn pundaliket_words_to_f64(words: &[u8], out: &mut [u8], number: &mut u64) -> u32
-    ensures { λ r. ⌜ Turns (wordsTurn (now (words .entry)) (now (out .entry))) r (now (number .exit)) (now (out .exit)) ⌝ }
+    ensures { λ r. ⌜ Turns (wordsTurn (now (words .entry)) (now (out .entry))) r (now (number .exit))
+        (now (out .exit)) ⌝ }
 {
     let reply = words_to_f64(words, out);
     *number = reply.number as u64;
@@ -22,7 +23,8 @@ pub extern "C" fn pundaliket_f64_to_words(
     out: &mut [u8],
     number: &mut u64,
 ) -> u32
-    ensures { λ r. ⌜ Turns (floatsTurn rule (now (floats .entry)) (now (out .entry))) r (now (number .exit)) (now (out .exit)) ⌝ }
+    ensures { λ r. ⌜ Turns (floatsTurn rule (now (floats .entry)) (now (out .entry))) r (now (number .exit))
+        (now (out .exit)) ⌝ }
 {
     let reply = f64_to_words(rule, floats, out);
     *number = reply.number as u64;

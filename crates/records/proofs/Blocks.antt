@@ -1,4 +1,4 @@
--- A block of bytes pushed or popped at once is its single bytes in turn: on a state that is not busy the stack after all of them, pending turned once for each; a busy state is handed back, and zeros in the place of bytes read. Assumes nothing.
+-- A block of bytes pushed or popped at once is its single bytes in turn: the stack after all of them, pending turned once for each. Assumes nothing.
 use mathlib.Core.Path.{_≡_, refl, sym, ap, ap₂, subst, _∙_}
 use mathlib.Core.Bool.{Bool}
 use mathlib.Core.List.{List, [], _∷_, _++_}
@@ -11,14 +11,14 @@ use lib.Seq.{paste, take-all}
 use Rattle.terms.specs.declared.Refusal.the-variants.{BadState}
 use Rattle.stack.specs.Stack.{zeros, pushed, popped, topByte, pushedAll, poppedAll, handedOut}
 use Rattle.stack.proofs.Words.{length-zeros}
-use Rattle.chip.specs.declared.State.{State}
-use Rattle.chip.specs.declared.Answer.{Answer}
+use Rattle.chip.specs.State.{State}
+use Rattle.chip.specs.State.{Answer}
 use Rattle.chip.specs.State.{moved}
 use Rattle.chip.specs.Step.{done, refused, pushOf, popOf}
 use Rattle.chip.specs.InTurn.{bytesPopped}
-use Rattle.chip.specs.Place.{held, flipped}
+use Rattle.chip.specs.Held.{held, flipped}
 use Rattle.chip.proofs.InTurn.{turned, restacked, push-done, pop-done, pops-bytes}
-use Rattle.chip.proofs.InPlace.{flips}
+use Rattle.chip.proofs.Held.{flips}
 use Rattle.records.specs.Record.{before, pushAll, popAll}
 
 -- as many bytes are handed out as are asked for
@@ -26,7 +26,7 @@ pub length-popped : (n : ℕ) (s : State) → length (bytesPopped n s) ≡ n
 length-popped zero s = refl
 length-popped (suc n) s = ap suc (length-popped n (popOf s .state))
 
--- ---- a state that is not busy
+-- on a state that is not busy
 pushes : (p : List ℕ) (s : State) → s .status < 128 → pushAll (done 0 s) p ≡ done 0 (restacked s (pushedAll (s .stack) p) (length p))
 pushes [] s h = refl
 pushes (b ∷ p) s h = rw (push-done s b h) (pushes p (moved s (pushed (s .stack) b)) h)
@@ -56,42 +56,3 @@ module _ (s : State) (h : s .status < 128) where
             ∙ sym (pops k (before s) h),
         el ∙ ap (λ (l : List ℕ). l ++ drop (suc k) room) b,
       )
-
--- ---- a busy state
-module _ (s : State) (h : 128 ≤ s .status) where
-  push-refused : (b : ℕ) → pushOf s b ≡ refused BadState s
-  unfolding pushOf
-  push-refused b = rw (le-leb 128 (s .status) h)
-
-  pop-refused : popOf s ≡ refused BadState s
-  unfolding popOf
-  pop-refused = rw (le-leb 128 (s .status) h)
-
-  still-pushing : (p : List ℕ) → pushAll (refused BadState s) p ≡ refused BadState s
-  still-pushing [] = refl
-  still-pushing (b ∷ p) = ap (λ (a : Answer). pushAll a p) (push-refused b) ∙ still-pushing p
-
-  still-popping : (n : ℕ) → popAll n (refused BadState s) ≡ refused BadState s
-  still-popping zero = refl
-  still-popping (suc n) = ap (popAll n) pop-refused ∙ still-popping n
-
-  pub block-refused : (p : List ℕ) → 1 ≤ length p → refused BadState s ≡ pushAll (before s) p
-  block-refused [] m = absurd (not-suc-le-zero m)
-  block-refused (b ∷ p) m = sym (ap (λ (a : Answer). pushAll a p) (push-refused b) ∙ still-pushing p)
-
-  pub pops-refused : (n : ℕ) → 1 ≤ n → refused BadState s ≡ popAll n (before s)
-  pops-refused zero m = absurd (not-suc-le-zero m)
-  pops-refused (suc n) m = sym (ap (popAll n) pop-refused ∙ still-popping n)
-
-  pub none-popped : (n : ℕ) → zeros n ≡ bytesPopped n s
-  none-popped zero = refl
-  none-popped (suc n) = ap (λ (l : List ℕ). 0 ∷ l) (none-popped n) ∙ sym (ap (λ (a : Answer). a .byte ∷ bytesPopped n (a .state)) pop-refused)
-
--- ---- zeros laid down
-pub zero-at : (n i : ℕ) → getD (zeros n) i 0 ≡ 0
-zero-at zero i = refl
-zero-at (suc n) zero = refl
-zero-at (suc n) (suc i) = zero-at n i
-
-pub blanked : (n : ℕ) (room : List ℕ) → paste room 0 (zeros n) n ≡ zeros n ++ drop n room
-blanked n room = ap₂ (λ (x y : List ℕ). x ++ y) (take-all n (zeros n) (omega (arith, length-zeros n))) (ap (λ (k : ℕ). drop k room) (zero-add n))

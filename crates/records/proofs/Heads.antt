@@ -10,15 +10,16 @@ use borrow.Author.Tests.{lt-ltb, le-ltb, eq-eqb, ne-eqb}
 use Rattle.terms.specs.declared.Refusal.{Refusal}
 use Rattle.terms.specs.declared.Refusal.the-variants.{NoSuchKind, CutShort, BadLength}
 use Rattle.terms.specs.Refusal.{numberOf}
-use Rattle.terms.specs.Limits.{mostPayload, leastLength}
+use Rattle.terms.specs.Limits.{leastLength}
 use Rattle.files.proofs.Tests.{either-lt, either-eq}
-use Rattle.records.specs.declared.head.Event.{Event}
-use Rattle.records.specs.declared.head.Event.the-variants.{Push, Pop, Command, Status, Reset, Acknowledge, Recall, Forget}
+use Rattle.records.specs.Record.{Event}
+use Rattle.records.specs.Record.{Push, Pop, Command, Status, Reset, Acknowledge, Recall, Forget}
+use Rattle.records.specs.declared.head.EventKind.{EventKind}
 use Rattle.records.specs.declared.head.Frame.{Frame}
 use Rattle.records.specs.declared.head.Frame.the-variants.{Framed, Broken}
-use Rattle.records.specs.declared.head.Head.{Head}
-use Rattle.records.specs.declared.head.Head.the-variants.{Whole, Stop}
-use Rattle.records.specs.Record.{wordAt, kindOf, payloadOf, answeredOf, exactly, pushRow, popRow, rowUnder, frameUnder, headIn, headUnder, headOf, Carried, Asks, Holds}
+use Rattle.records.specs.Record.{Head}
+use Rattle.records.specs.Record.{Whole, Stop}
+use Rattle.records.specs.Record.{wordAt, kindOf, payloadOf, answeredOf, exactly, kindNamed, rowBy, rowUnder, frameUnder, headIn, headUnder, Carried, Holds}
 
 module _ (most : ℕ) (l : List ℕ) where
   -- fewer than two bytes
@@ -54,22 +55,26 @@ module _ (P : Head → Type 0) (stop : (r : Refusal) → Stops r → P (Stop r))
   bad : P (Stop BadLength)
   bad = stop BadLength (lit≤ tt, lit≤ tt)
 
+  -- of the row of a kind
+  abbrev R : EventKind → Type 0
+  R k = P (rowBy most k n first)
+
   exact : (wanted : ℕ) (e : Event) → (n ≡ wanted → P (Whole e)) → P (exactly wanted n e)
   exact wanted e w = either-eq P n wanted _ _ w (λ h. bad)
 
   pub rows : (kind : ℕ) → ((e : Event) → kind ≡ kindOf e → n ≡ payloadOf e → Carried most first e → P (Whole e)) → P (rowUnder most kind n first)
   rows kind w =
-      either-eq P kind 1 _ _ (λ k. either-lt P n 1 _ _ (λ h. bad) (λ h. w (Push n) k refl h)) (λ a.
-      either-eq P kind 2 _ _
+      either-eq R kind 1 _ _ (λ k. either-lt P n 1 _ _ (λ h. bad) (λ h. w (Push n) k refl h)) (λ a.
+      either-eq R kind 2 _ _
       (λ k. either-eq P n 1 _ _
       (λ h. either-lt P first 1 _ _ (λ i. bad) (λ i. either-lt P most first _ _ (λ j. bad) (λ j. w (Pop first) k h (refl, i, j))))
       (λ h. bad)) (λ b.
-      either-eq P kind 3 _ _ (λ k. exact 1 (Command first) (λ h. w (Command first) k h refl)) (λ d.
-      either-eq P kind 4 _ _ (λ k. exact 0 Status (λ h. w Status k h tt)) (λ e.
-      either-eq P kind 5 _ _ (λ k. exact 0 Reset (λ h. w Reset k h tt)) (λ f.
-      either-eq P kind 6 _ _ (λ k. exact 0 Acknowledge (λ h. w Acknowledge k h tt)) (λ g.
-      either-eq P kind 7 _ _ (λ k. exact 0 Recall (λ h. w Recall k h tt)) (λ i.
-      either-eq P kind 8 _ _ (λ k. exact 0 Forget (λ h. w Forget k h tt)) (λ j. stop NoSuchKind (lit≤ tt, lit≤ tt)))))))))
+      either-eq R kind 3 _ _ (λ k. exact 1 (Command first) (λ h. w (Command first) k h refl)) (λ d.
+      either-eq R kind 4 _ _ (λ k. exact 0 Status (λ h. w Status k h tt)) (λ e.
+      either-eq R kind 5 _ _ (λ k. exact 0 Reset (λ h. w Reset k h tt)) (λ f.
+      either-eq R kind 6 _ _ (λ k. exact 0 Acknowledge (λ h. w Acknowledge k h tt)) (λ g.
+      either-eq R kind 7 _ _ (λ k. exact 0 Recall (λ h. w Recall k h tt)) (λ i.
+      either-eq R kind 8 _ _ (λ k. exact 0 Forget (λ h. w Forget k h tt)) (λ j. stop NoSuchKind (lit≤ tt, lit≤ tt)))))))))
 
 -- what a frame says of the file: all bytes of a payload of this size, at most so many, are there
 pub record Fits (most : ℕ) (l : List ℕ) (n : ℕ) : Type 0 where
@@ -128,17 +133,6 @@ few l Acknowledge m h = zero-le
 few l Recall m h = m
 few l Forget m h = zero-le
 
--- at least one byte is pushed or popped
-asks : (most first : ℕ) (e : Event) → Carried most first e → Asks e
-asks most first (Push n) h = h
-asks most first (Pop n) h = h .1
-asks most first (Command code) h = tt
-asks most first Status h = tt
-asks most first Reset h = tt
-asks most first Acknowledge h = tt
-asks most first Recall h = tt
-asks most first Forget h = tt
-
 -- what each frame and each head says of the file
 abbrev Frames : ℕ → List ℕ → Frame → Type 0
 Frames most l (Framed n) = Fits most l n
@@ -152,15 +146,13 @@ Reads most l (Stop r) = Stops r
 pub fits : (most : ℕ) (l : List ℕ) (n : ℕ) → frameUnder most l ≡ Framed n → Fits most l n
 fits most l n h = subst (Frames most l) h (frames (Frames most l) (λ r s. s) l (λ m f. f))
 
+-- a frame that is broken is 6 or 7
+pub frame-stops : (most : ℕ) (l : List ℕ) (r : Refusal) → frameUnder most l ≡ Broken r → Stops r
+frame-stops most l r h = subst (Frames most l) h (frames (Frames most l) (λ q s. s) l (λ m f. f))
+
 -- a head that is an event stands for a whole record of it
 pub holds : (most : ℕ) (l : List ℕ) (e : Event) → headUnder most l ≡ Whole e → Holds most l e
 holds most l e h = subst (Reads most l) h (heads (Reads most l) (λ r s. s) l (λ d p. p))
-
--- what the code needs of it
-pub fine : (l : List ℕ) (e : Event) → headOf l ≡ Whole e → (4 + payloadOf e ≤ length l) × (payloadOf e ≤ mostPayload) × (answeredOf e ≤ mostPayload) × Asks e
-fine l e h =
-    let g : Holds mostPayload l e = holds mostPayload l e h in
-    (g .there, g .small, few l e (lit≤ tt) g, asks mostPayload (getD l 4 0) e (g .carried))
 
 -- a head that is a refusal is 5, 6 or 7
 pub stops : (most : ℕ) (l : List ℕ) (r : Refusal) → headUnder most l ≡ Stop r → Stops r

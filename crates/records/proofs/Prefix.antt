@@ -15,8 +15,8 @@ use Rattle.files.specs.Run.{idle}
 use Rattle.files.specs.Lawful.{Stopping, Lawful}
 use Rattle.files.proofs.Tests.{either-lt}
 use Rattle.files.proofs.Through.{drop-take}
-use Rattle.records.specs.declared.head.Event.{Event}
-use Rattle.records.specs.declared.head.Event.the-variants.{Push, Pop, Command, Status, Reset, Acknowledge, Recall, Forget}
+use Rattle.records.specs.Record.{Event}
+use Rattle.records.specs.Record.{Push, Pop, Command, Status, Reset, Acknowledge, Recall, Forget}
 use Rattle.records.specs.declared.head.Frame.the-variants.{Broken}
 use Rattle.records.specs.Record.{wordAt, payloadOf, answeredOf, frameUnder, Carried, Holds, answerOf, Turned, stopped, worked, turnUnder, turnOf}
 use Rattle.records.proofs.Heads.{short, cut, head-is, few}

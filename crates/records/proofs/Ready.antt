@@ -1,20 +1,23 @@
 -- A run keeps a card whose state 13 does not turn away: every event of a record leaves such a card and answers 0 to 4. Assumes nothing.
+use mathlib.Core.Path.{_≡_, sym, subst}
 use mathlib.Core.List.{List, [], _∷_}
-use Prim.Native.Nat.{ℕ, zero, suc}
+use Prim.Native.Nat.{ℕ, zero, suc, _≤_, _<_, zero-le}
+use borrow.Author.Tests.{lt-leb}
 use lib.Dec.{lit≤}
 use lib.ListN.{take, drop}
 use Rattle.stack.specs.Stack.{Bytes}
 use Rattle.stack.proofs.Words.{bytes-take, bytes-drop}
-use Rattle.chip.specs.declared.Answer.{Answer}
-use Rattle.chip.specs.declared.Event.the-variants.{Command as CommandEvent, Status as StatusEvent, Reset as ResetEvent, Acknowledge as AcknowledgeEvent}
+use Rattle.chip.specs.State.{Answer}
+use Rattle.chip.specs.Event.{Command as CommandEvent, Status as StatusEvent, Reset as ResetEvent, Acknowledge as AcknowledgeEvent}
 use Rattle.chip.specs.Step.{pushOf, popOf}
-use Rattle.chip.proofs.Ready.{Fair, push-fair, pop-fair}
-use Rattle.memory.specs.declared.Event.the-variants.{Chip, Recall as RecallEvent, Forget as ForgetEvent}
+use Rattle.chip.proofs.InTurn.{push-done, pop-done}
+use Rattle.chip.proofs.Ready.{Ready, Fair, push-fair, pop-fair, read-fair, reset-fair, acknowledge-fair, command-fair}
+use Rattle.memory.specs.Event.{Chip, Recall as RecallEvent, Forget as ForgetEvent}
 use Rattle.memory.specs.Memory.{Card, around}
 use Rattle.memory.proofs.Good.{ReadyCard, FairCard, event-fair as card-fair}
 use Rattle.files.proofs.Through.{through}
-use Rattle.records.specs.declared.head.Event.{Event}
-use Rattle.records.specs.declared.head.Event.the-variants.{Push, Pop, Command, Status, Reset, Acknowledge, Recall, Forget}
+use Rattle.records.specs.Record.{Event}
+use Rattle.records.specs.Record.{Push, Pop, Command, Status, Reset, Acknowledge, Recall, Forget}
 use Rattle.records.specs.Record.{payloadOf, before, pushAll, popAll, answerOf, turnOf}
 use Rattle.records.specs.Run.{runOf}
 use Rattle.records.proofs.Steps.{steps}
@@ -43,6 +46,28 @@ event-fair c p Acknowledge r h = card-fair c (Chip AcknowledgeEvent) r tt
 event-fair c p Recall r h = card-fair c RecallEvent r tt
 event-fair c p Forget r h = card-fair c ForgetEvent r tt
 
+-- ---- a card whose state is not busy, whatever it remembers, stays one
+calm-pops : (n : ℕ) (a : Answer) → a .state .status < 128 → popAll n a .state .status < 128
+calm-pops zero a h = h
+calm-pops (suc n) a h = calm-pops n (popOf (a .state)) (subst (λ (x : Answer). x .state .status < 128) (sym (pop-done (a .state) h)) h)
+
+calm-pushes : (p : List ℕ) (a : Answer) → a .state .status < 128 → pushAll a p .state .status < 128
+calm-pushes [] a h = h
+calm-pushes (b ∷ bs) a h = calm-pushes bs (pushOf (a .state) b) (subst (λ (x : Answer). x .state .status < 128) (sym (push-done (a .state) b h)) h)
+
+calm-event : (c : Card) (p : List ℕ) (e : Event) → Ready (c .chip) → answerOf c p e .card .chip .status < 128
+calm-event c p (Push n) r = calm-pushes p (before (c .chip)) (r .ready)
+calm-event c p (Pop n) r = calm-pops n (before (c .chip)) (r .ready)
+calm-event c p (Command code) r = command-fair (c .on .rule) (c .chip) code r .left .ready
+calm-event c p Status r = read-fair (c .chip) r .left .ready
+calm-event c p Reset r = reset-fair (c .chip) r (c .on .mode) .left .ready
+calm-event c p Acknowledge r = acknowledge-fair (c .chip) r .left .ready
+calm-event c p Recall r = rw (lt-leb 128 (c .chip .status) (r .ready)) (r .ready)
+calm-event c p Forget r = rw (lt-leb 128 (c .chip .status) (r .ready)) (r .ready)
+
+pub calm-turn : (c : Card) (l : List ℕ) (room : ℕ) → Ready (c .chip) → turnOf c l room .state .chip .status < 128
+calm-turn c l room r = steps (λ t. t .state .chip .status < 128) c l room (λ q a b. r .ready) (λ e h g. calm-event c (take (payloadOf e) (drop 4 l)) e r)
+
 -- ---- every turn, every run
 turn-ready : (c : Card) (l : List ℕ) (room : ℕ) → ReadyCard c → Bytes l → ReadyCard (turnOf c l room .state)
 turn-ready c l room r h =
@@ -53,3 +78,7 @@ pub run-ready : (c : Card) (l : List ℕ) (room : ℕ) → ReadyCard c → Bytes
 run-ready =
     through lawful (λ c l room o. ReadyCard c → Bytes l → ReadyCard (o .state)) (λ c room r h. r) (λ c l room p z r h. r)
     (λ c l room p z more r h. more (turn-ready c l room r h) (bytes-drop (turnOf c l room .size) l h))
+
+-- ---- a run ends with 0, or with 5 to 8
+pub run-small : (c : Card) (l : List ℕ) (room : ℕ) → runOf c l room .refusal ≤ 8
+run-small = through lawful (λ c l room o. o .refusal ≤ 8) (λ c room. zero-le) (λ c l room p z. lawful .stops c l room z .0 .1) (λ c l room p z more. more)

@@ -15,9 +15,9 @@ use Rattle.terms.specs.declared.Refusal.the-variants.{Done, NoRoom}
 use Rattle.terms.specs.Refusal.{numberOf}
 use Rattle.terms.specs.Settings.{Settings}
 use Rattle.terms.specs.Limits.{mostPayload}
-use Rattle.chip.specs.declared.State.{State}
-use Rattle.chip.specs.declared.Answer.{Answer}
-use Rattle.chip.specs.declared.Event.the-variants.{Command as CommandEvent}
+use Rattle.chip.specs.State.{State}
+use Rattle.chip.specs.State.{Answer}
+use Rattle.chip.specs.Event.{Command as CommandEvent}
 use Rattle.chip.specs.State.{busy, afterReset, acknowledged}
 use Rattle.chip.specs.Step.{done, pushOf, popOf, readOf, resetOf, acknowledgeOf, commandUnder}
 use Rattle.chip.specs.InTurn.{afterPushes, afterPops, bytesPopped}
@@ -25,9 +25,9 @@ use Rattle.chip.proofs.InTurn.{push-done, pop-done}
 use Rattle.memory.specs.declared.Memory.{Memory}
 use Rattle.memory.specs.Memory.{emptyMemory, Card, cardWith, keptAfter}
 use Rattle.files.proofs.Append.{nothing, first-stops, first-taken}
-use Rattle.records.specs.declared.head.Event.{Event}
-use Rattle.records.specs.declared.head.Event.the-variants.{Push, Pop, Command, Status, Reset, Acknowledge, Recall, Forget}
-use Rattle.records.specs.declared.head.Head.the-variants.{Stop}
+use Rattle.records.specs.Record.{Event}
+use Rattle.records.specs.Record.{Push, Pop, Command, Status, Reset, Acknowledge, Recall, Forget}
+use Rattle.records.specs.Record.{Stop}
 use Rattle.records.specs.Record.{kindOf, payloadOf, answeredOf, headOf, Carried, Holds, before, pushAll, popAll, answerOf, dataOf, replyOf, stopped, worked, turnUnder, turnOf}
 use Rattle.records.specs.Run.{ended, took, runOf}
 use Rattle.records.proofs.Heads.{head-is}

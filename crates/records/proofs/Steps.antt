@@ -10,7 +10,7 @@ use Rattle.terms.specs.declared.Refusal.the-variants.{NoRoom}
 use Rattle.terms.specs.Refusal.{numberOf}
 use Rattle.memory.specs.Memory.{Card}
 use Rattle.files.proofs.Tests.{either-lt}
-use Rattle.records.specs.declared.head.Event.{Event}
+use Rattle.records.specs.Record.{Event}
 use Rattle.records.specs.Record.{payloadOf, answeredOf, answerOf, Holds, Turned, stopped, worked, turnBy, turnUnder}
 use Rattle.records.proofs.Heads.{heads}
 

@@ -14,9 +14,11 @@ use Rattle.files.proofs.Append.{onward}
 use Rattle.files.proofs.Alike.{runs-alike, alike-from}
 use Rattle.records.specs.declared.head.Frame.{Frame}
 use Rattle.records.specs.declared.head.Frame.the-variants.{Framed, Broken}
-use Rattle.records.specs.declared.head.Head.{Head}
-use Rattle.records.specs.declared.head.Head.the-variants.{Stop}
-use Rattle.records.specs.Record.{wordAt, rowUnder, frameUnder, headIn, headUnder, turnBy, turnUnder}
+use Rattle.records.specs.declared.head.EventKind.{EventKind}
+use Rattle.records.specs.declared.head.EventKind.the-variants.{Push as PushKind, Pop as PopKind, Command as CommandKind, Status as StatusKind, Reset as ResetKind, Acknowledge as AcknowledgeKind, Recall as RecallKind, Forget as ForgetKind, Unknown as UnknownKind}
+use Rattle.records.specs.Record.{Head}
+use Rattle.records.specs.Record.{Stop}
+use Rattle.records.specs.Record.{wordAt, kindNamed, popRow, rowBy, frameUnder, headIn, headUnder, turnBy, turnUnder}
 use Rattle.records.specs.Run.{runUnder}
 use Rattle.records.proofs.Heads.{short, low, high, cut, whole}
 use Rattle.records.proofs.Prefix.{lawful-under}
@@ -32,20 +34,26 @@ module _ (m k : ℕ) (wider : m ≤ k) where
       (λ e. whole k l a b (omega arith) e ∙ sym (whole m l a b d e)))))
 
   -- a pop's row alone has the limit in it
-  same-row : (kind n first : ℕ) → (rowUnder m kind n first ≡ Stop BadLength → ⊥) → rowUnder k kind n first ≡ rowUnder m kind n first
-  same-row kind n first other =
-      either-eq (λ (x : ℕ). rowUnder k kind n first ≡ rowUnder m kind n first) kind 2 0 0
-      (λ a. either-eq (λ (x : ℕ). rowUnder k kind n first ≡ rowUnder m kind n first) n 1 0 0
-      (λ b. either-lt (λ (x : ℕ). rowUnder k kind n first ≡ rowUnder m kind n first) first 1 0 0
-      (λ d. rw (a, b, lt-ltb first 1 d))
-      (λ d. either-lt (λ (x : ℕ). rowUnder k kind n first ≡ rowUnder m kind n first) m first 0 0
-      (λ e. absurd (other (rw (a, b, le-ltb first 1 d, lt-ltb m first e))))
-      (λ e. rw (a, b, le-ltb first 1 d, le-ltb m first e, le-ltb k first (omega arith)))))
-      (λ b. rw (a, ne-eqb n 1 b)))
-      (λ a. rw (ne-eqb kind 2 a))
+  same-row : (kind : EventKind) (n first : ℕ) → (rowBy m kind n first ≡ Stop BadLength → ⊥) → rowBy k kind n first ≡ rowBy m kind n first
+  same-row PopKind n first other =
+      either-eq (λ (x : ℕ). popRow k n first ≡ popRow m n first) n 1 0 0
+      (λ b. either-lt (λ (x : ℕ). popRow k n first ≡ popRow m n first) first 1 0 0
+      (λ d. rw (b, lt-ltb first 1 d))
+      (λ d. either-lt (λ (x : ℕ). popRow k n first ≡ popRow m n first) m first 0 0
+      (λ e. absurd (other (rw (b, le-ltb first 1 d, lt-ltb m first e))))
+      (λ e. rw (b, le-ltb first 1 d, le-ltb m first e, le-ltb k first (omega arith)))))
+      (λ b. rw (ne-eqb n 1 b))
+  same-row PushKind n first other = refl
+  same-row CommandKind n first other = refl
+  same-row StatusKind n first other = refl
+  same-row ResetKind n first other = refl
+  same-row AcknowledgeKind n first other = refl
+  same-row RecallKind n first other = refl
+  same-row ForgetKind n first other = refl
+  same-row UnknownKind n first other = refl
 
   same-in : (l : List ℕ) (f : Frame) → (headIn m l f ≡ Stop BadLength → ⊥) → headIn k l f ≡ headIn m l f
-  same-in l (Framed n) other = same-row (wordAt l 2) n (getD l 4 0) other
+  same-in l (Framed n) other = same-row (kindNamed (wordAt l 2)) n (getD l 4 0) other
   same-in l (Broken r) other = refl
 
   same-head : (l : List ℕ) → (headUnder m l ≡ Stop BadLength → ⊥) → headUnder k l ≡ headUnder m l

@@ -1,33 +1,51 @@
--- The record step as the code takes it, where the stack lies and the rest of the state stands beside it. These speak of the program, not of document 01. Definitions only. Assumes nothing.
+-- What the program's record step and run say of their definitions. Definitions only. Assumes nothing.
 use Prim.Native.Nat.{ℕ, _+_, _≤_}
+use mathlib.Core.Path.{_≡_}
 use mathlib.Core.List.{List}
-use lib.ListN.{length}
+use lib.ListN.{length, take, drop, getD}
 use Rattle.terms.specs.declared.Refusal.{Refusal}
+use Rattle.terms.specs.declared.Mode.{Mode}
+use Rattle.terms.specs.declared.Rule.{Rule}
 use Rattle.terms.specs.Refusal.{numberOf}
-use Rattle.memory.specs.declared.place.Rest.{Rest}
-use Rattle.memory.specs.Held.{cardOf, settingsAt, cardAt}
-use Rattle.files.specs.Run.{Turns}
-use Rattle.records.specs.declared.head.Event.{Event}
-use Rattle.records.specs.declared.head.Head.the-variants.{Whole}
+use Rattle.terms.specs.Limits.{mostPayload}
+use Rattle.terms.specs.Settings.{Settings}
+use Rattle.chip.specs.declared.State.{State}
+use Rattle.chip.specs.Step.{given}
+use Rattle.memory.specs.declared.Memory.{Memory}
+use Rattle.memory.specs.declared.Card.{Card}
+use Rattle.memory.specs.Held.{cardUnder}
+use Rattle.files.specs.Run.{Turns, Runs}
+use Rattle.records.specs.declared.head.EventKind.{EventKind}
 use Rattle.records.specs.declared.step.Pass.{Pass}
-use Rattle.records.specs.Record.{payloadOf, Turned, turnBy}
+use Rattle.records.specs.Record.{Turned, turnBy, rowBy}
+use Rattle.records.specs.Run.{Outcome}
 
--- nothing of a record is done
-abbrev pub unchanged : Refusal → Rest → Pass
-unchanged r f = record { refusal = numberOf r; pending = f .pending; status = f .status; service = f .service; bits = f .bits; code = f .code; size = 0; reply = 0 }
+-- nothing of a record is done; a record is done
+abbrev pub unchanged : Refusal → Card → Pass
+unchanged r c = record { card = c; refusal = numberOf r; taken = 0; written = 0 }
 
--- a record of so many bytes of payload is answered with so many of data, and nothing else is done
-abbrev pub turnedAway : Rest → ℕ → ℕ → Pass
-turnedAway f payload n = record { refusal = 0; pending = f .pending; status = f .status; service = f .service; bits = f .bits; code = f .code; size = 4 + payload; reply = 5 + n }
+abbrev pub finished : State → Memory → ℕ → ℕ → Pass
+finished s m taken written = record { card = record { chip = s; memory = m }; refusal = 0; taken = taken; written = written }
 
--- a turn of the code beside a definition's, with the stack that it leaves; the settings stay
-abbrev pub Passed : Rest → Turned → Pass → List ℕ → List ℕ → List ℕ → List ℕ → Type 0
-Passed f t r stack file room left = Turns t (r .refusal) (cardOf (settingsAt f) stack (r .pending) (r .status) (r .service) (r .bits) (r .code)) (r .size) (r .reply) file room left
+-- a turn, and a run, of the code beside the definition's; the settings stay
+abbrev pub Passed : Settings → Turned → Pass → List ℕ → List ℕ → List ℕ → Type 0
+Passed on t r file room left = Turns t (r .refusal) (cardUnder on (r .card)) (r .taken) (r .written) file room left
 
--- an event's turn, whatever file its record stands in front of
-abbrev pub Passes : List ℕ → Rest → Event → Pass → List ℕ → List ℕ → List ℕ → Type 0
-Passes before f e r after room left = (file : List ℕ) → 4 + payloadOf e ≤ length file → Passed f (turnBy (cardAt before f) file (length room) (Whole e)) r after file room left
+abbrev pub Ran : Settings → Outcome → Pass → List ℕ → List ℕ → List ℕ → Type 0
+Ran on o r file room left = Runs o (r .refusal) (cardUnder on (r .card)) (r .taken) (r .written) file room left
 
--- and whatever the stack, which stays
-abbrev pub PassesOver : Rest → Event → Pass → List ℕ → List ℕ → Type 0
-PassesOver f e r room left = (stack : List ℕ) → Passes stack f e r stack room left
+-- the turn of a record of this kind with this payload, whatever file it stands in front of
+abbrev pub Passes : Settings → Card → EventKind → List ℕ → Pass → List ℕ → List ℕ → Type 0
+Passes on c kind payload r room left =
+    (file : List ℕ) → 4 + length payload ≤ length file → take (length payload) (drop 4 file) ≡ payload
+    → Passed on (turnBy (cardUnder on c) file (length room) (rowBy mostPayload kind (length payload) (getD payload 0 0))) r file room left
+
+-- and whatever the mode, the rule, or both
+abbrev pub PassesByRule : Rule → Card → EventKind → List ℕ → Pass → List ℕ → List ℕ → Type 0
+PassesByRule rule c kind payload r room left = (mode : Mode) → Passes (given mode rule) c kind payload r room left
+
+abbrev pub PassesByMode : Mode → Card → EventKind → List ℕ → Pass → List ℕ → List ℕ → Type 0
+PassesByMode mode c kind payload r room left = (rule : Rule) → Passes (given mode rule) c kind payload r room left
+
+abbrev pub PassesAll : Card → EventKind → List ℕ → Pass → List ℕ → List ℕ → Type 0
+PassesAll c kind payload r room left = (on : Settings) → Passes on c kind payload r room left

@@ -10,52 +10,63 @@ use Rattle.terms.specs.declared.Refusal.{Refusal}
 use Rattle.terms.specs.declared.Refusal.the-variants.{Done, NoSuchKind, CutShort, BadLength, NoRoom}
 use Rattle.terms.specs.Refusal.{numberOf}
 use Rattle.terms.specs.Limits.{mostPayload, leastLength}
-use Rattle.chip.specs.declared.State.{State}
-use Rattle.chip.specs.declared.Answer.{Answer}
-use Rattle.chip.specs.declared.Event.the-variants.{Command as CommandEvent, Status as StatusEvent, Reset as ResetEvent, Acknowledge as AcknowledgeEvent}
+use Rattle.chip.specs.State.{State}
+use Rattle.chip.specs.State.{Answer}
+use Rattle.chip.specs.Event.{Command as CommandEvent, Status as StatusEvent, Reset as ResetEvent, Acknowledge as AcknowledgeEvent}
 use Rattle.chip.specs.State.{busy}
 use Rattle.chip.specs.Step.{pushOf, popOf, readOf}
 use Rattle.chip.specs.InTurn.{bytesPopped}
-use Rattle.memory.specs.declared.Event.the-variants.{Chip, Recall as RecallEvent, Forget as ForgetEvent}
+use Rattle.memory.specs.Event.{Chip, Recall as RecallEvent, Forget as ForgetEvent}
 use Rattle.memory.specs.Memory.{Card, CardAnswer, around, eventIn}
 use Rattle.files.specs.Run as files
-use Rattle.records.specs.declared.head.Event.{Event}
-use Rattle.records.specs.declared.head.Event.the-variants.{Push, Pop, Command, Status, Reset, Acknowledge, Recall, Forget}
+use Rattle.records.specs.declared.head.EventKind.{EventKind}
+use Rattle.records.specs.declared.head.EventKind.the-variants.{Push as PushKind, Pop as PopKind, Command as CommandKind, Status as StatusKind, Reset as ResetKind, Acknowledge as AcknowledgeKind, Recall as RecallKind, Forget as ForgetKind, Unknown as UnknownKind}
 use Rattle.records.specs.declared.head.Frame.{Frame}
 use Rattle.records.specs.declared.head.Frame.the-variants.{Framed, Broken}
-use Rattle.records.specs.declared.head.Head.{Head}
-use Rattle.records.specs.declared.head.Head.the-variants.{Whole, Stop}
 
--- ---- an event: 01's number of its kind, the bytes of its payload, the bytes of data in its reply
+-- ---- the event of a record: bytes pushed, which are the payload; bytes popped, which go into the reply; a code; a read; a reset ..
+pub data Event : Type 0 where
+  Push : ℕ → Event
+  Pop : ℕ → Event
+  Command : ℕ → Event
+  Status : Event
+  Reset : Event
+  Acknowledge : Event
+  Recall : Event
+  Forget : Event
+
+-- what stands at the front of a file: a whole record with its event, or a refusal
+pub data Head : Type 0 where
+  Whole : Event → Head
+  Stop : Refusal → Head
+
+-- ---- 01's table, with 02's two kinds of the error memory: the kind, the bytes of the payload, the bytes of data in the reply
+pub record Row : Type 0 where
+  pub kind : ℕ
+  pub payload : ℕ
+  pub answered : ℕ
+
+abbrev row : ℕ → ℕ → ℕ → Row
+row kind payload answered = record { kind = kind; payload = payload; answered = answered }
+
+abbrev pub rowOf : Event → Row
+rowOf (Push n) = row 1 n 0
+rowOf (Pop n) = row 2 1 n
+rowOf (Command code) = row 3 1 0
+rowOf Status = row 4 0 1
+rowOf Reset = row 5 0 0
+rowOf Acknowledge = row 6 0 0
+rowOf Recall = row 7 0 2
+rowOf Forget = row 8 0 0
+
 abbrev pub kindOf : Event → ℕ
-kindOf (Push n) = 1
-kindOf (Pop n) = 2
-kindOf (Command code) = 3
-kindOf Status = 4
-kindOf Reset = 5
-kindOf Acknowledge = 6
-kindOf Recall = 7
-kindOf Forget = 8
+kindOf e = rowOf e .kind
 
 abbrev pub payloadOf : Event → ℕ
-payloadOf (Push n) = n
-payloadOf (Pop n) = 1
-payloadOf (Command code) = 1
-payloadOf Status = 0
-payloadOf Reset = 0
-payloadOf Acknowledge = 0
-payloadOf Recall = 0
-payloadOf Forget = 0
+payloadOf e = rowOf e .payload
 
 abbrev pub answeredOf : Event → ℕ
-answeredOf (Push n) = 0
-answeredOf (Pop n) = n
-answeredOf (Command code) = 0
-answeredOf Status = 1
-answeredOf Reset = 0
-answeredOf Acknowledge = 0
-answeredOf Recall = 2
-answeredOf Forget = 0
+answeredOf e = rowOf e .answered
 
 -- 01's number of a head: 0 for a whole record
 abbrev pub headNumber : Head → ℕ
@@ -79,18 +90,34 @@ popRow most n count =
     (cond (ltb count 1) (Stop BadLength) (cond (ltb most count) (Stop BadLength) (Whole (Pop count))))
     (Stop BadLength)
 
--- the table of kinds, 01's and 02's two of the error memory: the most bytes that a record pushes or pops, the kind, the bytes of the payload, and the first of them
+-- the kind of a number
+abbrev pub kindNamed : ℕ → EventKind
+kindNamed n =
+    cond (eqb n 1) PushKind
+    (cond (eqb n 2) PopKind
+    (cond (eqb n 3) CommandKind
+    (cond (eqb n 4) StatusKind
+    (cond (eqb n 5) ResetKind
+    (cond (eqb n 6) AcknowledgeKind
+    (cond (eqb n 7) RecallKind
+    (cond (eqb n 8) ForgetKind
+    UnknownKind)))))))
+
+-- what a record of a kind asks: the most bytes that one pushes or pops, the bytes of the payload, and the first of them
+abbrev pub rowBy : ℕ → EventKind → ℕ → ℕ → Head
+rowBy most PushKind n first = pushRow n
+rowBy most PopKind n first = popRow most n first
+rowBy most CommandKind n first = exactly 1 n (Command first)
+rowBy most StatusKind n first = exactly 0 n Status
+rowBy most ResetKind n first = exactly 0 n Reset
+rowBy most AcknowledgeKind n first = exactly 0 n Acknowledge
+rowBy most RecallKind n first = exactly 0 n Recall
+rowBy most ForgetKind n first = exactly 0 n Forget
+rowBy most UnknownKind n first = Stop NoSuchKind
+
+-- and of a kind by its number
 abbrev pub rowUnder : ℕ → ℕ → ℕ → ℕ → Head
-rowUnder most kind n first =
-    cond (eqb kind 1) (pushRow n)
-    (cond (eqb kind 2) (popRow most n first)
-    (cond (eqb kind 3) (exactly 1 n (Command first))
-    (cond (eqb kind 4) (exactly 0 n Status)
-    (cond (eqb kind 5) (exactly 0 n Reset)
-    (cond (eqb kind 6) (exactly 0 n Acknowledge)
-    (cond (eqb kind 7) (exactly 0 n Recall)
-    (cond (eqb kind 8) (exactly 0 n Forget)
-    (Stop NoSuchKind))))))))
+rowUnder most kind n first = rowBy most (kindNamed kind) n first
 
 -- the frame of a record at the front of a file: fewer than two bytes 6, length out of range 7, bytes missing 6, else the bytes of its payload
 unfoldable pub frameUnder : ℕ → List ℕ → Frame
@@ -123,17 +150,6 @@ Carried most first Reset = Unit
 Carried most first Acknowledge = Unit
 Carried most first Recall = Unit
 Carried most first Forget = Unit
-
--- a push or a pop is of at least one byte
-abbrev pub Asks : Event → Type 0
-Asks (Push n) = 1 ≤ n
-Asks (Pop n) = 1 ≤ n
-Asks (Command code) = Unit
-Asks Status = Unit
-Asks Reset = Unit
-Asks Acknowledge = Unit
-Asks Recall = Unit
-Asks Forget = Unit
 
 -- a whole record of this event, of at most so many bytes, stands at the front of a file
 pub record Holds (most : ℕ) (l : List ℕ) (e : Event) : Type 0 where

@@ -2,21 +2,28 @@
 use mathlib.Core.Path.{_≡_, refl, ap, _∙_}
 use mathlib.Core.Bool.{true, false}
 use mathlib.Core.List.{List}
-use Prim.Native.Nat.{ℕ, _≤_, _<_}
+use Prim.Native.Nat.{ℕ, _≤_, _<_, zero-le}
 use lib.ListN.{length}
 use borrow.Author.Tests.{lt-ltb, le-ltb, lt-leb, le-leb, eq-eqb, ne-eqb}
 use Rattle.terms.specs.declared.Refusal.{Refusal}
 use Rattle.terms.specs.declared.Refusal.the-variants.{InputTooLong, BadState, BadMode, BadRule}
 use Rattle.terms.specs.Refusal.{numberOf}
 use Rattle.terms.specs.Limits.{reportBytes, mostInput}
-use Rattle.terms.specs.Settings.{modeOf, ruleOf}
+use Rattle.terms.specs.Settings.{isMode, isRule, modeOf, ruleOf}
 use Rattle.chip.specs.Step.{given}
 use Rattle.memory.specs.Memory.{Card}
 use Rattle.files.specs.Run.{Outcome, Runs}
-use Rattle.stored.specs.Bytes.{isState, cardIn, laidOut, reportOf}
+use Rattle.files.proofs.Through.{through}
+use Rattle.sheets.proofs.Lines.{lawful}
+use Rattle.stored.specs.Bytes.{isState, cardIn, laidOut, doorOf, reportOf}
+use Rattle.stored.proofs.Calling.{shut}
 use Rattle.ledger.specs.Ledger.{isSheets}
 use Rattle.sheets.specs.Step.{Held, held, runOf}
 use Rattle.sheets.specs.Calls.{Calls, callOf, ranOf, away}
+
+-- a run ends with 0, or with 5 to 8
+pub run-small : (h : Held) (l : List ℕ) (room : ℕ) → runOf h l room .refusal ≤ 8
+run-small = through lawful (λ h l room o. o .refusal ≤ 8) (λ h room. zero-le) (λ h l room p z. lawful .stops h l room z .0 .1) (λ h l room p z more. more)
 
 -- a run of the code, with its state and report laid out
 pub called : (size : ℕ) (o : Outcome Held) (refusal : ℕ) (c : Card) (taken written : ℕ) (input replies left state sheets report : List ℕ)
@@ -41,6 +48,10 @@ module _ (mode rule : ℕ) (state sheets input replies report : List ℕ) where
   bad-report a n e = rw (ne-eqb (length report) reportBytes a) record { result-is = e; state-is = refl; sheets-is = refl; replies-is = refl; report-is = refl }
 
   module _ (a : length report ≡ reportBytes) where
+    pub call-away : (numberOf (doorOf mode rule state) ≡ 0 → ⊥) → callOf mode rule state sheets input replies report ≡ away (doorOf mode rule state) state sheets replies
+    unfolding callOf
+    call-away h = rw (eq-eqb (length report) reportBytes a) (shut (λ r. away r state sheets replies) _ (isMode mode) (isRule rule) (isState state) h)
+
     pub bad-mode : 1 < mode → callOf mode rule state sheets input replies report ≡ away BadMode state sheets replies
     unfolding callOf
     bad-mode k = rw (eq-eqb (length report) reportBytes a, lt-leb mode 1 k)

@@ -16,8 +16,8 @@ use Rattle.files.specs.Lawful.{Stopping, Lawful}
 use Rattle.files.proofs.Tests.{either-lt, either-eq}
 use Rattle.files.proofs.Through.{drop-take}
 use Rattle.memory.specs.Memory.{Card}
-use Rattle.records.specs.declared.head.Event.{Event}
-use Rattle.records.specs.declared.head.Event.the-variants.{Push, Pop, Command, Status, Reset, Acknowledge, Recall, Forget}
+use Rattle.records.specs.Record.{Event}
+use Rattle.records.specs.Record.{Push, Pop, Command, Status, Reset, Acknowledge, Recall, Forget}
 use Rattle.records.specs.declared.head.Frame.the-variants.{Broken}
 use Rattle.records.specs.Record.{kindOf, frameUnder, turnUnder, turnOf}
 use Rattle.records.proofs.Heads.{short, cut, whole, frames}

@@ -4,7 +4,7 @@ use mathlib.Core.Bool.{Bool, true, false, cond}
 use mathlib.Core.List.{List, _++_}
 use Prim.Native.Nat.{ℕ, _+_, _≤_, _<_, zero-le}
 use native.Mathlib.Omega.{arith}
-use lib.Dec.{eqb, lit<}
+use lib.Dec.{eqb, ltb, lit<}
 use lib.ListN.{length, drop}
 use borrow.Author.Tests.{lt-ltb, le-ltb, eq-eqb, ne-eqb}
 use Rattle.little.specs.Little.{wordAt}
@@ -12,19 +12,22 @@ use Rattle.terms.specs.declared.Refusal.{Refusal}
 use Rattle.terms.specs.declared.Refusal.the-variants.{BadLength, NoRoom}
 use Rattle.terms.specs.Refusal.{numberOf as coreNumber}
 use Rattle.terms.specs.Limits.{mostPayload}
-use Rattle.memory.specs.declared.place.Rest.{Rest}
+use Rattle.terms.specs.Settings.{Settings}
+use Rattle.memory.specs.declared.Card.{Card as CardHeld}
 use Rattle.memory.specs.Memory.{Card}
-use Rattle.memory.specs.Held.{cardAt}
+use Rattle.memory.specs.Held.{cardUnder}
 use Rattle.files.specs.Run.{Turned, Turns, idle}
 use Rattle.records.specs.declared.head.Frame.{Frame}
 use Rattle.records.specs.declared.step.Pass.{Pass}
-use Rattle.records.specs.Record.{frameUnder}
+use Rattle.records.specs.Record.{frameUnder, turnOf}
+use Rattle.records.proofs.Ready.{calm-turn}
+use Rattle.chip.proofs.Ready.{Ready}
 use Rattle.records.specs.Pass.{unchanged}
 use Rattle.ledger.specs.declared.Refusal.{Refusal as SheetRefusal}
 use Rattle.ledger.specs.Ledger.{bytesAt, dropped}
-use Rattle.ledger.specs.Entering.{numberOf, payloadFor}
+use Rattle.ledger.specs.Entering.{Entered, numberOf, payloadFor}
 use Rattle.ledger.proofs.Entering.{Enters}
-use Rattle.sheets.specs.Step.{Held, held, isFramed, isOwn, entryOf, ownReply, ownTurn, sheetsAfter, coreBy}
+use Rattle.sheets.specs.Step.{Held, held, isFramed, isOwn, answered, entryOf, ownReply, ownTurn, sheetsAfter, coreBy, lineOf}
 use Rattle.sheets.specs.Held.{Passed}
 use Rattle.sheets.proofs.Lines.{Owns, own-kind}
 
@@ -35,10 +38,10 @@ own-frame l a b e = rw (own-kind (wordAt l 2) a b, e)
 
 -- ---- a record of this library
 
-module _ (stack : List ℕ) (f : Rest) (sheets l room : List ℕ) {r : Pass} where
+module _ (on : Settings) (c : CardHeld) (sheets l room : List ℕ) {r : Pass} where
   -- nothing of it is done
-  stays : (q : Refusal) → r ≡ unchanged q f → 0 < coreNumber q → Passed f (idle (coreNumber q) (held (cardAt stack f) sheets)) r stack sheets l room room
-  stays q e h = subst (λ (x : Pass). Passed f (idle (coreNumber q) (held (cardAt stack f) sheets)) x stack sheets l room room) (sym e) (record {
+  stays : (q : Refusal) → r ≡ unchanged q c → 0 < coreNumber q → Passed on (idle (coreNumber q) (held (cardUnder on c) sheets)) r sheets l room room
+  stays q e h = subst (λ (x : Pass). Passed on (idle (coreNumber q) (held (cardUnder on c) sheets)) x sheets l room room) (sym e) (record {
     refusal-is = refl;
     state-is = refl;
     size-is = refl;
@@ -49,10 +52,10 @@ module _ (stack : List ℕ) (f : Rest) (sheets l room : List ℕ) {r : Pass} whe
     moves = λ z. omega arith;
   })
 
-  pub own-bad : r ≡ unchanged BadLength f → (wordAt l 0 ≡ 2 + payloadFor (wordAt l 2) → ⊥) → Passed f (ownTurn (held (cardAt stack f) sheets) l (length room)) r stack sheets l room room
+  pub own-bad : r ≡ unchanged BadLength c → (wordAt l 0 ≡ 2 + payloadFor (wordAt l 2) → ⊥) → Passed on (ownTurn (held (cardUnder on c) sheets) l (length room)) r sheets l room room
   own-bad e z = rw (ne-eqb _ _ z) (stays BadLength e (lit< tt))
 
-  pub own-full : r ≡ unchanged NoRoom f → wordAt l 0 ≡ 2 + payloadFor (wordAt l 2) → length room < 5 → Passed f (ownTurn (held (cardAt stack f) sheets) l (length room)) r stack sheets l room room
+  pub own-full : r ≡ unchanged NoRoom c → wordAt l 0 ≡ 2 + payloadFor (wordAt l 2) → length room < 5 → Passed on (ownTurn (held (cardUnder on c) sheets) l (length room)) r sheets l room room
   own-full e q z = rw (eq-eqb _ _ q, lt-ltb _ _ z) (stays NoRoom e (lit< tt))
 
 -- answered
@@ -102,3 +105,21 @@ module _ (sheets : List ℕ) (kind refusal : ℕ) where
 
   pub reset-drops : refusal ≡ 0 → kind ≡ 5 → dropped sheets ≡ sheetsAfter sheets kind refusal
   reset-drops z k = rw (eq-eqb refusal 0 z, eq-eqb kind 5 k)
+
+-- ---- a card whose state is not busy stays one
+own-card : (h : Held) (kind : ℕ) (e : Entered) (x y : Bool) → cond x (cond y (idle (coreNumber NoRoom) h) (answered h kind e)) (idle (coreNumber BadLength) h) .state .card ≡ h .card
+own-card h kind e true true = refl
+own-card h kind e true false = refl
+own-card h kind e false true = refl
+own-card h kind e false false = refl
+
+pub calm-line : (h : Held) (l : List ℕ) (room : ℕ) → Ready (h .card .chip) → lineOf h l room .state .card .chip .status < 128
+unfolding lineOf
+calm-line h l room r = by (isOwn l)
+  where
+    stays-calm : ownTurn h l room .state .card .chip .status < 128
+    stays-calm = subst (λ (k : Card). k .chip .status < 128) (sym (own-card h (wordAt l 2) (entryOf h (wordAt l 2) (bytesAt l 4 (payloadFor (wordAt l 2)))) (eqb (wordAt l 0) (2 + payloadFor (wordAt l 2))) (ltb room 5))) (r .ready)
+
+    by : (b : Bool) → cond b (ownTurn h l room) (coreBy h (wordAt l 2) (turnOf (h .card) l room)) .state .card .chip .status < 128
+    by true = stays-calm
+    by false = calm-turn (h .card) l room r

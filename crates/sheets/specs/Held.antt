@@ -1,12 +1,27 @@
--- The record step as the code takes it, where stack and sheets lie and the rest of the card stands beside them. These speak of the program, not of document 02. Definitions only. Assumes nothing.
+-- What the program's record step and run with sheets say of their definitions. Definitions only. Assumes nothing.
 use Prim.Native.Nat.{ℕ}
 use mathlib.Core.List.{List}
-use Rattle.memory.specs.declared.place.Rest.{Rest}
-use Rattle.memory.specs.Held.{cardOf, settingsAt}
-use Rattle.files.specs.Run.{Turned, Turns}
+use lib.ListN.{length}
+use Rattle.little.specs.Little.{wordAt}
+use Rattle.terms.specs.Settings.{Settings}
+use Rattle.memory.specs.declared.Card.{Card}
+use Rattle.memory.specs.Held.{cardUnder}
+use Rattle.files.specs.Run.{Turned, Turns, Outcome, Runs}
 use Rattle.records.specs.declared.step.Pass.{Pass}
-use Rattle.sheets.specs.Step.{Held, held}
+use Rattle.records.specs.Record.{turnOf}
+use Rattle.sheets.specs.Step.{Held, held, ownTurn, coreBy}
 
--- a turn of the code beside a definition's, with the stack and the sheets that it leaves; the settings stay
-abbrev pub Passed : Rest → Turned Held → Pass → List ℕ → List ℕ → List ℕ → List ℕ → List ℕ → Type 0
-Passed f t r stack sheets file room left = Turns t (r .refusal) (held (cardOf (settingsAt f) stack (r .pending) (r .status) (r .service) (r .bits) (r .code)) sheets) (r .size) (r .reply) file room left
+-- a turn, and a run, of the code beside the definition's, with the sheets that it leaves; the settings stay
+abbrev pub Passed : Settings → Turned Held → Pass → List ℕ → List ℕ → List ℕ → List ℕ → Type 0
+Passed on t r sheets file room left = Turns t (r .refusal) (held (cardUnder on (r .card)) sheets) (r .taken) (r .written) file room left
+
+abbrev pub Ran : Settings → Outcome Held → Pass → List ℕ → List ℕ → List ℕ → List ℕ → Type 0
+Ran on o r sheets file room left = Runs o (r .refusal) (held (cardUnder on (r .card)) sheets) (r .taken) (r .written) file room left
+
+-- the turn of a record of this library, whatever the settings, and of one of the core
+abbrev pub PassesOwn : Card → List ℕ → Pass → List ℕ → List ℕ → List ℕ → List ℕ → Type 0
+PassesOwn c before r sheets file room left = (on : Settings) → Passed on (ownTurn (held (cardUnder on c) before) file (length room)) r sheets file room left
+
+abbrev pub PassesCore : Settings → Card → List ℕ → Pass → List ℕ → List ℕ → List ℕ → List ℕ → Type 0
+PassesCore on c before r sheets file room left =
+    Passed on (coreBy (held (cardUnder on c) before) (wordAt file 2) (turnOf (cardUnder on c) file (length room))) r sheets file room left

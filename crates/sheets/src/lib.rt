@@ -1,46 +1,36 @@
-// Module sheets, a second library above the core: files of records with kinds 256 to 258 among the core's, run on a state
-// and on a ledger of sheets that the caller lends; and the figures of such a ledger. The core's crates know nothing of it.
+// Module sheets, a second library above the core: files of records with kinds 256 to 258 among the core's, run on a
+// state
+// and on a ledger of sheets that the caller lends; and the figures of such a ledger. The core's crates know nothing
+// of it.
 pub mod run;
 pub mod step;
 
 use crate::run::run_lines;
 use figures::put_figures;
 use ledger::bytes::is_sheets;
-use memory::place::Rest;
+use stored::admit;
+use stored::card_in;
 use stored::fill_report;
-use stored::is_state;
-use stored::put_rest;
-use stored::rest;
+use stored::put_card;
+use stored::turn_away;
 use terms::Mode;
 use terms::Refusal;
 use terms::Rule;
-use terms::is_mode;
-use terms::is_rule;
 use terms::mode_of;
 use terms::number;
 use terms::rule_of;
 ghost use mathlib.Core.Path.{_≡_};
+ghost use mathlib.Core.Bool.{true};
 ghost use lib.ListN.{length};
 ghost use Rattle.terms.specs.Limits.{reportBytes};
-ghost use Rattle.terms.specs.Refusal.{numberOf};
 ghost use Rattle.chip.specs.Step.{given};
-ghost use Rattle.stored.specs.Bytes.{Sized, cardIn, reportOf};
+ghost use Rattle.stored.specs.Bytes.{isState, cardIn};
 ghost use Rattle.ledger.specs.Ledger.{sheetsBytes};
 ghost use Rattle.figures.specs.Telling.{figuresOf, Tells};
 ghost use Rattle.sheets.specs.Step.{held, runOf};
 ghost use Rattle.sheets.specs.Calls.{Calls, callOf, ranOf};
 
-// The report of a call that is turned away: the refusal and two counts of 0.
-fn turn_away(report: &mut [u8], refusal: Refusal) -> u32
-    requires { ⌜ length (now report) ≡ reportBytes ⌝ }
-    ensures { λ r. ⌜ (r ≡ numberOf refusal) × (now (report .exit) ≡ reportOf (numberOf refusal) 0 0) ⌝ }
-{
-    let n = number(refusal);
-    fill_report(report, n, 0, 0);
-    n as u32
-}
-
-// The run on a good state and good sheets, both worked where they lie; reported.
+// The run on a good state and good sheets, which are worked where they lie; reported.
 fn run_good(
     mode: Mode,
     rule: Rule,
@@ -50,22 +40,18 @@ fn run_good(
     replies: &mut [u8],
     report: &mut [u8],
 ) -> u32
-    requires { ⌜ Sized (now state) × (length (now sheets) ≡ sheetsBytes) × (length (now report) ≡ reportBytes) ⌝ }
-    ensures { λ r. ⌜ Calls (ranOf (length (now (state .entry))) (runOf (held (cardIn (given mode rule) (now (state .entry))) (now (sheets .entry))) (now (input .entry)) (length (now (replies .entry)))) (now (replies .entry))) r (now (state .exit)) (now (sheets .exit)) (now (replies .exit)) (now (report .exit)) ⌝ }
+    requires { ⌜ (isState (now state) ≡ true) × (length (now sheets) ≡ sheetsBytes) ×
+        (length (now report) ≡ reportBytes) ⌝ }
+    ensures { λ r. ⌜ Calls (ranOf (length (now (state .entry)))
+        (runOf (held (cardIn (given mode rule) (now (state .entry))) (now (sheets .entry))) (now (input .entry))
+        (length (now (replies .entry)))) (now (replies .entry))) r (now (state .exit)) (now (sheets .exit))
+        (now (replies .exit)) (now (report .exit)) ⌝ }
 {
-    let f = rest(mode, rule, state);
-    let r = run_lines(&mut state[..16], f, sheets, input, replies);
-    let after = Rest {
-        mode,
-        rule,
-        pending: r.pending,
-        status: r.status,
-        service: r.service,
-        bits: r.bits,
-        code: r.code,
-    };
-    put_rest(state, after);
-    fill_report(report, r.refusal, r.taken, r.written);
+    let r = run_lines(card_in(state), mode, rule, sheets, input, replies);
+    let chip = r.card.chip;
+    let memory = r.card.memory;
+    put_card(state, chip, memory);
+    fill_report(report, r.refusal as u8, r.taken, r.written);
     r.refusal as u32
 }
 
@@ -80,25 +66,22 @@ pub extern "C" fn sheets_run(
     replies: &mut [u8],
     report: &mut [u8],
 ) -> u32
-    ensures { λ r. ⌜ Calls (callOf mode rule (now (state .entry)) (now (sheets .entry)) (now (input .entry)) (now (replies .entry)) (now (report .entry))) r (now (state .exit)) (now (sheets .exit)) (now (replies .exit)) (now (report .exit)) ⌝ }
+    ensures { λ r. ⌜ Calls (callOf mode rule (now (state .entry)) (now (sheets .entry)) (now (input .entry))
+        (now (replies .entry)) (now (report .entry))) r (now (state .exit)) (now (sheets .exit)) (now (replies .exit))
+        (now (report .exit)) ⌝ }
 {
     if report.len() != terms::REPORT_BYTES {
         return number(Refusal::BadReport) as u32;
     }
-    if !is_mode(mode) {
-        return turn_away(report, Refusal::BadMode);
-    }
-    if !is_rule(rule) {
-        return turn_away(report, Refusal::BadRule);
-    }
-    if !is_state(state) {
-        return turn_away(report, Refusal::BadState);
+    let refusal = number(admit(mode, rule, state));
+    if refusal != 0 {
+        return turn_away(report, refusal);
     }
     if !is_sheets(sheets) {
-        return turn_away(report, Refusal::BadState);
+        return turn_away(report, number(Refusal::BadState));
     }
     if terms::MOST_INPUT < input.len() {
-        return turn_away(report, Refusal::InputTooLong);
+        return turn_away(report, number(Refusal::InputTooLong));
     }
     run_good(
         mode_of(mode),
@@ -111,7 +94,8 @@ pub extern "C" fn sheets_run(
     )
 }
 
-// The shift's figures of a `sheets` slice, 53 bytes: lines, different serials, serials on more than one line, slot 0 words
+// The shift's figures of a `sheets` slice, 53 bytes: lines, different serials, serials on more than one line, slot 0
+// words
 // that are not proper, the exact sum. Returns the refusal; 8, then 13; only on 0 is `out` written.
 #[no_mangle]
 pub extern "C" fn sheets_figures(sheets: &[u8], out: &mut [u8]) -> u32

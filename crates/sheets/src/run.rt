@@ -1,74 +1,74 @@
 // The run of a file with records of this library among the core's: every record in turn, by the record step.
 use crate::step::pass_line;
-use memory::place::Rest;
-use records::run::Ran;
+use chip::State;
+use memory::Card;
+use records::step::Pass;
+use terms::Mode;
+use terms::Rule;
 ghost use mathlib.Core.Path.{_≡_};
+ghost use Prim.Native.Nat.{_<_};
 ghost use lib.ListN.{length};
-ghost use Rattle.files.specs.Run.{Runs};
+ghost use Rattle.chip.specs.Step.{given};
 ghost use Rattle.ledger.specs.Ledger.{sheetsBytes};
-ghost use Rattle.memory.specs.Held.{cardOf, settingsAt, cardAt};
+ghost use Rattle.memory.specs.Held.{cardUnder};
 ghost use Rattle.sheets.specs.Step.{held, runOf};
+ghost use Rattle.sheets.specs.Held.{Ran};
 
-// Every record of `input` in turn, until one is refused or none is left.
+// Every record of `input` in turn, until one is refused or none is left. The state is laid down part by part, as in the
+// core's run.
 pub fn run_lines(
-    stack: &mut [u8],
-    f: Rest,
+    start: Card,
+    mode: Mode,
+    rule: Rule,
     sheets: &mut [u8],
     input: &[u8],
     replies: &mut [u8],
-) -> Ran
-    requires { ⌜ (length (now stack) ≡ 16) × (length (now sheets) ≡ sheetsBytes) ⌝ }
-    ensures { λ r. ⌜ Runs (runOf (held (cardAt (now (stack .entry)) f) (now (sheets .entry))) (now (input .entry)) (length (now (replies .entry)))) (r .refusal) (held (cardOf (settingsAt f) (now (stack .exit)) (r .pending) (r .status) (r .service) (r .bits) (r .code)) (now (sheets .exit))) (r .taken) (r .written) (now (input .entry)) (now (replies .entry)) (now (replies .exit)) ⌝ }
+) -> Pass
+    requires { ⌜ (start .chip .status < 128) × (length (now sheets) ≡ sheetsBytes) ⌝ }
+    ensures { λ r. ⌜ Ran (given mode rule)
+        (runOf (held (cardUnder (given mode rule) start) (now (sheets .entry))) (now (input .entry))
+        (length (now (replies .entry)))) r (now (sheets .exit)) (now (input .entry)) (now (replies .entry))
+        (now (replies .exit)) ⌝ }
 {
-    let mode = f.mode;
-    let rule = f.rule;
-    let mut pending = f.pending;
-    let mut status = f.status;
-    let mut service = f.service;
-    let mut bits = f.bits;
-    let mut code = f.code;
-    let mut at = 0;
-    let mut w = 0;
-    while at < input.len() {
-        let f = Rest {
+    let mut card = start;
+    let mut taken = 0;
+    let mut written = 0;
+    while taken < input.len() {
+        let t = pass_line(
+            card,
             mode,
             rule,
-            pending,
-            status,
-            service,
-            bits,
-            code,
+            sheets,
+            &input[taken..],
+            &mut replies[written..],
+        );
+        let stack = t.card.chip.stack;
+        let memory = t.card.memory;
+        card = Card {
+            chip: State {
+                stack,
+                pending: t.card.chip.pending,
+                status: t.card.chip.status,
+                service: t.card.chip.service,
+            },
+            memory,
         };
-        let t = pass_line(stack, f, sheets, &input[at..], &mut replies[w..]);
-        pending = t.pending;
-        status = t.status;
-        service = t.service;
-        bits = t.bits;
-        code = t.code;
         let refusal = t.refusal;
         if refusal != 0 {
-            return Ran {
+            return Pass {
+                card,
                 refusal,
-                pending,
-                status,
-                service,
-                bits,
-                code,
-                taken: at,
-                written: w,
+                taken,
+                written,
             };
         }
-        at += t.size;
-        w += t.reply;
+        taken += t.taken;
+        written += t.written;
     }
-    Ran {
+    Pass {
+        card,
         refusal: 0,
-        pending,
-        status,
-        service,
-        bits,
-        code,
-        taken: at,
-        written: w,
+        taken,
+        written,
     }
 }

@@ -1,78 +1,115 @@
--- The blocks of bytes that the code copies are the layouts of 01: one law for each, over the number n of a word's bytes. Assumes nothing.
-use mathlib.Core.Path.{_≡_, refl, sym, ap, ap₂, subst, _∙_}
-use mathlib.Core.List.{List, [], _++_, append-nil, append-assoc}
-use Prim.Native.Nat.{ℕ, _+_, _-_, _≤_}
-use native.Mathlib.Nat.{zero-add}
+-- Bytes pushed by the number that is read at their place, and popped by the number on top, are the bytes pushed and popped one after the other. Assumes nothing.
+use mathlib.Core.Path.{_≡_, refl, sym, ap, ap₂, _∙_}
+use mathlib.Core.List.{List, [], _∷_, _++_, append-assoc}
+use Prim.Native.Nat.{ℕ, suc, _+_, _-_, _*_, _/_, _%_, _^_, _≤_, _<_}
+use native.Mathlib.Numerals.{add-one}
 use native.Mathlib.Omega.{arith}
-use lib.ListN.{length, take, drop, set, length-append, length-drop}
-use lib.Seq.{paste, take-all, take-at, drop-at, drop-append-le, drop-length, drop-drop, length-take-le}
-use Rattle.stack.specs.Stack.{bytesOf, zeros, rotated, exchanged, copied, overA, overZero, replaced, pushedWord, converted, widened, narrowed}
-use Rattle.stack.proofs.Elems.{spelled}
+use lib.Dec.{lit≤}
+use lib.ListN.{length, getD, take, drop, set, length-append}
+use lib.Seq.{paste, take-at, take-all, drop-drop, set-split}
+use Rattle.little.specs.Little.{le4, le8, fourAt, eightAt}
+use Rattle.little.proofs.Exact.{le4-of, le8-of}
+use Rattle.stack.specs.Stack.{bytesOf, lowFirst, pushedAll, topByte, rotated, poppedAll, handedOut, tos}
+use Rattle.stack.proofs.Elems.{part}
+use Rattle.stack.proofs.Moves.{pushes-lay, pops-hand, pops-turn}
+use Rattle.stack.proofs.Words.{length-bytes}
+use Rattle.stack.proofs.Several.{length-handed, pop-on, popped-front}
+use Rattle.stack.specs.Words.{eight}
+use Rattle.stack.proofs.Windows.{split}
+use Rattle.stack.proofs.TwoWords.{joined, word-law}
 
--- past the end there is nothing
-drop-end : (n : ℕ) (l : List ℕ) → length l ≡ n → drop n l ≡ []
-drop-end n l h = subst (λ (k : ℕ). drop k l ≡ []) h (drop-length l)
+-- the bytes of a number, low byte first, as they are pushed
+low-4 : (r : ℕ) → lowFirst 4 r ≡ le4 r
+low-4 r =
+    let a : r / 256 / 256 ≡ r / 65536 = omega arith in
+    let b : r / 65536 / 256 ≡ r / 16777216 = omega arith in
+    rw (a, b)
 
--- a block laid on top
-at-top : (s l : List ℕ) (n : ℕ) → paste s 0 l n ≡ take n l ++ drop n s
-at-top s l n = ap (λ (k : ℕ). take n l ++ drop k s) (zero-add n)
+low-8 : (r : ℕ) → lowFirst 8 r ≡ le8 r
+low-8 r =
+    let a : r / 256 / 256 / 256 / 256 ≡ r / 4294967296 = omega arith in
+    joined (low-4 r) (ap (lowFirst 4) a ∙ low-4 (r / 4294967296))
 
-module _ (s : List ℕ) (h : length s ≡ 16) where
-  pub turn-law : (n : ℕ) → n ≤ 16 → paste (paste s 0 (drop n s) (16 - n)) (16 - n) (drop 0 s) n ≡ rotated n s
-  turn-law n l =
-      let d : length (drop n s) ≡ 16 - n = simp length-drop (omega arith) in
-      let x : paste s 0 (drop n s) (16 - n) ≡ drop n s ++ drop (16 - n) s =
-      at-top s (drop n s) (16 - n) ∙ ap (λ (k : List ℕ). k ++ drop (16 - n) s) (take-all (16 - n) (drop n s) (omega arith)) in
-      let g : length (drop n s ++ drop (16 - n) s) ≡ 16 - n + n = simp (length-append, length-drop) (omega arith) in
-      ap (λ (k : List ℕ). paste k (16 - n) s n) x
-      ∙ ap₂ (λ (y z : List ℕ). (y ++ take n s) ++ z) (take-at (drop n s) (drop (16 - n) s) (16 - n) d) (drop-end (16 - n + n) (drop n s ++ drop (16 - n) s) g)
-      ∙ append-nil (drop n s ++ take n s)
+low-2 : (x y : ℕ) → x < 256 → y < 256 → lowFirst 2 (x + y * 256) ≡ x ∷ y ∷ []
+low-2 x y X Y =
+    let a : (x + y * 256) % 256 ≡ x = omega arith in
+    let b : (x + y * 256) / 256 ≡ y = omega arith in
+    let c : y % 256 ≡ y = omega arith in
+    rw (a, b, c)
 
-  pub swap-law : (n : ℕ) → n + n ≤ 16 → paste (paste s 0 (drop n s) n) n (drop 0 s) n ≡ exchanged n s
-  swap-law n l =
-      let m : n ≤ length (drop n s) = simp length-drop (omega arith) in
-      let b : length (take n (drop n s)) ≡ n = length-take-le n (drop n s) m in
-      ap (λ (k : List ℕ). paste k n s n) (at-top s (drop n s) n)
-      ∙ ap₂ (λ (y z : List ℕ). (y ++ take n s) ++ z) (take-at (take n (drop n s)) (drop n s) n b)
-      (sym (drop-drop n n (take n (drop n s) ++ drop n s)) ∙ ap (drop n) (drop-at (take n (drop n s)) (drop n s) n b) ∙ drop-drop n n s)
-      ∙ append-assoc (take n (drop n s)) (take n s) (drop (n + n) s)
+-- two, four and eight bytes from a place on, pushed
+module _ (s p : List ℕ) (at : ℕ) (B : (j : ℕ) → getD p j 0 < 256) where
+  pub by-2 : at + 2 ≤ length p → bytesOf 2 (getD p at 0 + getD p (at + 1) 0 * 256) ++ take 14 s ≡ pushedAll s (take 2 (drop at p))
+  by-2 h =
+      let x = getD p at 0 in
+      let y = getD p (at + 1) 0 in
+      let e : take 2 (drop at p) ≡ x ∷ y ∷ [] = part p 2 at h ∙ ap (λ (k : ℕ). x ∷ getD p k 0 ∷ []) (sym (add-one at)) in
+      sym (ap (pushedAll s) (e ∙ sym (low-2 x y (B at) (B (at + 1)))) ∙ pushes-lay 1 (x + y * 256) s (lit≤ tt))
 
-  pub copy-law : (n : ℕ) → n ≤ 16 → paste s n (drop 0 s) (16 - n) ≡ copied n s
-  copy-law n l =
-      let e : length s ≡ n + (16 - n) = omega arith in
-      ap (λ (k : List ℕ). (take n s ++ take (16 - n) s) ++ k) (drop-end (n + (16 - n)) s e) ∙ append-nil (take n s ++ take (16 - n) s)
+  pub by-4 : at + 4 ≤ length p → bytesOf 4 (fourAt p at) ++ take 12 s ≡ pushedAll s (take 4 (drop at p))
+  by-4 h = sym (ap (pushedAll s) (sym (le4-of p at h B) ∙ sym (low-4 (fourAt p at))) ∙ pushes-lay 3 (fourAt p at) s (lit≤ tt))
 
-  -- the whole stack copied over 16 bytes
-  pub saved-law : (z : List ℕ) → length z ≡ 16 → paste z 0 (drop 0 s) 16 ≡ s
-  saved-law z e = ap₂ (λ (x y : List ℕ). x ++ y) (take-all 16 s (omega arith)) (drop-end 16 z e) ∙ append-nil s
+  pub by-8 : at + 8 ≤ length p → eight (eightAt p at) ++ take 8 s ≡ pushedAll s (take 8 (drop at p))
+  unfolding eight
+  by-8 h = sym (ap (pushedAll s) (sym (le8-of p at h B) ∙ sym (low-8 (eightAt p at))) ∙ pushes-lay 7 (eightAt p at) s (lit≤ tt))
 
--- R over a stack that was turned
-pub add-law : (n r : ℕ) (s : List ℕ) → length s ≡ 16 → n + n ≤ 16 → replaced n (rotated n s) r ≡ overA n s r
-add-law n r s h l =
-    let m : n ≤ length (drop n s) = simp length-drop (omega arith) in
-    ap (λ (k : List ℕ). bytesOf n r ++ k) (drop-append-le n (drop n s) (take n s) m ∙ ap (λ (k : List ℕ). k ++ take n s) (drop-drop n n s))
+-- ---- popped
+length-stack : (t u : ℕ) → length (eight t ++ eight u) ≡ 16
+unfolding eight
+length-stack t u = refl
 
--- ---- words laid down: the elements written out
-module _ (s : List ℕ) (r : ℕ) (h : length s ≡ 16) where
-  pub zero-2 : paste (overA 2 s r) 14 (bytesOf 2 0) 2 ≡ overZero 2 s r
-  zero-2 = spelled (λ (l : List ℕ). paste (overA 2 l r) 14 (bytesOf 2 0) 2 ≡ overZero 2 l r) s h refl
+-- the word on top, written, is what k pops hand out, and the stack turned by it is what they leave
+module _ (t u k : ℕ) (K : k ≤ 8) where
+  pub handed : handedOut k (eight t ++ eight u) ≡ take k (eight t ++ eight u)
+  handed = pops-hand k (eight t ++ eight u) (omega (arith, length-stack t u))
 
-  pub zero-4 : paste (overA 4 s r) 12 (bytesOf 4 0) 4 ≡ overZero 4 s r
-  zero-4 = spelled (λ (l : List ℕ). paste (overA 4 l r) 12 (bytesOf 4 0) 4 ≡ overZero 4 l r) s h refl
+  pub left : {s : List ℕ} → s ≡ rotated k (eight t ++ eight u) → s ≡ poppedAll k (eight t ++ eight u)
+  left e = e ∙ sym (pops-turn k (eight t ++ eight u) (omega (arith, length-stack t u)))
 
-  pub pupi-law : paste (copied 4 s) 0 (bytesOf 4 r) 4 ≡ pushedWord s r
-  pupi-law = spelled (λ (l : List ℕ). paste (copied 4 l) 0 (bytesOf 4 r) 4 ≡ pushedWord l r) s h refl
+  pub word-handed : (j r : ℕ) → 8 ≡ k + j → t / 256 ^ j < 256 ^ k → r ≡ tos k (eight t ++ eight u) → bytesOf k r ≡ handedOut k (eight t ++ eight u)
+  unfolding eight
+  word-handed j r e h q =
+      ap (bytesOf k) (q ∙ sym (word-law t u k j e h))
+      ∙ sym
+      (handed
+      ∙ ap (λ (l : List ℕ). take k (l ++ bytesOf 8 u)) (split j k 8 t e)
+      ∙ ap (take k) (append-assoc (bytesOf k (t / 256 ^ j)) (bytesOf j t) (bytesOf 8 u))
+      ∙ take-at (bytesOf k (t / 256 ^ j)) (bytesOf j t ++ bytesOf 8 u) k (length-bytes k (t / 256 ^ j)))
 
-  pub convert-law : paste (paste s 0 (bytesOf 4 r) 4) 12 (bytesOf 4 0) 4 ≡ converted s r
-  convert-law = spelled (λ (l : List ℕ). paste (paste l 0 (bytesOf 4 r) 4) 12 (bytesOf 4 0) 4 ≡ converted l r) s h refl
+pub eight-handed : (t u : ℕ) → eight t ≡ handedOut 8 (eight t ++ eight u)
+unfolding eight
+eight-handed t u = refl
 
-  pub widen-law : converted (paste s 4 (drop 2 s) 8) r ≡ widened s r
-  widen-law = spelled (λ (l : List ℕ). converted (paste l 4 (drop 2 l) 8) r ≡ widened l r) s h refl
+-- k bytes popped to a place, and what is left of n behind them
+pub pop-step : (b s₁ s₂ room room₁ room₂ : List ℕ) (at k n : ℕ) → at + k ≤ n → n ≤ length room
+    → s₁ ≡ poppedAll k b → room₁ ≡ paste room at (handedOut k b) k
+    → (s₂ ≡ poppedAll (n - (at + k)) s₁) × (room₂ ≡ paste room₁ (at + k) (handedOut (n - (at + k)) s₁) (n - (at + k)))
+    → (s₂ ≡ poppedAll (n - at) b) × (room₂ ≡ paste room at (handedOut (n - at) b) (n - at))
+pop-step b s₁ s₂ room room₁ room₂ at k n h f p q e =
+    let m = n - (at + k) in
+    let z : k + m ≡ n - at = omega arith in
+    let g : at + k ≤ length room = omega arith in
+    let o = pop-on b room at k m g in (
+      e .0 ∙ ap (poppedAll m) p ∙ o .0 ∙ ap (λ (x : ℕ). poppedAll x b) z,
+      e .1 ∙ ap₂ (λ (r l : List ℕ). paste r (at + k) (handedOut m l) m) q p ∙ o .1 ∙ ap (λ (x : ℕ). paste room at (handedOut x b) x) z,
+    )
 
-  pub narrow-law : paste (paste (paste (paste s 2 (drop 4 s) 8) 0 (bytesOf 2 r) 2) 10 (bytesOf 2 0) 2) 12 (bytesOf 4 0) 4 ≡ narrowed s r
-  narrow-law =
-      spelled (λ (l : List ℕ). paste (paste (paste (paste l 2 (drop 4 l) 8) 0 (bytesOf 2 r) 2) 10 (bytesOf 2 0) 2) 12 (bytesOf 4 0) 4 ≡ narrowed l r) s h refl
+-- one byte stored, the last
+pub pop-one : (b room : List ℕ) (at n v : ℕ) → at < n → n ≤ at + 1 → n ≤ length room → v ≡ topByte b
+    → (rotated 1 b ≡ poppedAll (n - at) b) × (set room at v ≡ paste room at (handedOut (n - at) b) (n - at))
+pop-one b room at n v h m f e =
+    let z : 1 ≡ n - at = omega arith in
+    let g : at < length room = omega arith in (
+      ap (λ (x : ℕ). poppedAll x b) z,
+      set-split room at v g
+          ∙ ap₂ (λ (x y : ℕ). take at room ++ (x ∷ drop y room)) e (sym (add-one at))
+          ∙ sym (append-assoc (take at room) (topByte b ∷ []) (drop (at + 1) room))
+          ∙ ap (λ (x : ℕ). paste room at (handedOut x b) x) z,
+    )
 
--- the top byte gone and two zeros at the bottom
-pub realign-law : (s : List ℕ) → length s ≡ 16 → set (set (rotated 1 s) 14 0) 15 0 ≡ take 14 (rotated 1 s) ++ zeros 2
-realign-law s h = spelled (λ (l : List ℕ). set (set (rotated 1 l) 14 0) 15 0 ≡ take 14 (rotated 1 l) ++ zeros 2) s h refl
+-- n bytes written over part of a list
+pub part-laid : (room x y : List ℕ) (i k n : ℕ) → k ≡ n → length y ≡ n → x ≡ y → take i room ++ (x ++ drop k (drop i room)) ≡ paste room i y n
+part-laid room x y i k n f h e =
+    ap (λ (m : ℕ). take i room ++ (x ++ drop m (drop i room))) f
+    ∙ ap₂ (λ (l m : List ℕ). take i room ++ (l ++ m)) (e ∙ sym (take-all n y (omega (arith, h)))) (drop-drop n i room)
+    ∙ sym (append-assoc (take i room) (take n y) (drop (i + n) room))

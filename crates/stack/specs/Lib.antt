@@ -1,3 +1,4 @@
--- The stack: its words, and the layouts that events and commands leave.
+-- The stack: its words, the layouts that events and commands leave, and how two machine words stand for it.
 pub mod Stack
+pub mod Words
 pub mod Diagrams

@@ -16,7 +16,7 @@ use Rattle.terms.specs.Settings.{Settings}
 use Rattle.chip.specs.Step.{given}
 use Rattle.stack.specs.Stack.{Bytes}
 use Rattle.stack.proofs.Words.{bytes-append, bytes-take, byte-at}
-use Rattle.chip.specs.declared.State.{State}
+use Rattle.chip.specs.State.{State}
 use Rattle.memory.specs.declared.Memory.{Memory}
 use Rattle.memory.specs.Memory.{Card, cardWith, emptyMemory}
 use Rattle.memory.proofs.Good.{ReadyCard, memory-cases}

@@ -1,5 +1,5 @@
 -- The bytes of a state and of a report as code lays them: three stores behind the stack, two behind them; one store and four bytes for each count. Assumes nothing.
-use mathlib.Core.Path.{_≡_, sym, ap, _∙_}
+use mathlib.Core.Path.{_≡_, refl, sym, ap, ap₂, _∙_}
 use mathlib.Core.Logic.{⊎-elim}
 use mathlib.Core.Bool.{Bool}
 use mathlib.Core.List.{List, [], _∷_, _++_, append-nil}
@@ -7,10 +7,10 @@ use Prim.Native.Nat.{ℕ, _+_, _≤_}
 use native.Mathlib.Omega.{arith}
 use lib.ListN.{length, take, drop, set, getD, length-append, length-drop, take-append-drop, drop-of-length-le}
 use borrow.Author.Tests.{eq-eqb, ne-eqb}
-use lib.Seq.{length-take-le, drop-cons, take-at, sets, sets-eq}
+use lib.Seq.{length-take-le, drop-cons, drop-drop, drop-at, take-at, sets, sets-eq}
 use Rattle.little.specs.Little.{le4}
-use Rattle.chip.specs.declared.State.{State}
-use Rattle.chip.specs.Place.{held}
+use Rattle.chip.specs.State.{State}
+use Rattle.chip.specs.Held.{held}
 use Rattle.memory.specs.declared.Memory.{Memory}
 use Rattle.stored.specs.Bytes.{Sized, memoryIn, flagOf, stateBytesOf, memoryBytesOf, laid, reportOf}
 use Rattle.stored.proofs.States.{least}
@@ -22,15 +22,14 @@ memory-behind l h =
     (λ b. rw (ne-eqb (length l) 19 (λ a. omega arith))
     (drop-cons l 19 0 (omega arith) ∙ ap (λ (t : List ℕ). getD l 19 0 ∷ t) (drop-cons l 20 0 (omega arith) ∙ ap (λ (t : List ℕ). getD l 20 0 ∷ t) (drop-of-length-le l {i = 21} (omega arith))))) h
 
-pub as-it-stood : (l : List ℕ) → Sized l → l ≡ take 19 l ++ memoryBytesOf (length l) (memoryIn l)
-as-it-stood l h = sym (take-append-drop 19 l) ∙ ap (λ (t : List ℕ). take 19 l ++ t) (memory-behind l h)
-
--- three bytes behind the stack stored
-pub flags-laid : (l : List ℕ) (pending : Bool) (status : ℕ) (service : Bool) {p v : ℕ} → Sized l → p ≡ flagOf pending → v ≡ flagOf service
-    → sets l 16 (p ∷ status ∷ v ∷ []) ≡ laid (length l) (held (take 16 l) pending status service) (memoryIn l)
-flags-laid l pending status service {p} {v} h ep ev =
-    sets-eq (p ∷ status ∷ v ∷ []) l 16 (least l h)
-    ∙ ap (λ (t : List ℕ). take 16 l ++ (p ∷ status ∷ v ∷ []) ++ t) (memory-behind l h)
+-- 16 bytes and three behind them stored
+pub chip-laid : (l x : List ℕ) (pending : Bool) (status : ℕ) (service : Bool) {p v : ℕ} → Sized l → length x ≡ 16 → p ≡ flagOf pending → v ≡ flagOf service
+    → sets (x ++ drop 16 l) 16 (p ∷ status ∷ v ∷ []) ≡ laid (length l) (held x pending status service) (memoryIn l)
+chip-laid l x pending status service {p} {v} h n ep ev =
+    let both : length (x ++ drop 16 l) ≡ length l = length-append x (drop 16 l) ∙ omega (arith, n, least l h, length-drop 16 l) in
+    let rest : drop 19 (x ++ drop 16 l) ≡ drop 19 l = sym (drop-drop 3 16 (x ++ drop 16 l)) ∙ ap (drop 3) (drop-at x (drop 16 l) 16 n) ∙ drop-drop 3 16 l in
+    sets-eq (p ∷ status ∷ v ∷ []) (x ++ drop 16 l) 16 (omega (arith, both, least l h))
+    ∙ ap₂ (λ (s t : List ℕ). s ++ (p ∷ status ∷ v ∷ []) ++ t) (take-at x (drop 16 l) 16 n) (rest ∙ memory-behind l h)
     ∙ rw (ep, ev)
 
 -- two behind them, where there are 21, or none

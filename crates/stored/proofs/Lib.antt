@@ -1,5 +1,5 @@
--- The laws of what is stored.
-pub mod Laid
+-- The laws of the stored state and of the calls on it.
 pub mod States
 pub mod Cards
-pub mod Worked
+pub mod Laid
+pub mod Calling

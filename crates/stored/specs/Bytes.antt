@@ -8,9 +8,13 @@ use lib.Dec.{eqb, ltb}
 use lib.ListN.{length, take, getD}
 use Rattle.little.specs.Little.{le4}
 use Rattle.terms.specs.Limits.{stackBytes, stateBytes, longStateBytes}
-use Rattle.terms.specs.Settings.{Settings}
-use Rattle.chip.specs.declared.State.{State}
+use Rattle.terms.specs.declared.Refusal.{Refusal}
+use Rattle.terms.specs.declared.Refusal.the-variants.{Done, BadState, BadMode, BadRule}
+use Rattle.terms.specs.Settings.{Settings, isMode, isRule}
+use Rattle.chip.specs.State.{State}
+use Rattle.chip.specs.Held.{stateIn}
 use Rattle.memory.specs.declared.Memory.{Memory}
+use Rattle.memory.specs.declared.Card.{Card as Held}
 use Rattle.memory.specs.Memory.{Card, emptyMemory, isMemory}
 
 -- as many bytes as a state has: 19, or 21
@@ -44,6 +48,14 @@ memoryIn l = cond (eqb (length l) stateBytes) emptyMemory (record { bits = getD 
 abbrev pub cardIn : Settings → List ℕ → Card
 cardIn on l = record { on = on; chip = stateOf l; memory = memoryIn l }
 
+-- a struct holds the card of a state
+abbrev pub holds : Held → List ℕ → Type 0
+holds c l = (stateIn (c .chip) ≡ stateOf l) × (c .memory ≡ memoryIn l)
+
+-- the door: 16, 17, 13, or 0 where mode, rule and the state's bytes are admitted
+abbrev pub doorOf : ℕ → ℕ → List ℕ → Refusal
+doorOf mode rule state = cond (isMode mode) (cond (isRule rule) (cond (isState state) Done BadState) BadRule) BadMode
+
 -- a flag as a byte
 abbrev pub flagOf : Bool → ℕ
 flagOf set = cond set 1 0
@@ -59,6 +71,10 @@ memoryBytesOf n m = cond (eqb n stateBytes) [] (m .bits ∷ m .code ∷ [])
 -- both, of which so many were lent: "written back as 19 bytes, memory dropped"
 abbrev pub laid : ℕ → State → Memory → List ℕ
 laid n s m = stateBytesOf s ++ memoryBytesOf n m
+
+-- the bytes of a state with another memory
+abbrev pub withMemory : List ℕ → Memory → List ℕ
+withMemory l m = take stateBytes l ++ memoryBytesOf (length l) m
 
 -- those of a card; the settings are "not among the state's bytes"
 abbrev pub laidOut : ℕ → Card → List ℕ

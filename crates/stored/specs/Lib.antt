@@ -1,2 +1,3 @@
--- The book of what is stored: the bytes of a state and of a report.
+-- The book of what is stored: the bytes of a state and of a report, and the calls on them.
 pub mod Bytes
+pub mod Calls

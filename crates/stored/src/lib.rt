@@ -1,21 +1,26 @@
-// The state as 19 bytes, or 21 with its error memory, and the report as 9: the one place where their layout is known.
-use chip::place::Flags;
+// A stored state and the calls on it: its 19 bytes, or 21 with its error memory, and the report's 9, the one place
+// where
+// their layout is known; the door that admits a call; the run and the single event.
+pub mod calls;
+
+use chip::State;
 use little::put_word;
+use memory::Card;
 use memory::Memory;
 use memory::empty;
 use memory::is_memory;
-use memory::place::Rest;
-use terms::Mode;
-use terms::Rule;
+use stack::lent::load;
+use stack::lent::store;
+use terms::Refusal;
+use terms::is_mode;
+use terms::is_rule;
 ghost use mathlib.Core.Path.{_≡_};
-ghost use mathlib.Core.List.{_++_};
 ghost use Prim.Native.Nat.{_≤_};
-ghost use lib.ListN.{length, take};
-ghost use Rattle.terms.specs.Limits.{stackBytes, stateBytes, reportBytes};
-ghost use Rattle.chip.specs.Step.{given};
-ghost use Rattle.chip.specs.Place.{held};
-ghost use Rattle.memory.specs.Held.{cardAt};
-ghost use Rattle.stored.specs.Bytes.{Sized, isChip, isState, stateOf, memoryIn, cardIn, flagOf, memoryBytesOf, laid, laidOut, reportOf};
+ghost use lib.ListN.{length};
+ghost use Rattle.terms.specs.Limits.{stateBytes, reportBytes};
+ghost use Rattle.chip.specs.Held.{stateIn};
+ghost use Rattle.stored.specs.Bytes.{Sized, isChip, isState, stateOf, memoryIn, flagOf, laid, withMemory};
+ghost use Rattle.stored.specs.Bytes.{reportOf, doorOf, holds};
 
 // Whether the bytes behind the stack stand for a chip's: both flags 0 or 1, busy clear.
 fn is_chip(state: &[u8]) -> bool
@@ -35,7 +40,7 @@ fn is_chip(state: &[u8]) -> bool
 }
 
 // Whether the bytes stand for a state: 19 of them, or 21 with the memory's two behind.
-pub fn is_state(state: &[u8]) -> bool
+fn is_state(state: &[u8]) -> bool
     ensures { λ r. ⌜ r ≡ isState (now (state .entry)) ⌝ }
 {
     if state.len() == terms::STATE_BYTES {
@@ -50,12 +55,30 @@ pub fn is_state(state: &[u8]) -> bool
     false
 }
 
-// The chip's flags in a state's bytes.
-pub fn flags(state: &[u8]) -> Flags
-    requires { ⌜ stateBytes ≤ length (now state) ⌝ }
-    ensures { λ r. ⌜ held (take stackBytes (now (state .entry))) (r .pending) (r .status) (r .service) ≡ stateOf (now (state .entry)) ⌝ }
+// The door: 16, 17, 13, or 0 where mode, rule and the state's bytes are admitted.
+pub fn admit(mode: u32, rule: u32, state: &[u8]) -> Refusal
+    ensures { λ r. ⌜ r ≡ doorOf mode rule (now (state .entry)) ⌝ }
 {
-    Flags {
+    if !is_mode(mode) {
+        return Refusal::BadMode;
+    }
+    if !is_rule(rule) {
+        return Refusal::BadRule;
+    }
+    if !is_state(state) {
+        return Refusal::BadState;
+    }
+    Refusal::Done
+}
+
+// The chip of a state.
+pub fn chip_in(state: &[u8]) -> State
+    requires { ⌜ stateBytes ≤ length (now state) ⌝ }
+    ensures { λ r. ⌜ stateIn r ≡ stateOf (now (state .entry)) ⌝ }
+{
+    let stack = load(&state[..16]);
+    State {
+        stack,
         pending: state[16] == 1,
         status: state[17],
         service: state[18] == 1,
@@ -76,22 +99,14 @@ pub fn memory_in(state: &[u8]) -> Memory
     }
 }
 
-// What stands beside the stack in a state's bytes, and the settings.
-pub fn rest(mode: Mode, rule: Rule, state: &[u8]) -> Rest
+// Both.
+pub fn card_in(state: &[u8]) -> Card
     requires { ⌜ Sized (now state) ⌝ }
-    ensures { λ r. ⌜ cardAt (take stackBytes (now (state .entry))) r ≡ cardIn (given mode rule) (now (state .entry)) ⌝ }
+    ensures { λ r. ⌜ holds r (now (state .entry)) ⌝ }
 {
-    let m = memory_in(state);
-    let f = flags(state);
-    Rest {
-        mode,
-        rule,
-        pending: f.pending,
-        status: f.status,
-        service: f.service,
-        bits: m.bits,
-        code: m.code,
-    }
+    let chip = chip_in(state);
+    let memory = memory_in(state);
+    Card { chip, memory }
 }
 
 // A flag as a byte.
@@ -101,20 +116,23 @@ fn flag(set: bool) -> u8
     if set { 1 } else { 0 }
 }
 
-// The chip's three bytes behind the stack; all others stay.
-pub fn put_flags(state: &mut [u8], pending: bool, status: u8, service: bool)
+// The chip's 19 bytes; all others stay.
+pub fn put_chip(state: &mut [u8], chip: State)
     requires { ⌜ Sized (now state) ⌝ }
-    ensures { λ _. ⌜ now (state .exit) ≡ laid (length (now (state .entry))) (held (take stackBytes (now (state .entry))) pending status service) (memoryIn (now (state .entry))) ⌝ }
+    ensures { λ _. ⌜ now (state .exit) ≡ laid (length (now (state .entry))) (stateIn chip)
+        (memoryIn (now (state .entry))) ⌝ }
 {
-    state[16] = flag(pending);
-    state[17] = status;
-    state[18] = flag(service);
+    let stack = chip.stack;
+    store(&mut state[..16], stack);
+    state[16] = flag(chip.pending);
+    state[17] = chip.status;
+    state[18] = flag(chip.service);
 }
 
 // The memory's two bytes where the state has them; all others stay.
 pub fn put_memory(state: &mut [u8], m: Memory)
     requires { ⌜ Sized (now state) ⌝ }
-    ensures { λ _. ⌜ now (state .exit) ≡ take stateBytes (now (state .entry)) ++ memoryBytesOf (length (now (state .entry))) m ⌝ }
+    ensures { λ _. ⌜ now (state .exit) ≡ withMemory (now (state .entry)) m ⌝ }
 {
     if state.len() == terms::LONG_STATE_BYTES {
         state[19] = m.bits;
@@ -122,17 +140,13 @@ pub fn put_memory(state: &mut [u8], m: Memory)
     }
 }
 
-// The bytes behind the stack, which stays.
-pub fn put_rest(state: &mut [u8], f: Rest)
+// All bytes of a state.
+pub fn put_card(state: &mut [u8], chip: State, memory: Memory)
     requires { ⌜ Sized (now state) ⌝ }
-    ensures { λ _. ⌜ now (state .exit) ≡ laidOut (length (now (state .entry))) (cardAt (take stackBytes (now (state .entry))) f) ⌝ }
+    ensures { λ _. ⌜ now (state .exit) ≡ laid (length (now (state .entry))) (stateIn chip) memory ⌝ }
 {
-    put_flags(state, f.pending, f.status, f.service);
-    let m = Memory {
-        bits: f.bits,
-        code: f.code,
-    };
-    put_memory(state, m);
+    put_chip(state, chip);
+    put_memory(state, memory);
 }
 
 // The 9 bytes of a report.
@@ -143,4 +157,13 @@ pub fn fill_report(report: &mut [u8], refusal: u8, taken: usize, written: usize)
     report[0] = refusal;
     put_word(&mut report[1..5], taken);
     put_word(&mut report[5..9], written);
+}
+
+// The report of a call that is turned away: the refusal and two counts of 0.
+pub fn turn_away(report: &mut [u8], refusal: u8) -> u32
+    requires { ⌜ length (now report) ≡ reportBytes ⌝ }
+    ensures { λ r. ⌜ (r ≡ refusal) × (now (report .exit) ≡ reportOf refusal 0 0) ⌝ }
+{
+    fill_report(report, refusal, 0, 0);
+    refusal as u32
 }

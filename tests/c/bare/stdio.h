@@ -1,6 +1,7 @@
 /* The little of <stdio.h> that the programs here use. */
 #ifndef BARE_STDIO_H
 #define BARE_STDIO_H
+#include <stddef.h>
 #define EOF (-1)
 int printf(const char *format, ...);
 int sprintf(char *to, const char *format, ...);

@@ -3,8 +3,8 @@ use mathlib.Core.Path.{sym, ap, _∙_}
 use borrow.Author.Needs.{needs}
 use borrow.Author.Tests.{eq-eqb, ne-eqb}
 use Rattle.terms.specs.declared.Width.{Width}
-use Rattle.codes.specs.declared.Command.the-variants.{Fix, Flt}
-use Rattle.codes.specs.declared.Kind.the-variants.{Known}
+use Rattle.codes.specs.Command.{Fix, Flt}
+use Rattle.codes.specs.Command.{Known}
 use Rattle.codes.proofs.Bits.{conversion-is}
 use Rattle.codes.proofs.conversion.Statement.{statement}
 use Rattle.codes.proofs.conversion.Tie as tie

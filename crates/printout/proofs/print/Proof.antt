@@ -8,7 +8,7 @@ use Rattle.printout.proofs.print.Tie as tie
 
 returns : tie.Need-returns
 returns c =
-    let r = c .before .before .before .before .before .before .before .pundaliket-run .ensures in
+    let r = c .before .before .before .before .before .before .before .run .ensures in
     let a = c .before .before .before .before .before .before .before .before .before .before .before .before .args in
     (c .list .ensures .0, c .list .ensures .1 ∙ of-run (a .mode) (a .rule) (now (a .input)) (r .replies-is) (r .report-is))
 

@@ -1,54 +1,62 @@
--- `sheets::run_good` meets its contract: the run where stack and sheets lie, what stands behind the stack, the report. Assumes nothing.
-use mathlib.Core.Path.{sym}
+-- `sheets::run_good` meets its contract: the run on the card that was read and on the sheets where they lie, the state and the report written. Assumes nothing.
+use mathlib.Core.Path.{sym, ap₂, subst}
+use Prim.Native.Nat.{_<_}
 use native.Mathlib.Omega.{arith}
 use lib.ListN.{length}
 use denote.Ref.{now}
-use Rattle.stored.proofs.States.{least}
-use Rattle.stored.proofs.Worked.{stack-size, still-sized, put-back}
-use Rattle.sheets.proofs.Calling.{called}
+use Rattle.chip.specs.State.{State}
+use Rattle.chip.specs.Step.{given}
+use Rattle.memory.specs.Memory.{Card, cardWith}
+use Rattle.memory.specs.Held.{cardUnder}
+use Rattle.stored.specs.Bytes.{cardIn}
+use Rattle.stored.proofs.States.{state-sized, state-ready}
+use Rattle.sheets.specs.Step.{held, runOf}
+use Rattle.sheets.specs.Held.{Ran}
+use Rattle.sheets.proofs.Calling.{called, run-small}
 use borrow.Author.Needs.{needs}
 use Rattle.sheets.proofs.run_good.Statement.{statement}
 use Rattle.sheets.proofs.run_good.Tie as tie
 
-slice-relend-prefix-run-lines : tie.Need-slice-relend-prefix-run-lines
-slice-relend-prefix-run-lines c = omega (arith, least (now (c .before .before .before .before .before .before .before .args .state)) (c .before .before .before .before .before .before .before .pre .0))
-
-slice-aggregate-run-lines : tie.Need-slice-aggregate-run-lines
-slice-aggregate-run-lines c = sym (stack-size (now (c .before .before .before .before .before .before .before .before .args .state)) (c .before .before .before .before .before .before .before .before .pre .0))
+card-in-requires : tie.Need-card-in-requires
+card-in-requires c κs = let e = c .before .before .before .before .before .before in state-sized (now (e .args .state)) (e .pre .0)
 
 run-lines-requires : tie.Need-run-lines-requires
-run-lines-requires c κs = let st = c .before .before .before .before .before .before .before .before .before .before in (stack-size (now (st .args .state)) (st .pre .0), st .pre .1)
+run-lines-requires c κs =
+    let e = c .before .before .before .before .before .before .before .before .before in
+    (subst (λ (s : State). s .status < 128) (sym (c .before .before .card-in .ensures .0)) (state-ready (now (e .args .state)) (e .pre .0)), e .pre .1)
 
-put-rest-requires : tie.Need-put-rest-requires
-put-rest-requires c κs =
-    let st = c .before .before .before .before .before .before .before .before .before .before .before .before .before .before .before .before .before .before in
-    let l = now (st .args .state) in
-    still-sized l (c .before .before .before .before .before .before .before .run-lines .last .0) (st .pre .0) (omega (arith, c .before .before .before .before .before .before .state .given, stack-size l (st .pre .0)))
+put-card-requires : tie.Need-put-card-requires
+put-card-requires c κs = let e = c .before .before .before .before .before .before .before .before .before .before .before .before .before .before .before .before .before in state-sized (now (e .args .state)) (e .pre .0)
+
+cast-fill-report : tie.Need-cast-fill-report
+cast-fill-report c =
+    let r = c .before .before .before .before .before .before .before .before .before .before .before .before in
+    let a = r .before .before .before .before .before .before .before .before .before .before .args in
+    let start = cardUnder (given (a .mode) (a .rule)) (r .before .before .before .card-in .result) in
+    omega (arith, r .run-lines .ensures .refusal-is, run-small (held start (now (a .sheets))) (now (a .input)) (length (now (a .replies))))
+
+fill-report-requires : tie.Need-fill-report-requires
+fill-report-requires c κs = c .before .before .before .before .before .before .before .before .before .before .before .before .before .before .before .before .before .before .before .before .before .before .pre .2
 
 returns : tie.Need-returns
 returns c =
-    let st = c .before .before .before .before .before .before .before .before .before .before .before .before .before .before .before .before .before .before .before .before .before .before .before .before .before .before in
-    let a = st .args in
+    let at-run = c .before .before .before .before .before .before .before .before .before .before .before .before .before .before .before .before in
+    let a = at-run .before .before .before .before .before .before .before .before .before .before .args in
+    let on = given (a .mode) (a .rule) in
     let l = now (a .state) in
-    let h = st .pre .0 in
-    let k = c .before .before .before .before .before .before .before .before .before .before .before .before .before .before .before .run-lines in
-    called (length l) _ _ _ _ _ _ _ _ _ _ _ (rw (c .before .before .before .before .before .before .before .before .before .before .before .before .before .before .before .before .before .before .before .rest .ensures) at (k .ensures))
-    (put-back l (k .last .0) h (omega (arith, c .before .before .before .before .before .before .before .before .before .before .before .before .before .before .state .given, stack-size l h)) (record { mode = a .mode; rule = a .rule; pending = k .result .pending; status = k .result .status; service = k .result .service; bits = k .result .bits; code = k .result .code }) (c .before .before .before .before .before .before .before .put-rest .ensures))
-    (c .before .before .before .fill-report .ensures)
+    let input = now (a .input) in
+    let replies = now (a .replies) in
+    let read = at-run .before .before .before .card-in .ensures in
+    let r = at-run .run-lines in
+    let o = r .result in
+    let sheets = r .last .1 .1 .1 .0 in
+    let left = r .last .1 .1 .1 .1 .1 .0 in
+    let ran = subst (λ (k : Card). Ran on (runOf (held k (now (a .sheets))) input (length replies)) o sheets input replies left) (ap₂ (cardWith on) (read .0) (read .1)) (r .ensures) in
+    called (length l) (runOf (held (cardIn on l) (now (a .sheets))) input (length replies)) (o .refusal) (cardUnder on (o .card)) (o .taken) (o .written) input replies left _ sheets _ ran
+    (c .before .before .before .before .before .before .before .before .put-card .ensures) (c .before .before .before .fill-report .ensures)
 
 pub run-good-spec : {M : Type 1} → statement M
 run-good-spec =
     tie.close
-    (tie.spec
-    (λ c κs. search needs)
-    slice-relend-prefix-run-lines
-    slice-aggregate-run-lines
-    run-lines-requires
-    put-rest-requires
-    (λ c κs. search needs)
-    (λ c. search needs)
-    (λ c. search needs)
-    (λ c. search needs)
-    (λ c. search needs)
-    (λ c. search needs)
-    returns)
+    (tie.spec card-in-requires run-lines-requires put-card-requires cast-fill-report fill-report-requires (λ c. search needs) (λ c. search needs)
+    (λ c. search needs) (λ c. search needs) (λ c. search needs) returns)

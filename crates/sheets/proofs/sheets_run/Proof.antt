@@ -1,102 +1,81 @@
--- `sheets::sheets_run` meets its contract: at each return the tests that led there say which case of `callOf` holds. Assumes nothing.
+-- `sheets::sheets_run` meets its contract: 14, turned away at the door, 13 for the sheets, 9, or run. Assumes nothing.
+use mathlib.Core.Path.{_≡_, sym, ap, _∙_}
+use Prim.Native.Nat.{ℕ}
+use borrow.Author.Tests.{not-true, not-false}
 use denote.Ref.{now}
-use borrow.Author.Tests.{leb-true, leb-false}
-use Rattle.terms.specs.declared.Refusal.the-variants.{BadState, InputTooLong, BadMode, BadRule}
-use Rattle.stored.proofs.States.{state-sized}
+use Rattle.terms.specs.declared.Refusal.the-variants.{BadState, InputTooLong}
+use Rattle.terms.specs.Refusal.{numberOf}
+use Rattle.stored.specs.Bytes.{doorOf, reportOf}
+use Rattle.stored.proofs.Calling.{Admitted, admitted}
 use Rattle.ledger.proofs.Ledgers.{is-long}
-use Rattle.files.proofs.Tests.{failed, passed}
-use Rattle.sheets.proofs.Calling.{turned-away, bad-report, bad-mode, bad-rule, bad-state, bad-sheets, too-long, good}
+use Rattle.sheets.proofs.Calling.{turned-away, bad-report, call-away, bad-sheets, too-long, good}
 use borrow.Author.Needs.{needs}
 use Rattle.sheets.proofs.sheets_run.Statement.{statement}
 use Rattle.sheets.proofs.sheets_run.Tie as tie
 
+-- the number of the door's refusal, and what it admits
+abbrev At-number : Type 0
+At-number = tie.After-number2
+
+door : (k : At-number) → let a = k .before .before .before .before .before .before .before .before .before .args in k .number2 .result ≡ numberOf (doorOf (a .mode) (a .rule) (now (a .state)))
+door k = k .number2 .ensures .0 ∙ ap numberOf (k .before .admit .ensures)
+
+goes-in : (k : At-number) → k .number2 .result ≡ 0 → let a = k .before .before .before .before .before .before .before .before .before .args in Admitted (a .mode) (a .rule) (now (a .state))
+goes-in k z = let a = k .before .before .before .before .before .before .before .before .before .args in admitted (a .mode) (a .rule) (now (a .state)) (sym (door k) ∙ z)
+
 returns : tie.Need-returns
-returns c =
-    let a = c .before .before .before .before .before .before .before .args in
-    bad-report (a .mode) (a .rule) (now (a .state)) (now (a .sheets)) (now (a .input)) (now (a .replies)) (now (a .report)) (c .before .if1 .taken) (c .number .result) (c .number .ensures .0)
+returns c = let a = c .before .before .before .before .before .before .before .args in bad-report (a .mode) (a .rule) (now (a .state)) (now (a .sheets)) (now (a .input)) (now (a .replies)) (now (a .report)) (c .before .if1 .taken) _ (c .number .ensures .0)
 
 returns-2 : tie.Need-returns-2
 returns-2 c =
-    let a = c .before .before .before .before .before .before .before .before .before .before .before .before .args in
-    let t = c .before .before .turn-away in
-    rw (bad-mode (a .mode) (a .rule) (now (a .state)) (now (a .sheets)) (now (a .input)) (now (a .replies)) (now (a .report)) (c .before .before .before .before .before .before .if1 .left) (leb-false (a .mode) 1 (failed (c .before .before .before .before .before .is-mode .result) _ (c .before .before .before .before .before .is-mode .ensures) (c .before .before .before .before .if2 .taken))))
-    (turned-away BadMode (t .result) (now (a .state)) (now (a .sheets)) (now (a .replies)) (t .last .0) (t .ensures .0) (t .ensures .1))
+    let k = c .before .before .before .before .before in
+    let a = k .before .before .before .before .before .before .before .before .before .args in
+    let t = c .before .before .turn-away .ensures in
+    rw (call-away (a .mode) (a .rule) (now (a .state)) (now (a .sheets)) (now (a .input)) (now (a .replies)) (now (a .report)) (k .before .before .before .if1 .left) (λ z. (c .before .before .before .before .if2 .taken) (door k ∙ z)))
+    (turned-away (doorOf (a .mode) (a .rule) (now (a .state))) _ (now (a .state)) (now (a .sheets)) (now (a .replies)) _ (t .0 ∙ door k) (t .1 ∙ ap (λ (n : ℕ). reportOf n 0 0) (door k)))
 
 returns-3 : tie.Need-returns-3
 returns-3 c =
-    let a = c .before .before .before .before .before .before .before .before .before .before .before .before .before .before .args in
-    let t = c .before .before .turn-away2 in
-    rw (bad-rule (a .mode) (a .rule) (now (a .state)) (now (a .sheets)) (now (a .input)) (now (a .replies)) (now (a .report)) (c .before .before .before .before .before .before .before .before .if1 .left) (leb-true (a .mode) 1 (passed (c .before .before .before .before .before .before .before .is-mode .result) _ (c .before .before .before .before .before .before .before .is-mode .ensures) (c .before .before .before .before .before .before .if2 .left))) (leb-false (a .rule) 1 (failed (c .before .before .before .before .before .is-rule .result) _ (c .before .before .before .before .before .is-rule .ensures) (c .before .before .before .before .if3 .taken))))
-    (turned-away BadRule (t .result) (now (a .state)) (now (a .sheets)) (now (a .replies)) (t .last .0) (t .ensures .0) (t .ensures .1))
+    let k = c .before .before .before .before .before .before .before .before .before in
+    let a = k .before .before .before .before .before .before .before .before .before .args in
+    let g = goes-in k (c .before .before .before .before .before .before .before .before .if2 .left) in
+    let t = c .before .before .turn-away2 .ensures in
+    let n = c .before .before .before .number3 .ensures .0 in
+    rw (bad-sheets (a .mode) (a .rule) (now (a .state)) (now (a .sheets)) (now (a .input)) (now (a .replies)) (now (a .report)) (k .before .before .before .if1 .left) (g .mode-is) (g .rule-is) (g .state-is) (sym (c .before .before .before .before .before .before .is-sheets .ensures) ∙ not-true _ (c .before .before .before .before .before .if3 .taken)))
+    (turned-away BadState _ (now (a .state)) (now (a .sheets)) (now (a .replies)) _ (t .0 ∙ n) (t .1 ∙ ap (λ (x : ℕ). reportOf x 0 0) n))
 
 returns-4 : tie.Need-returns-4
 returns-4 c =
-    let a = c .before .before .before .before .before .before .before .before .before .before .before .before .before .before .before .before .before .args in
-    let t = c .before .before .turn-away3 in
-    rw (bad-state (a .mode) (a .rule) (now (a .state)) (now (a .sheets)) (now (a .input)) (now (a .replies)) (now (a .report)) (c .before .before .before .before .before .before .before .before .before .before .before .if1 .left) (leb-true (a .mode) 1 (passed (c .before .before .before .before .before .before .before .before .before .before .is-mode .result) _ (c .before .before .before .before .before .before .before .before .before .before .is-mode .ensures) (c .before .before .before .before .before .before .before .before .before .if2 .left))) (leb-true (a .rule) 1 (passed (c .before .before .before .before .before .before .before .before .is-rule .result) _ (c .before .before .before .before .before .before .before .before .is-rule .ensures) (c .before .before .before .before .before .before .before .if3 .left))) (failed (c .before .before .before .before .before .is-state .result) _ (c .before .before .before .before .before .is-state .ensures) (c .before .before .before .before .if4 .taken)))
-    (turned-away BadState (t .result) (now (a .state)) (now (a .sheets)) (now (a .replies)) (t .last .0) (t .ensures .0) (t .ensures .1))
-
-returns-5 : tie.Need-returns-5
-returns-5 c =
-    let a = c .before .before .before .before .before .before .before .before .before .before .before .before .before .before .before .before .before .before .before .before .args in
-    let t = c .before .before .turn-away4 in
-    rw (bad-sheets (a .mode) (a .rule) (now (a .state)) (now (a .sheets)) (now (a .input)) (now (a .replies)) (now (a .report)) (c .before .before .before .before .before .before .before .before .before .before .before .before .before .before .if1 .left) (leb-true (a .mode) 1 (passed (c .before .before .before .before .before .before .before .before .before .before .before .before .before .is-mode .result) _ (c .before .before .before .before .before .before .before .before .before .before .before .before .before .is-mode .ensures) (c .before .before .before .before .before .before .before .before .before .before .before .before .if2 .left))) (leb-true (a .rule) 1 (passed (c .before .before .before .before .before .before .before .before .before .before .before .is-rule .result) _ (c .before .before .before .before .before .before .before .before .before .before .before .is-rule .ensures) (c .before .before .before .before .before .before .before .before .before .before .if3 .left))) (passed (c .before .before .before .before .before .before .before .before .is-state .result) _ (c .before .before .before .before .before .before .before .before .is-state .ensures) (c .before .before .before .before .before .before .before .if4 .left)) (failed (c .before .before .before .before .before .is-sheets .result) _ (c .before .before .before .before .before .is-sheets .ensures) (c .before .before .before .before .if5 .taken)))
-    (turned-away BadState (t .result) (now (a .state)) (now (a .sheets)) (now (a .replies)) (t .last .0) (t .ensures .0) (t .ensures .1))
-
-returns-6 : tie.Need-returns-6
-returns-6 c =
-    let a = c .before .before .before .before .before .before .before .before .before .before .before .before .before .before .before .before .before .before .before .before .before .args in
-    let t = c .before .before .turn-away5 in
-    rw (too-long (a .mode) (a .rule) (now (a .state)) (now (a .sheets)) (now (a .input)) (now (a .replies)) (now (a .report)) (c .before .before .before .before .before .before .before .before .before .before .before .before .before .before .before .if1 .left) (leb-true (a .mode) 1 (passed (c .before .before .before .before .before .before .before .before .before .before .before .before .before .before .is-mode .result) _ (c .before .before .before .before .before .before .before .before .before .before .before .before .before .before .is-mode .ensures) (c .before .before .before .before .before .before .before .before .before .before .before .before .before .if2 .left))) (leb-true (a .rule) 1 (passed (c .before .before .before .before .before .before .before .before .before .before .before .before .is-rule .result) _ (c .before .before .before .before .before .before .before .before .before .before .before .before .is-rule .ensures) (c .before .before .before .before .before .before .before .before .before .before .before .if3 .left))) (passed (c .before .before .before .before .before .before .before .before .before .is-state .result) _ (c .before .before .before .before .before .before .before .before .before .is-state .ensures) (c .before .before .before .before .before .before .before .before .if4 .left)) (passed (c .before .before .before .before .before .before .is-sheets .result) _ (c .before .before .before .before .before .before .is-sheets .ensures) (c .before .before .before .before .before .if5 .left)) (c .before .before .before .before .if6 .taken))
-    (turned-away InputTooLong (t .result) (now (a .state)) (now (a .sheets)) (now (a .replies)) (t .last .0) (t .ensures .0) (t .ensures .1))
+    let k = c .before .before .before .before .before .before .before .before .before .before in
+    let a = k .before .before .before .before .before .before .before .before .before .args in
+    let g = goes-in k (c .before .before .before .before .before .before .before .before .before .if2 .left) in
+    let t = c .before .before .turn-away3 .ensures in
+    let n = c .before .before .before .number4 .ensures .0 in
+    rw (too-long (a .mode) (a .rule) (now (a .state)) (now (a .sheets)) (now (a .input)) (now (a .replies)) (now (a .report)) (k .before .before .before .if1 .left) (g .mode-is) (g .rule-is) (g .state-is) (sym (c .before .before .before .before .before .before .before .is-sheets .ensures) ∙ not-false _ (c .before .before .before .before .before .before .if3 .left)) (c .before .before .before .before .before .if4 .taken))
+    (turned-away InputTooLong _ (now (a .state)) (now (a .sheets)) (now (a .replies)) _ (t .0 ∙ n) (t .1 ∙ ap (λ (x : ℕ). reportOf x 0 0) n))
 
 run-good-requires : tie.Need-run-good-requires
 run-good-requires c κs =
-    let a = c .before .before .before .before .before .before .before .before .before .before .before .before .before .before .before .before .before .before .before .before .before .before .before .args in
-    (state-sized (now (a .state)) (passed (c .before .before .before .before .before .before .before .before .before .before .before .is-state .result) _ (c .before .before .before .before .before .before .before .before .before .before .before .is-state .ensures) (c .before .before .before .before .before .before .before .before .before .before .if4 .left)), is-long (now (a .sheets)) (passed (c .before .before .before .before .before .before .before .before .is-sheets .result) _ (c .before .before .before .before .before .before .before .before .is-sheets .ensures) (c .before .before .before .before .before .before .before .if5 .left)), c .before .before .before .before .before .before .before .before .before .before .before .before .before .before .before .before .before .if1 .left)
+    let k = c .before .before .before .before .before .before .before .before .before .before .before in
+    let a = k .before .before .before .before .before .before .before .before .before .args in
+    (goes-in k (c .before .before .before .before .before .before .before .before .before .before .if2 .left) .state-is, is-long (now (a .sheets)) (sym (c .before .before .before .before .before .before .before .before .is-sheets .ensures) ∙ not-false _ (c .before .before .before .before .before .before .before .if3 .left)), k .before .before .before .if1 .left)
 
-returns-7 : tie.Need-returns-7
-returns-7 c =
-    let a = c .before .before .before .before .before .before .before .before .before .before .before .before .before .before .before .before .before .before .before .before .before .before .before .before .before .before .before .before .before .before .before .before .args in
-    rw (good (a .mode) (a .rule) (now (a .state)) (now (a .sheets)) (now (a .input)) (now (a .replies)) (now (a .report)) (c .before .before .before .before .before .before .before .before .before .before .before .before .before .before .before .before .before .before .before .before .before .before .before .before .before .before .if1 .left) (leb-true (a .mode) 1 (passed (c .before .before .before .before .before .before .before .before .before .before .before .before .before .before .before .before .before .before .before .before .before .before .before .before .before .is-mode .result) _ (c .before .before .before .before .before .before .before .before .before .before .before .before .before .before .before .before .before .before .before .before .before .before .before .before .before .is-mode .ensures) (c .before .before .before .before .before .before .before .before .before .before .before .before .before .before .before .before .before .before .before .before .before .before .before .before .if2 .left))) (leb-true (a .rule) 1 (passed (c .before .before .before .before .before .before .before .before .before .before .before .before .before .before .before .before .before .before .before .before .before .before .before .is-rule .result) _ (c .before .before .before .before .before .before .before .before .before .before .before .before .before .before .before .before .before .before .before .before .before .before .before .is-rule .ensures) (c .before .before .before .before .before .before .before .before .before .before .before .before .before .before .before .before .before .before .before .before .before .before .if3 .left))) (passed (c .before .before .before .before .before .before .before .before .before .before .before .before .before .before .before .before .before .before .before .before .is-state .result) _ (c .before .before .before .before .before .before .before .before .before .before .before .before .before .before .before .before .before .before .before .before .is-state .ensures) (c .before .before .before .before .before .before .before .before .before .before .before .before .before .before .before .before .before .before .before .if4 .left)) (passed (c .before .before .before .before .before .before .before .before .before .before .before .before .before .before .before .before .before .is-sheets .result) _ (c .before .before .before .before .before .before .before .before .before .before .before .before .before .before .before .before .before .is-sheets .ensures) (c .before .before .before .before .before .before .before .before .before .before .before .before .before .before .before .before .if5 .left)) (c .before .before .before .before .before .before .before .before .before .before .before .before .before .before .before .if6 .left), ← c .before .before .before .before .before .before .before .before .before .before .before .before .before .before .mode-of .ensures, ← c .before .before .before .before .before .before .before .before .before .before .before .before .before .rule-of .ensures)
-    (c .before .before .before .before .before .before .before .before .run-good .ensures)
+returns-5 : tie.Need-returns-5
+returns-5 c =
+    let k = c .before .before .before .before .before .before .before .before .before .before .before .before .before .before .before .before .before .before .before .before in
+    let a = k .before .before .before .before .before .before .before .before .before .args in
+    let g = goes-in k (c .before .before .before .before .before .before .before .before .before .before .before .before .before .before .before .before .before .before .before .if2 .left) in
+    rw (
+      good (a .mode) (a .rule) (now (a .state)) (now (a .sheets)) (now (a .input)) (now (a .replies)) (now (a .report)) (k .before .before .before .if1 .left) (g .mode-is) (g .rule-is) (g .state-is) (sym (c .before .before .before .before .before .before .before .before .before .before .before .before .before .before .before .before .before .is-sheets .ensures) ∙ not-false _ (c .before .before .before .before .before .before .before .before .before .before .before .before .before .before .before .before .if3 .left)) (c .before .before .before .before .before .before .before .before .before .before .before .before .before .before .before .if4 .left),
+      ← c .before .before .before .before .before .before .before .before .before .before .before .before .before .before .mode-of .ensures,
+      ← c .before .before .before .before .before .before .before .before .before .before .before .before .before .rule-of .ensures,
+    ) (c .before .before .before .before .before .before .before .before .run-good .ensures)
 
 pub sheets-run-spec : {M : Type 1} → statement M
 sheets-run-spec =
     tie.close
-    (tie.spec
-    (λ c κs. search needs)
-    (λ c. search needs)
-    returns
-    (λ c κs. search needs)
-    (λ c κs. search needs)
-    (λ c. search needs)
-    returns-2
-    (λ c κs. search needs)
-    (λ c κs. search needs)
-    (λ c. search needs)
-    returns-3
-    (λ c κs. search needs)
-    (λ c κs. search needs)
-    (λ c. search needs)
-    (λ c. search needs)
-    returns-4
-    (λ c κs. search needs)
-    (λ c κs. search needs)
-    (λ c. search needs)
-    (λ c. search needs)
-    (λ c. search needs)
-    returns-5
-    (λ c κs. search needs)
-    (λ c. search needs)
-    (λ c. search needs)
-    (λ c. search needs)
-    returns-6
-    (λ c κs. search needs)
-    (λ c κs. search needs)
-    run-good-requires
-    (λ c. search needs)
-    (λ c. search needs)
-    (λ c. search needs)
-    (λ c. search needs)
-    returns-7)
+    (tie.spec (λ c κs. search needs) (λ c. search needs) returns (λ c κs. search needs) (λ c κs. search needs) (λ c κs. search needs)
+    (λ c. search needs) (λ c. search needs) returns-2 (λ c κs. search needs) (λ c κs. search needs) (λ c κs. search needs) (λ c. search needs)
+    (λ c. search needs) (λ c. search needs) returns-3 (λ c κs. search needs) (λ c κs. search needs) (λ c. search needs) (λ c. search needs)
+    (λ c. search needs) returns-4 (λ c κs. search needs) (λ c κs. search needs) run-good-requires (λ c. search needs) (λ c. search needs)
+    (λ c. search needs) (λ c. search needs) returns-5)

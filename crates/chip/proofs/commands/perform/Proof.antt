@@ -1,123 +1,77 @@
--- `chip::commands::perform` meets its contract: each command does what its own row says. Assumes nothing.
+-- `chip::commands::perform` meets its contract: each kind does what its own row says. Assumes nothing.
 use mathlib.Core.Path.{refl}
-use denote.Ref.{now}
-use Rattle.chip.specs.declared.commands.Obeyed.the-variants.{Done}
-use Rattle.chip.proofs.Rows.{obeys-as}
+use lib.Dec.{lit<}
+use Rattle.stack.specs.Words.{bytesIn}
+use Rattle.codes.specs.Command.{Nop, Chsf, Flt, Pupi, fixedIn, moveIn}
+use Rattle.chip.specs.declared.commands.Obeyed.{Obeyed}
+use Rattle.chip.proofs.Held.{done-by, performs-as, fixed-proper, move-proper}
 use borrow.Author.Needs.{needs}
 use Rattle.chip.proofs.commands.perform.Statement.{statement}
 use Rattle.chip.proofs.commands.perform.Tie as tie
 
 returns : tie.Need-returns
-returns c = let a = c .before .before .before .args in obeys-as (a .rule) (now (a .s)) (now (a .s)) (Done 0) (c .enum-told .given .1) (refl, refl)
+returns c =
+    let a = c .before .before .args in
+    let o : Obeyed = record { stack = a .s; answer = 0 } in
+    performs-as (a .rule) (a .s) o (c .enum-told .given .1) (done-by (a .rule) Nop (a .s) o refl (refl, lit< tt))
 
 returns-2 : tie.Need-returns-2
-returns-2 c = let a = c .before .before .before .before .before .before .before .before .args in obeys-as (a .rule) (now (a .s)) (c .before .before .add .last .0) (Done (c .before .before .add .result)) (c .before .before .before .before .before .command .given .1) (refl, c .before .before .add .ensures)
+returns-2 c =
+    let a = c .before .before .before .before .args in
+    let k = c .before .before .kind .given .0 in
+    performs-as (a .rule) (a .s) (c .fixed-work .result) (c .before .before .kind .given .1) (done-by (a .rule) (fixedIn (k .0) (k .1 .0)) (a .s) (c .fixed-work .result) (fixed-proper (k .0) (k .1 .0) (bytesIn (a .s))) (c .fixed-work .ensures (a .rule)))
 
 returns-3 : tie.Need-returns-3
-returns-3 c = let a = c .before .before .before .before .before .before .before .before .args in obeys-as (a .rule) (now (a .s)) (c .before .before .sub .last .0) (Done (c .before .before .sub .result)) (c .before .before .before .before .before .command2 .given .1) (refl, c .before .before .sub .ensures)
+returns-3 c =
+    let a = c .before .before .before .before .args in
+    performs-as (a .rule) (a .s) (c .float-work .result) (c .before .before .kind2 .given .1) (c .float-work .ensures)
 
 returns-4 : tie.Need-returns-4
-returns-4 c = let a = c .before .before .before .before .before .before .before .before .args in obeys-as (a .rule) (now (a .s)) (c .before .before .mul .last .0) (Done (c .before .before .mul .result)) (c .before .before .before .before .before .command3 .given .1) (refl, c .before .before .mul .ensures)
+returns-4 c =
+    let a = c .before .before .before .args in
+    performs-as (a .rule) (a .s) (c .change-float .result) (c .before .enum-told2 .given .1) (done-by (a .rule) Chsf (a .s) (c .change-float .result) refl (c .change-float .ensures (a .rule)))
 
 returns-5 : tie.Need-returns-5
-returns-5 c = let a = c .before .before .before .before .before .before .before .before .args in obeys-as (a .rule) (now (a .s)) (c .before .before .muu .last .0) (Done (c .before .before .muu .result)) (c .before .before .before .before .before .command4 .given .1) (refl, c .before .before .muu .ensures)
+returns-5 c =
+    let a = c .before .before .before .before .args in
+    performs-as (a .rule) (a .s) (c .to-float .result) (c .before .before .kind3 .given .1) (done-by (a .rule) (Flt (c .before .before .kind3 .given .0 .0)) (a .s) (c .to-float .result) refl (c .to-float .ensures))
 
 returns-6 : tie.Need-returns-6
-returns-6 c = let a = c .before .before .before .before .before .before .before .before .args in obeys-as (a .rule) (now (a .s)) (c .before .before .div .last .0) (Done (c .before .before .div .result)) (c .before .before .before .before .before .command5 .given .1) (refl, c .before .before .div .ensures)
+returns-6 c =
+    let a = c .before .before .before .before .args in
+    performs-as (a .rule) (a .s) (c .to-fixed .result) (c .before .before .kind4 .given .1) (c .to-fixed .ensures)
 
 returns-7 : tie.Need-returns-7
-returns-7 c = let a = c .before .before .before .before .before .before .before .before .args in obeys-as (a .rule) (now (a .s)) (c .before .before .chs .last .0) (Done (c .before .before .chs .result)) (c .before .before .before .before .before .command6 .given .1) (refl, c .before .before .chs .ensures)
+returns-7 c =
+    let a = c .before .before .before .before .args in
+    let k = c .before .before .kind5 .given .0 in
+    performs-as (a .rule) (a .s) (c .move-word .result) (c .before .before .kind5 .given .1) (done-by (a .rule) (moveIn (k .0) (k .1 .0)) (a .s) (c .move-word .result) (move-proper (k .0) (k .1 .0) (bytesIn (a .s))) (c .move-word .ensures (a .rule)))
 
 returns-8 : tie.Need-returns-8
-returns-8 c = let a = c .before .before .before .before .before .before .before .before .args in obeys-as (a .rule) (now (a .s)) (c .before .before .float-work .last .0) (c .before .before .float-work .result) (c .before .before .before .before .before .command7 .given .1) (c .before .before .float-work .ensures)
+returns-8 c =
+    let a = c .before .before .before .args in
+    performs-as (a .rule) (a .s) (c .push-pi .result) (c .before .enum-told3 .given .1) (done-by (a .rule) Pupi (a .s) (c .push-pi .result) refl (c .push-pi .ensures))
 
 returns-9 : tie.Need-returns-9
-returns-9 c = let a = c .before .before .before .before .before .before .before .args in obeys-as (a .rule) (now (a .s)) (c .before .before .change-float .last .0) (Done (c .before .before .change-float .result)) (c .before .before .before .before .enum-told2 .given .1) (refl, c .before .before .change-float .ensures)
+returns-9 c =
+    let a = c .before .before .before .args in
+    performs-as (a .rule) (a .s) (c .take-root .result) (c .before .enum-told4 .given .1) (c .take-root .ensures)
 
 returns-10 : tie.Need-returns-10
-returns-10 c = let a = c .before .before .before .before .before .before .before .before .args in obeys-as (a .rule) (now (a .s)) (c .before .before .to-float .last .0) (Done (c .before .before .to-float .result)) (c .before .before .before .before .before .command8 .given .1) (refl, c .before .before .to-float .ensures)
+returns-10 c =
+    let a = c .before .before .before .args in
+    performs-as (a .rule) (a .s) (c .refused .result) (c .before .enum-told5 .given .1) (c .refused .ensures)
 
 returns-11 : tie.Need-returns-11
-returns-11 c = let a = c .before .before .before .before .before .before .before .before .args in obeys-as (a .rule) (now (a .s)) (c .before .before .to-fixed .last .0) (c .before .before .to-fixed .result) (c .before .before .before .before .before .command9 .given .1) (c .before .before .to-fixed .ensures (a .rule))
-
-returns-12 : tie.Need-returns-12
-returns-12 c = let a = c .before .before .before .before .before .before .before .before .args in obeys-as (a .rule) (now (a .s)) (c .before .before .copy .last .0) (Done (c .before .before .copy .result)) (c .before .before .before .before .before .command10 .given .1) (refl, c .before .before .copy .ensures)
-
-returns-13 : tie.Need-returns-13
-returns-13 c = let a = c .before .before .before .before .before .before .before .before .args in obeys-as (a .rule) (now (a .s)) (c .before .before .rotate .last .0) (Done (c .before .before .rotate .result)) (c .before .before .before .before .before .command11 .given .1) (refl, c .before .before .rotate .ensures)
-
-returns-14 : tie.Need-returns-14
-returns-14 c = let a = c .before .before .before .before .before .before .before .before .args in obeys-as (a .rule) (now (a .s)) (c .before .before .exchange .last .0) (Done (c .before .before .exchange .result)) (c .before .before .before .before .before .command12 .given .1) (refl, c .before .before .exchange .ensures)
-
-returns-15 : tie.Need-returns-15
-returns-15 c = let a = c .before .before .before .before .before .before .before .args in obeys-as (a .rule) (now (a .s)) (c .before .before .push-pi .last .0) (Done (c .before .before .push-pi .result)) (c .before .before .before .before .enum-told3 .given .1) (refl, c .before .before .push-pi .ensures)
-
-returns-16 : tie.Need-returns-16
-returns-16 c = let a = c .before .before .before .before .before .before .before .args in obeys-as (a .rule) (now (a .s)) (c .before .before .take-root .last .0) (c .before .before .take-root .result) (c .before .before .before .before .enum-told4 .given .1) (c .before .before .take-root .ensures)
+returns-11 c =
+    let a = c .before .before .before .args in
+    performs-as (a .rule) (a .s) (c .refused2 .result) (c .before .enum-told6 .given .1) (c .refused2 .ensures)
 
 pub perform-spec : {M : Type 1} → statement M
 perform-spec =
     tie.close
-    (tie.spec
-    (λ c. search needs)
-    (λ c. search needs)
-    (λ c κs. search needs)
-    (λ c. search needs)
-    (λ c κs. search needs)
-    (λ c. search needs)
-    (λ c κs. search needs)
-    (λ c. search needs)
-    (λ c κs. search needs)
-    (λ c. search needs)
-    (λ c κs. search needs)
-    (λ c. search needs)
-    (λ c κs. search needs)
-    (λ c. search needs)
-    (λ c κs. search needs)
-    (λ c. search needs)
-    (λ c κs. search needs)
-    (λ c. search needs)
-    (λ c κs. search needs)
-    (λ c. search needs)
-    (λ c κs. search needs)
-    (λ c. search needs)
-    (λ c κs. search needs)
-    (λ c. search needs)
-    (λ c κs. search needs)
-    (λ c. search needs)
-    (λ c κs. search needs)
-    (λ c. search needs)
-    (λ c κs. search needs)
-    (λ c. search needs)
-    (λ c κs. search needs)
-    returns
-    (λ c. search needs)
-    returns-2
-    (λ c. search needs)
-    returns-3
-    (λ c. search needs)
-    returns-4
-    (λ c. search needs)
-    returns-5
-    (λ c. search needs)
-    returns-6
-    (λ c. search needs)
-    returns-7
-    (λ c. search needs)
-    returns-8
-    (λ c. search needs)
-    returns-9
-    (λ c. search needs)
-    returns-10
-    (λ c. search needs)
-    returns-11
-    (λ c. search needs)
-    returns-12
-    (λ c. search needs)
-    returns-13
-    (λ c. search needs)
-    returns-14
-    (λ c. search needs)
-    returns-15
-    (λ c. search needs)
-    returns-16)
+    (tie.spec (λ c. search needs) (λ c. search needs) (λ c κs. search needs) (λ c. search needs) (λ c κs. search needs) (λ c. search needs)
+    (λ c κs. search needs) (λ c. search needs) (λ c κs. search needs) (λ c. search needs) (λ c κs. search needs) (λ c. search needs)
+    (λ c κs. search needs) (λ c. search needs) (λ c κs. search needs) (λ c. search needs) (λ c κs. search needs) (λ c. search needs)
+    (λ c κs. search needs) (λ c. search needs) (λ c κs. search needs) returns returns-2 returns-3 returns-4 returns-5 returns-6 returns-7 returns-8
+    returns-9 returns-10 returns-11)

@@ -1,9 +1,9 @@
 -- `chip::commands::push_pi` meets its contract: the row of PUPI, with the rule's pi. Assumes nothing.
-use mathlib.Core.Path.{ap, _∙_}
-use denote.Ref.{now}
+use mathlib.Core.Path.{refl, ap, _∙_}
 use Rattle.terms.specs.declared.Width.the-variants.{Double}
 use Rattle.stack.specs.Stack.{pushedWord}
 use Rattle.chip.specs.Commands.{piOf}
+use Rattle.stack.specs.Words.{bytesIn}
 use Rattle.chip.proofs.Rows.{move-row}
 use borrow.Author.Needs.{needs}
 use Rattle.chip.proofs.commands.push_pi.Statement.{statement}
@@ -11,15 +11,9 @@ use Rattle.chip.proofs.commands.push_pi.Tie as tie
 
 returns : tie.Need-returns
 returns c =
-    let a = c .before .before .before .before .before .before .before .before .args in
-    move-row Double (pushedWord (now (a .s)) (piOf (a .rule))) (c .before .before .before .before .push-word .ensures ∙ ap (pushedWord (now (a .s))) (c .before .before .before .before .before .pi-of .ensures)) (c .status-of .ensures)
+    let a = c .before .before .before .args in
+    let s = bytesIn (a .s) in
+    (c .settled .ensures .0 ∙ move-row Double (pushedWord s (piOf (a .rule))) (c .before .push-4 .ensures ∙ ap (pushedWord s) (c .before .before .pi-of .ensures)) refl, c .settled .ensures .1)
 
 pub push-pi-spec : {M : Type 1} → statement M
-push-pi-spec =
-    tie.close
-    (tie.spec
-    (λ c κs. search needs)
-    (λ c κs. search needs)
-    (λ c κs. search needs)
-    (λ c. search needs)
-    returns)
+push-pi-spec = tie.close (tie.spec (λ c κs. search needs) (λ c κs. search needs) (λ c κs. search needs) returns)

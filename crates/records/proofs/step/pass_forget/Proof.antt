@@ -1,35 +1,42 @@
--- `records::step::pass_forget` meets its contract: no room, a busy state, or nothing remembered. Assumes nothing.
-use mathlib.Core.Path.{refl}
+-- `records::step::pass_forget` meets its contract: a payload, no room, or the memory emptied. Assumes nothing.
+use mathlib.Core.Path.{refl, ap}
+use native.Mathlib.Omega.{arith}
+use borrow.Author.Tests.{lt-leb}
 use denote.Ref.{now}
-use Rattle.memory.specs.Held.{cardAt}
-use Rattle.memory.proofs.Good.{forgotten}
-use Rattle.records.specs.declared.head.Event.the-variants.{Forget}
-use Rattle.records.proofs.Turning.{no-room, away, took}
+use Rattle.terms.specs.declared.Refusal.the-variants.{Done}
+use Rattle.chip.specs.Held.{stateIn}
+use Rattle.memory.specs.Memory.{emptyMemory, cardWith}
+use Rattle.records.specs.Record.{Forget}
+use Rattle.records.proofs.Turning.{other-size, that-size, no-room, took}
 use borrow.Author.Needs.{needs}
 use Rattle.records.proofs.step.pass_forget.Statement.{statement}
 use Rattle.records.proofs.step.pass_forget.Tie as tie
 
 returns : tie.Need-returns
-returns c = λ stack file there. no-room stack (c .before .before .before .args .f) Forget file (now (c .before .before .before .args .room)) (c .stop .ensures) (c .before .if1 .taken)
+returns c =
+    let a = c .before .before .before .before .args in
+    λ on file there same. other-size on (a .card) file (now (a .room)) 0 _ Forget (c .before .if1 .taken) (c .stop .ensures)
 
 returns-2 : tie.Need-returns-2
-returns-2 c = λ stack file there. away stack (c .before .before .before .before .before .before .before .before .args .f) Forget file (now (c .before .before .before .before .before .before .before .before .args .room)) (c .before .before .before .before .if2 .taken) tt (c .before .before .turn-away .ensures .0) (c .before .before .turn-away .ensures .1) there (c .before .before .before .before .before .before .if1 .left)
+returns-2 c =
+    let a = c .before .before .before .before .before .args in
+    λ on file there same. that-size on (a .card) file (now (a .room)) 0 _ Forget (c .stop2 .result) (c .before .before .if1 .left)
+    (no-room on (a .card) file (now (a .room)) Forget (c .stop2 .ensures) (c .before .if2 .taken))
 
 returns-3 : tie.Need-returns-3
 returns-3 c =
-    let f = c .before .before .before .before .before .before .before .before .args .f in
-    λ stack file there.
-    took (cardAt stack f) Forget _ file (now (c .before .before .before .before .before .before .before .before .args .room)) (forgotten (cardAt stack f) (c .before .before .before .before .if2 .left)) refl refl refl (c .before .before .open-reply .ensures) there (c .before .before .before .before .before .before .if1 .left)
+    let entry = c .before .before .before .before .before .before .before .before .before .before .before in
+    let a = entry .args in
+    let s = stateIn (a .card .chip) in
+    let reply = c .before .before .before .before .open-reply in
+    λ on file there same.
+    let after = cardWith on s emptyMemory in
+    that-size on (a .card) file (now (a .room)) 0 _ Forget (c .finish .result) (c .before .before .before .before .before .before .before .before .if1 .left)
+    (took on (a .card) file (now (a .room)) Forget (record { refusal = Done; byte = 0; card = after }) (a .card .chip) (c .before .empty .result) (c .finish .ensures) (rw (lt-leb 128 (s .status) (entry .pre)))
+    (ap (cardWith on s) (c .before .empty .ensures)) refl refl (reply .ensures) (omega (arith, there)) (c .before .before .before .before .before .before .before .if2 .left))
 
 pub pass-forget-spec : {M : Type 1} → statement M
 pass-forget-spec =
     tie.close
-    (tie.spec
-    (λ c κs. search needs)
-    returns
-    (λ c κs. search needs)
-    (λ c. search needs)
-    returns-2
-    (λ c κs. search needs)
-    (λ c. search needs)
-    returns-3)
+    (tie.spec (λ c κs. search needs) returns (λ c κs. search needs) returns-2 (λ c κs. search needs) (λ c κs. search needs) (λ c κs. search needs)
+    (λ c. search needs) returns-3)

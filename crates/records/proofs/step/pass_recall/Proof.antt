@@ -1,54 +1,56 @@
--- `records::step::pass_recall` meets its contract: no room, a busy state, or the memory as the two bytes of data. Assumes nothing.
+-- `records::step::pass_recall` meets its contract: a payload, no room, or the memory's two bytes in the reply. Assumes nothing.
 use mathlib.Core.Path.{refl, ap, _∙_}
 use native.Mathlib.Omega.{arith}
+use borrow.Author.Tests.{lt-leb}
 use lib.Dec.{lit≤}
-use lib.ListN.{length, set, length-drop, length-set}
+use lib.ListN.{length, set, length-set, length-drop}
 use denote.Ref.{now}
-use Rattle.memory.specs.Held.{cardAt}
-use Rattle.memory.proofs.Good.{recalled}
-use Rattle.records.specs.declared.head.Event.the-variants.{Recall}
-use Rattle.records.proofs.Turning.{no-room, away, took, recall-data}
+use Rattle.terms.specs.declared.Refusal.the-variants.{Done}
+use Rattle.memory.specs.Held.{cardUnder}
+use Rattle.records.specs.Record.{Recall}
+use Rattle.records.proofs.Turning.{other-size, that-size, no-room, took, recall-data}
 use borrow.Author.Needs.{needs}
 use Rattle.records.proofs.step.pass_recall.Statement.{statement}
 use Rattle.records.proofs.step.pass_recall.Tie as tie
 
+open-reply-requires : tie.Need-open-reply-requires
+open-reply-requires c κs = (lit≤ tt, simp length-set (omega arith))
+
+same-length : tie.Need-same-length
+same-length c =
+    let a = c .before .before .before .before .before .before .before .before .before .before .before .args in
+    let room = now (a .room) in
+    let m = a .card .memory in
+    let first = set room 5 (m .bits) in
+    ap length (c .before .before .before .open-reply .ensures)
+    ∙ omega (arith, length-drop 5 (set first 6 (m .code)), length-set first 6 (m .code), length-set room 5 (m .bits), c .before .before .before .before .before .before .before .if2 .left)
+
 returns : tie.Need-returns
-returns c = λ stack file there. no-room stack (c .before .before .before .args .f) Recall file (now (c .before .before .before .args .room)) (c .stop .ensures) (c .before .if1 .taken)
+returns c =
+    let a = c .before .before .before .before .args in
+    λ on file there same. other-size on (a .card) file (now (a .room)) 0 _ Recall (c .before .if1 .taken) (c .stop .ensures)
 
 returns-2 : tie.Need-returns-2
-returns-2 c = λ stack file there. away stack (c .before .before .before .before .before .before .before .before .args .f) Recall file (now (c .before .before .before .before .before .before .before .before .args .room)) (c .before .before .before .before .if2 .taken) tt (c .before .before .turn-away .ensures .0) (c .before .before .turn-away .ensures .1) there (c .before .before .before .before .before .before .if1 .left)
-
-slice-write-room-2 : tie.Need-slice-write-room-2
-slice-write-room-2 c = simp length-set (omega (arith, c .before .before .if1 .left))
-
-open-reply-requires : tie.Need-open-reply-requires
-open-reply-requires c κs = (lit≤ tt, simp length-set (omega (arith, c .before .before .before .if1 .left)))
-
-same-length-2 : tie.Need-same-length-2
-same-length-2 c =
-    let room = now (c .before .before .before .before .before .before .before .before .args .room) in
-    let f = c .before .before .before .before .before .before .before .before .args .f in
-    let one = set room 5 (f .bits) in
-    ap length (c .before .before .open-reply .ensures) ∙ omega (arith, length-drop 5 (set one 6 (f .code)), length-set one 6 (f .code), length-set room 5 (f .bits), c .before .before .before .before .before .before .if1 .left)
+returns-2 c =
+    let a = c .before .before .before .before .before .args in
+    λ on file there same. that-size on (a .card) file (now (a .room)) 0 _ Recall (c .stop2 .result) (c .before .before .if1 .left)
+    (no-room on (a .card) file (now (a .room)) Recall (c .stop2 .ensures) (c .before .if2 .taken))
 
 returns-3 : tie.Need-returns-3
 returns-3 c =
-    let f = c .before .before .before .before .before .before .before .before .args .f in
-    let room = now (c .before .before .before .before .before .before .before .before .args .room) in
-    λ stack file there.
-    took (cardAt stack f) Recall _ file room (recalled (cardAt stack f) (c .before .before .before .before .if2 .left)) refl refl (recall-data (cardAt stack f) room (c .before .before .before .before .if2 .left) (c .before .before .before .before .before .before .if1 .left)) (c .before .before .open-reply .ensures) there (c .before .before .before .before .before .before .if1 .left)
+    let entry = c .before .before .before .before .before .before .before .before .before .before .before in
+    let a = entry .args in
+    let room = now (a .room) in
+    let fits = c .before .before .before .before .before .before .before .if2 .left in
+    let reply = c .before .before .before .open-reply in
+    λ on file there same.
+    let k = cardUnder on (a .card) in
+    that-size on (a .card) file room 0 _ Recall (c .finish .result) (c .before .before .before .before .before .before .before .before .if1 .left)
+    (took on (a .card) file room Recall (record { refusal = Done; byte = a .card .memory .bits; card = k }) (a .card .chip) (a .card .memory) (c .finish .ensures) (rw (lt-leb 128 (a .card .chip .status) (entry .pre))) refl refl
+    (recall-data k room (entry .pre) fits) (reply .ensures) (omega (arith, there)) fits)
 
 pub pass-recall-spec : {M : Type 1} → statement M
 pass-recall-spec =
     tie.close
-    (tie.spec
-    (λ c κs. search needs)
-    returns
-    (λ c κs. search needs)
-    (λ c. search needs)
-    returns-2
-    (λ c. search needs)
-    slice-write-room-2
-    open-reply-requires
-    same-length-2
-    returns-3)
+    (tie.spec (λ c κs. search needs) returns (λ c κs. search needs) returns-2 (λ c. search needs) (λ c. search needs) open-reply-requires
+    (λ c κs. search needs) same-length returns-3)

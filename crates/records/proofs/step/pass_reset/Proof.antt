@@ -1,45 +1,48 @@
--- `records::step::pass_reset` meets its contract: no room, a busy state, or the state of a reset. Assumes nothing.
-use mathlib.Core.Path.{refl, ap}
+-- `records::step::pass_reset` meets its contract: a payload, no room, or the reset of the mode, which empties the memory. Assumes nothing.
+use mathlib.Core.Path.{refl, sym, ap, _∙_}
+use native.Mathlib.Omega.{arith}
 use denote.Ref.{now}
-use Rattle.chip.specs.declared.Event.the-variants.{Reset as ResetEvent}
-use Rattle.chip.specs.Step.{done}
-use Rattle.chip.specs.Place.{held}
-use Rattle.chip.proofs.InPlace.{reset-one}
-use Rattle.memory.specs.Memory.{cardWith, answerWith}
-use Rattle.memory.specs.Held.{settingsAt, cardAt}
-use Rattle.records.specs.declared.head.Event.the-variants.{Reset}
-use Rattle.records.proofs.Turning.{memoryAt, no-room, away, took}
+use Rattle.chip.specs.State.{Answer}
+use Rattle.chip.specs.Event.{Reset as ResetEvent}
+use Rattle.chip.specs.Step.{given}
+use Rattle.chip.specs.Held.{stateIn, answerIn}
+use Rattle.chip.proofs.Held.{reset-done}
+use Rattle.memory.specs.Memory.{cardWith, keptAfter, answerWith}
+use Rattle.records.specs.Record.{Reset}
+use Rattle.records.proofs.Turning.{other-size, that-size, no-room, took}
 use borrow.Author.Needs.{needs}
 use Rattle.records.proofs.step.pass_reset.Statement.{statement}
 use Rattle.records.proofs.step.pass_reset.Tie as tie
 
 returns : tie.Need-returns
-returns c = λ file there. no-room (now (c .before .before .before .before .args .stack)) (c .before .before .before .before .args .f) Reset file (now (c .before .before .before .before .args .room)) (c .stop .ensures) (c .before .if1 .taken)
+returns c =
+    let a = c .before .before .before .before .args in
+    λ rule file there same. other-size (given (a .mode) rule) (a .card) file (now (a .room)) 0 _ Reset (c .before .if1 .taken) (c .stop .ensures)
 
 returns-2 : tie.Need-returns-2
-returns-2 c = λ file there. away (now (c .before .before .before .before .before .before .before .before .before .args .stack)) (c .before .before .before .before .before .before .before .before .before .args .f) Reset file (now (c .before .before .before .before .before .before .before .before .before .args .room)) (c .before .before .before .before .if2 .taken) tt (c .before .before .turn-away .ensures .0) (c .before .before .turn-away .ensures .1) there (c .before .before .before .before .before .before .if1 .left)
+returns-2 c =
+    let a = c .before .before .before .before .before .args in
+    λ rule file there same. that-size (given (a .mode) rule) (a .card) file (now (a .room)) 0 _ Reset (c .stop2 .result) (c .before .before .if1 .left)
+    (no-room (given (a .mode) rule) (a .card) file (now (a .room)) Reset (c .stop2 .ensures) (c .before .if2 .taken))
 
 returns-3 : tie.Need-returns-3
 returns-3 c =
-    let a = c .before .before .before .before .before .before .before .before .before .before .before .before .before .before .args in
-    let k = c .before .before .before .before .before .before .before .reset in
-    let after = held (k .last .0) (k .result .pending) (k .result .status) (k .result .service) in
-    λ file there. took (cardAt (now (a .stack)) (a .f)) Reset (answerWith (settingsAt (a .f)) (memoryAt (a .f)) ResetEvent (done 0 after)) file (now (a .room))
-    (ap (answerWith (settingsAt (a .f)) (memoryAt (a .f)) ResetEvent) (reset-one (now (a .stack)) (a .f .pending) (a .f .status) (a .f .service) (c .before .before .before .before .before .before .before .before .before .if2 .left) (a .f .mode) (k .ensures)))
-    (ap (cardWith (settingsAt (a .f)) after) (c .before .before .before .before .empty .ensures)) refl refl (c .before .before .open-reply .ensures) there (c .before .before .before .before .before .before .before .before .before .before .before .if1 .left)
+    let at-event = c .before .before .before .before .before .before .before .before in
+    let entry = at-event .before .before .before .before .before .before in
+    let a = entry .args in
+    let e = at-event .reset in
+    let s = stateIn (a .card .chip) in
+    let m = a .card .memory in
+    let reply = c .before .before .before .before .open-reply in
+    let empties = c .before .empty .ensures ∙ ap (λ (x : Answer). keptAfter m ResetEvent x) (sym (e .ensures ∙ reset-done s (entry .pre) (a .mode))) in
+    λ rule file there same.
+    let on = given (a .mode) rule in
+    that-size on (a .card) file (now (a .room)) 0 _ Reset (c .finish .result) (at-event .before .before .before .if1 .left)
+    (took on (a .card) file (now (a .room)) Reset (answerWith on m ResetEvent (answerIn (e .result))) (e .result .state) (c .before .empty .result) (c .finish .ensures) (ap (answerWith on m ResetEvent) (e .ensures))
+    (ap (cardWith on (stateIn (e .result .state))) empties) (c .before .before .before .before .before .number .ensures .0) refl (reply .ensures) (omega (arith, there)) (at-event .before .before .if2 .left))
 
 pub pass-reset-spec : {M : Type 1} → statement M
 pass-reset-spec =
     tie.close
-    (tie.spec
-    (λ c κs. search needs)
-    returns
-    (λ c κs. search needs)
-    (λ c. search needs)
-    returns-2
-    (λ c κs. search needs)
-    (λ c κs. search needs)
-    (λ c κs. search needs)
-    (λ c. search needs)
-    (λ c. search needs)
-    returns-3)
+    (tie.spec (λ c κs. search needs) returns (λ c κs. search needs) returns-2 (λ c κs. search needs) (λ c κs. search needs) (λ c κs. search needs)
+    (λ c κs. search needs) (λ c κs. search needs) (λ c. search needs) returns-3)

@@ -4,7 +4,8 @@ use native.Mathlib.Omega.{arith}
 use lib.ListN.{length}
 use denote.Ref.{now}
 use Rattle.little.specs.Little.{wordAt}
-use Rattle.memory.specs.Held.{cardAt}
+use Rattle.chip.specs.Step.{given}
+use Rattle.memory.specs.Held.{cardUnder}
 use Rattle.records.specs.Record.{turnOf}
 use Rattle.sheets.specs.Step.{held}
 use Rattle.sheets.proofs.Lines.{core-took}
@@ -15,60 +16,46 @@ use Rattle.sheets.proofs.step.pass_core.Tie as tie
 
 returns : tie.Need-returns
 returns c =
-    let a = c .before .before .before .before .before .before .before .before .before .before .before .before .args in
-    let k = cardAt (now (a .stack)) (a .f) in
-    let r = c .before .before .before .before .before .pass-record in
-    let t = turnOf k (now (a .rest)) (length (now (a .room))) in
-    core-turns (held k (now (a .sheets))) (wordAt (now (a .rest)) 2) t _ _ _ _ _ _ _ _ (r .ensures)
-    (refused-keeps (now (a .sheets)) (wordAt (now (a .rest)) 2) (t .refusal) (λ z. c .if1 .taken (r .ensures .refusal-is ∙ z)))
+    let at-record = c .before .before .before in
+    let a = at-record .before .before .before .before .before .args in
+    let on = given (a .mode) (a .rule) in
+    let l = now (a .rest) in
+    let r = at-record .pass-record in
+    let t = turnOf (cardUnder on (a .card)) l (length (now (a .room))) in
+    core-turns (held (cardUnder on (a .card)) (now (a .sheets))) (wordAt l 2) t _ _ _ _ _ _ _ _ (r .ensures) (refused-keeps (now (a .sheets)) (wordAt l 2) (t .refusal) (λ z. c .if1 .taken (r .ensures .refusal-is ∙ z)))
 
 returns-2 : tie.Need-returns-2
 returns-2 c =
-    let a = c .before .before .before .before .before .before .before .before .before .before .before .before .before .args in
-    let r = c .before .before .before .before .before .before .pass-record in
-    let z = sym (r .ensures .refusal-is) ∙ c .before .if1 .left in
-    let k = core-took (cardAt (now (a .stack)) (a .f)) (now (a .rest)) (length (now (a .room))) z .four in
+    let at-record = c .before .before .before .before in
+    let a = at-record .before .before .before .before .before .args in
+    let r = at-record .pass-record in
+    let k = core-took (cardUnder (given (a .mode) (a .rule)) (a .card)) (now (a .rest)) (length (now (a .room))) (sym (r .ensures .refusal-is) ∙ c .before .if1 .left) .four in
     let y : ⊥ = omega (arith, r .ensures .within, r .ensures .size-is) in
     absurd y
 
 returns-3 : tie.Need-returns-3
 returns-3 c =
-    let a = c .before .before .before .before .before .before .before .before .before .before .before .before .before .before .before .before .before .args in
-    let k = cardAt (now (a .stack)) (a .f) in
-    let r = c .before .before .before .before .before .before .before .before .before .before .pass-record in
-    let t = turnOf k (now (a .rest)) (length (now (a .room))) in
-    core-turns (held k (now (a .sheets))) (wordAt (now (a .rest)) 2) t _ _ _ _ _ _ _ _ (r .ensures)
-    (other-keeps (now (a .sheets)) (wordAt (now (a .rest)) 2) (t .refusal) (λ z. c .if3 .taken (c .before .word .ensures ∙ z)))
+    let at-record = c .before .before .before .before .before .before .before .before in
+    let a = at-record .before .before .before .before .before .args in
+    let on = given (a .mode) (a .rule) in
+    let l = now (a .rest) in
+    let r = at-record .pass-record in
+    let t = turnOf (cardUnder on (a .card)) l (length (now (a .room))) in
+    core-turns (held (cardUnder on (a .card)) (now (a .sheets))) (wordAt l 2) t _ _ _ _ _ _ _ _ (r .ensures) (other-keeps (now (a .sheets)) (wordAt l 2) (t .refusal) (λ z. c .if3 .taken (c .before .word .ensures ∙ z)))
 
 returns-4 : tie.Need-returns-4
 returns-4 c =
-    let a = c .before .before .before .before .before .before .before .before .before .before .before .before .before .before .before .before .before .before .before .before .before .args in
-    let k = cardAt (now (a .stack)) (a .f) in
-    let r = c .before .before .before .before .before .before .before .before .before .before .before .before .before .before .pass-record in
-    let t = turnOf k (now (a .rest)) (length (now (a .room))) in
-    core-turns (held k (now (a .sheets))) (wordAt (now (a .rest)) 2) t _ _ _ _ _ _ _ _ (r .ensures)
-    (c .before .before .drop-open .ensures
-    ∙ reset-drops (now (a .sheets)) (wordAt (now (a .rest)) 2) (t .refusal) (sym (r .ensures .refusal-is) ∙ c .before .before .before .before .before .before .before .before .before .if1 .left) (sym (c .before .before .before .before .before .word .ensures) ∙ c .before .before .before .before .if3 .left))
+    let at-record = c .before .before .before .before .before .before .before .before .before .before .before .before in
+    let a = at-record .before .before .before .before .before .args in
+    let on = given (a .mode) (a .rule) in
+    let l = now (a .rest) in
+    let r = at-record .pass-record in
+    let t = turnOf (cardUnder on (a .card)) l (length (now (a .room))) in
+    core-turns (held (cardUnder on (a .card)) (now (a .sheets))) (wordAt l 2) t _ _ _ _ _ _ _ _ (r .ensures) (c .before .before .drop-open .ensures
+    ∙ reset-drops (now (a .sheets)) (wordAt l 2) (t .refusal) (sym (r .ensures .refusal-is) ∙ c .before .before .before .before .before .before .before .before .before .if1 .left) (sym (c .before .before .before .before .before .word .ensures) ∙ c .before .before .before .before .if3 .left))
 
 pub pass-core-spec : {M : Type 1} → statement M
 pass-core-spec =
     tie.close
-    (tie.spec
-    (λ c κs. search needs)
-    (λ c. search needs)
-    (λ c. search needs)
-    returns
-    (λ c. search needs)
-    (λ c. search needs)
-    returns-2
-    (λ c. search needs)
-    (λ c. search needs)
-    (λ c κs. search needs)
-    (λ c. search needs)
-    (λ c. search needs)
-    returns-3
-    (λ c κs. search needs)
-    (λ c. search needs)
-    (λ c. search needs)
-    (λ c. search needs)
-    returns-4)
+    (tie.spec (λ c κs. search needs) (λ c. search needs) returns (λ c. search needs) returns-2 (λ c. search needs) (λ c. search needs)
+    (λ c κs. search needs) (λ c. search needs) returns-3 (λ c κs. search needs) (λ c. search needs) (λ c. search needs) returns-4)

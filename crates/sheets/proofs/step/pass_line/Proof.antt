@@ -1,33 +1,26 @@
 -- `sheets::step::pass_line` meets its contract: a record of this library or one of the core. Assumes nothing.
 use mathlib.Core.Path.{sym, _∙_}
+use Rattle.chip.specs.Step.{given}
 use Rattle.sheets.specs.Step.{lineOf}
 use borrow.Author.Needs.{needs}
 use Rattle.sheets.proofs.step.pass_line.Statement.{statement}
 use Rattle.sheets.proofs.step.pass_line.Tie as tie
 
 pass-own-requires : tie.Need-pass-own-requires
-pass-own-requires c κs = (c .before .before .before .before .before .before .before .before .before .pre .0, c .before .before .before .before .before .before .before .before .before .pre .1, sym (c .before .before .before .before .is-own .ensures) ∙ c .before .before .before .if1 .taken)
+pass-own-requires c κs = (c .before .before .before .before .before .before .before .pre .1, sym (c .before .before .before .is-own .ensures) ∙ c .before .before .if1 .taken)
 
 returns : tie.Need-returns
 unfolding lineOf
-returns c = rw (sym (c .before .before .before .before .before .before .before .before .before .is-own .ensures) ∙ c .before .before .before .before .before .before .before .before .if1 .taken) (c .before .before .before .before .pass-own .ensures)
+returns c =
+    let a = c .before .before .before .before .before .before .before .before .before .before .before .before .args in
+    rw (sym (c .before .before .before .before .before .before .before .before .is-own .ensures) ∙ c .before .before .before .before .before .before .before .if1 .taken) (c .before .before .before .before .pass-own .ensures (given (a .mode) (a .rule)))
 
 returns-2 : tie.Need-returns-2
 unfolding lineOf
-returns-2 c = rw (sym (c .before .before .before .before .before .before .before .before .before .before .before .is-own .ensures) ∙ c .before .before .before .before .before .before .before .before .before .before .if1 .left) (c .before .before .before .before .before .before .pass-core .ensures)
+returns-2 c = rw (sym (c .before .before .before .before .before .before .before .before .is-own .ensures) ∙ c .before .before .before .before .before .before .before .if1 .left) (c .before .before .before .before .pass-core .ensures)
 
 pub pass-line-spec : {M : Type 1} → statement M
 pass-line-spec =
     tie.close
-    (tie.spec
-    (λ c κs. search needs)
-    pass-own-requires
-    (λ c. search needs)
-    (λ c. search needs)
-    (λ c. search needs)
-    returns
-    (λ c κs. search needs)
-    (λ c. search needs)
-    (λ c. search needs)
-    (λ c. search needs)
-    returns-2)
+    (tie.spec (λ c κs. search needs) pass-own-requires (λ c. search needs) (λ c. search needs) returns (λ c κs. search needs) (λ c. search needs)
+    (λ c. search needs) returns-2)

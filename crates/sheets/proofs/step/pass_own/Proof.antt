@@ -7,7 +7,7 @@ use native.Mathlib.Nat.{add-sub-cancel-left}
 use lib.ListN.{take, drop}
 use denote.Ref.{now}
 use Rattle.little.specs.Little.{wordAt, le2}
-use Rattle.memory.specs.Held.{cardAt}
+use Rattle.memory.specs.Held.{cardUnder}
 use Rattle.ledger.specs.Entering.{payloadFor}
 use Rattle.sheets.specs.Step.{held}
 use Rattle.sheets.proofs.Lines.{owns}
@@ -17,85 +17,65 @@ use Rattle.sheets.proofs.step.pass_own.Statement.{statement}
 use Rattle.sheets.proofs.step.pass_own.Tie as tie
 
 shared-slice-read-word : tie.Need-shared-slice-read-word
-shared-slice-read-word c = let o = owns (now (c .before .before .before .before .before .args .rest)) (c .before .before .before .before .before .pre .2) in omega (arith, o .there, o .in-range)
+shared-slice-read-word c = let e = c .before .before .before .before in let o = owns (now (e .args .rest)) (e .pre .1) in omega (arith, o .there, o .in-range)
 
 shared-slice-read-word-2 : tie.Need-shared-slice-read-word-2
-shared-slice-read-word-2 c = let o = owns (now (c .before .before .before .before .before .before .args .rest)) (c .before .before .before .before .before .before .pre .2) in omega (arith, o .there, o .in-range)
+shared-slice-read-word-2 c = let e = c .before .before .before .before .before in let o = owns (now (e .args .rest)) (e .pre .1) in omega (arith, o .there, o .in-range)
 
 shared-slice-read-word-3 : tie.Need-shared-slice-read-word-3
-shared-slice-read-word-3 c = let o = owns (now (c .before .before .before .before .before .before .before .before .before .args .rest)) (c .before .before .before .before .before .before .before .before .before .pre .2) in omega (arith, o .there, o .in-range)
+shared-slice-read-word-3 c = let e = c .before .before .before .before .before .before .before .before in let o = owns (now (e .args .rest)) (e .pre .1) in omega (arith, o .there, o .in-range)
 
 shared-slice-read-word-4 : tie.Need-shared-slice-read-word-4
-shared-slice-read-word-4 c = let o = owns (now (c .before .before .before .before .before .before .before .before .before .before .args .rest)) (c .before .before .before .before .before .before .before .before .before .before .pre .2) in omega (arith, o .there, o .in-range)
+shared-slice-read-word-4 c = let e = c .before .before .before .before .before .before .before .before .before in let o = owns (now (e .args .rest)) (e .pre .1) in omega (arith, o .there, o .in-range)
 
 returns : tie.Need-returns
 returns c =
-    let a = c .before .before .before .before .before .before .before .before .before .before .before .before .before .args in
-    own-bad (now (a .stack)) (a .f) (now (a .sheets)) (now (a .rest)) (now (a .room)) (c .stop .ensures)
-    (λ z. c .before .if1 .taken (c .before .before .word2 .ensures ∙ z ∙ ap (λ (k : ℕ). 2 + payloadFor k) (sym (c .before .before .before .before .before .before .word .ensures)) ∙ ap (λ (k : ℕ). 2 + k) (sym (c .before .before .before .before .before .payload-for .ensures .0))))
+    let a = c .before .before .before .before .before .before .before .before .before .before .before .before .args in
+    let at-word = c .before .before .before .before .before .before in
+    λ on. own-bad on (a .card) (now (a .sheets)) (now (a .rest)) (now (a .room)) (c .stop .ensures)
+    (λ z. c .before .if1 .taken (c .before .before .word2 .ensures ∙ z ∙ ap (λ (k : ℕ). 2 + payloadFor k) (sym (at-word .word .ensures)) ∙ ap (λ (k : ℕ). 2 + k) (sym (c .before .before .before .before .before .payload-for .ensures .0))))
 
 returns-2 : tie.Need-returns-2
 returns-2 c =
-    let a = c .before .before .before .before .before .before .before .before .before .before .before .before .before .before .args in
-    own-full (now (a .stack)) (a .f) (now (a .sheets)) (now (a .rest)) (now (a .room)) (c .stop2 .ensures)
+    let a = c .before .before .before .before .before .before .before .before .before .before .before .before .before .args in
+    λ on. own-full on (a .card) (now (a .sheets)) (now (a .rest)) (now (a .room)) (c .stop2 .ensures)
     (sym (c .before .before .before .word2 .ensures) ∙ c .before .before .if1 .left ∙ ap (λ (k : ℕ). 2 + k) (c .before .before .before .before .before .before .payload-for .ensures .0) ∙ ap (λ (k : ℕ). 2 + payloadFor k) (c .before .before .before .before .before .before .before .word .ensures)) (omega arith)
 
 part-enter-end : tie.Need-part-enter-end
 part-enter-end c =
-    let o = owns (now (c .before .before .before .before .before .before .before .before .before .before .before .before .before .before .before .args .rest)) (c .before .before .before .before .before .before .before .before .before .before .before .before .before .before .before .pre .2) in
-    omega (arith, o .there, c .before .before .before .before .word2 .ensures, c .before .before .before .if1 .left)
+    let e = c .before .before .before .before .before .before .before .before .before .before .before .before .before .before .before in
+    let o = owns (now (e .args .rest)) (e .pre .1) in
+    omega (arith, o .there, c .before .before .before .before .before .word2 .ensures, c .before .before .before .before .if1 .left)
 
 add-open-reply : tie.Need-add-open-reply
 add-open-reply c =
-    let o = owns (now (c .before .before .before .before .before .before .before .before .before .before .before .before .before .before .before .before .before .before .before .before .args .rest)) (c .before .before .before .before .before .before .before .before .before .before .before .before .before .before .before .before .before .before .before .before .pre .2) in
-    omega (arith, o .most, c .before .before .before .before .before .before .before .before .before .before .before .before .before .word .ensures)
+    let e = c .before .before .before .before .before .before .before .before .before .before .before .before .before .before .before .before .before .before .before .before in
+    let o = owns (now (e .args .rest)) (e .pre .1) in
+    omega (arith, o .most, c .before .before .before .before .before .before .before .before .before .before .before .before .before .before .word .ensures)
 
 returns-3 : tie.Need-returns-3
 returns-3 c =
-    let st = c .before .before .before .before .before .before .before .before .before .before .before .before .before .before .before .before .before .before .before .before .before .before .before .before in
+    let at-fits = c .before .before .before .before .before .before .before .before .before .before .before .before in
+    let st = at-fits .before .before .before .before .before .before .before .before .before .before .before .before in
     let a = st .args in
     let l = now (a .rest) in
-    let h = held (cardAt (now (a .stack)) (a .f)) (now (a .sheets)) in
-    let n = c .before .before .before .before .before .before .before .before .before .before .before .before .before .before .before .before .payload-for in
-    let w = c .before .before .before .before .before .before .before .before .before .before .before .before .before .before .before .before .before .word in
+    let n = at-fits .before .before .before .before .before .payload-for in
+    let w = at-fits .before .before .before .before .before .before .word in
     let m : n .result ≡ payloadFor (wordAt l 2) = n .ensures .0 ∙ ap payloadFor (w .ensures) in
     let e = c .before .before .before .before .before .before .before .enter in
     let p : take (4 + n .result - 4) (drop 4 l) ≡ take (payloadFor (wordAt l 2)) (drop 4 l) = ap (λ (k : ℕ). take k (drop 4 l)) (add-sub-cancel-left 4 (n .result) ∙ m) in
-    own-done h l (now (a .room)) _ _ (e .result) (4 + n .result) (owns l (st .pre .2))
-    (sym (c .before .before .before .before .before .before .before .before .before .before .before .before .before .word2 .ensures) ∙ c .before .before .before .before .before .before .before .before .before .before .before .before .if1 .left ∙ ap (λ (k : ℕ). 2 + k) m)
-    (c .before .before .before .before .before .before .before .before .before .before .before .if2 .left)
-    (rw (w .ensures, p, c .before .before .before .before .before .before .before .before .before .before .top-word .ensures .0) at (e .ensures))
-    (c .before .before .open-reply .ensures
-    ∙ ap (λ (k : ℕ). le2 3 ++ (le2 (k + 32768) ++ (c .before .before .before .number .result ∷ drop 5 (now (a .room))))) (w .ensures)
-    ∙ ap (λ (k : ℕ). le2 3 ++ (le2 (wordAt l 2 + 32768) ++ (k ∷ drop 5 (now (a .room))))) (c .before .before .before .number .ensures .0))
-    (ap (λ (k : ℕ). 4 + k) m)
+    let entered = rw (w .ensures, p, c .before .before .before .before .before .before .before .before .before .before .tos .ensures .0) at (e .ensures) in
+    let sized = sym (at-fits .before .before .word2 .ensures) ∙ at-fits .before .if1 .left ∙ ap (λ (k : ℕ). 2 + k) m in
+    let number = c .before .before .before .number in
+    let replied = c .before .before .open-reply .ensures
+    ∙ ap (λ (k : ℕ). le2 3 ++ (le2 (k + 32768) ++ (number .result ∷ drop 5 (now (a .room))))) (w .ensures)
+    ∙ ap (λ (k : ℕ). le2 3 ++ (le2 (wordAt l 2 + 32768) ++ (k ∷ drop 5 (now (a .room))))) (number .ensures .0) in
+    λ on. own-done (held (cardUnder on (a .card)) (now (a .sheets))) l (now (a .room)) _ _ (e .result) (4 + n .result) (owns l (st .pre .1)) sized (at-fits .if2 .left) entered replied (ap (λ (k : ℕ). 4 + k) m)
 
 pub pass-own-spec : {M : Type 1} → statement M
 pass-own-spec =
     tie.close
-    (tie.spec
-    shared-slice-read-word
-    shared-slice-read-word-2
-    (λ c κs. search needs)
-    (λ c κs. search needs)
-    shared-slice-read-word-3
-    shared-slice-read-word-4
-    (λ c κs. search needs)
-    (λ c. search needs)
-    (λ c. search needs)
-    (λ c κs. search needs)
-    returns
-    (λ c κs. search needs)
-    returns-2
-    (λ c. search needs)
-    (λ c κs. search needs)
-    (λ c. search needs)
-    (λ c. search needs)
-    part-enter-end
-    (λ c κs. search needs)
-    add-open-reply
-    (λ c κs. search needs)
-    (λ c κs. search needs)
-    (λ c. search needs)
-    (λ c. search needs)
-    returns-3)
+    (tie.spec shared-slice-read-word shared-slice-read-word-2 (λ c κs. search needs) (λ c κs. search needs) shared-slice-read-word-3
+    shared-slice-read-word-4 (λ c κs. search needs) (λ c. search needs) (λ c. search needs) (λ c κs. search needs) returns (λ c κs. search needs)
+    returns-2 (λ c. search needs) (λ c κs. search needs) (λ c. search needs) (λ c. search needs) part-enter-end (λ c κs. search needs) add-open-reply
+    (λ c κs. search needs) (λ c κs. search needs) (λ c. search needs) (λ c. search needs) returns-3)

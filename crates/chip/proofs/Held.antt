@@ -1,0 +1,141 @@
+-- What the program's state answers is what the state of document 01 does: bytes at once turn pending once for each, a busy state is handed back, and a code is answered by what became of it on the stack. Assumes nothing.
+use mathlib.Core.Path.{_≡_, refl, sym, ap, subst, _∙_}
+use mathlib.Core.Logic.{inl, inr, ⊎-elim}
+use mathlib.Core.Bool.{Bool, true, false, not, cond}
+use mathlib.Core.List.{List}
+use Prim.Native.Nat.{ℕ, zero, suc, _*_, _/_, _%_, _≤_, _<_}
+use native.Mathlib.Omega.{arith}
+use borrow.Author.Tests.{lt-leb, le-leb, lt-ltb, le-ltb}
+use lib.Dec.{ltb}
+use Rattle.terms.specs.declared.Mode.{Mode}
+use Rattle.terms.specs.declared.Mode.the-variants.{Am9511A, Am9511}
+use Rattle.terms.specs.Settings.{Settings}
+use Rattle.terms.specs.declared.Rule.{Rule}
+use Rattle.terms.specs.declared.Refusal.the-variants.{UnknownCode, DerivedCode, HalfWord, Improper, BadState}
+use Rattle.terms.specs.declared.Width.{Width}
+use Rattle.terms.specs.Refusal.{numberOf}
+use Rattle.stack.specs.declared.Stack.{Stack}
+use Rattle.stack.specs.Words.{bytesIn}
+use Rattle.codes.specs.declared.Kind.{Kind as Coded}
+use Rattle.codes.specs.declared.FixedOp.{FixedOp}
+use Rattle.codes.specs.declared.FixedOp.the-variants.{Add as AddOp, Sub as SubOp, Mul as MulOp, Muu as MuuOp, Div as DivOp, Chs as ChsOp}
+use Rattle.codes.specs.declared.MoveOp.{MoveOp}
+use Rattle.codes.specs.declared.MoveOp.the-variants.{Pto as PtoOp, Pop as PopOp, Xch as XchOp}
+use Rattle.codes.specs.Command.{Command, Kind, Known, Derived, Unknown, fixedIn, moveIn, kindIn}
+use Rattle.codes.specs.Codes.{sr, decoded}
+use Rattle.chip.specs.State.{State, Answer, left, afterReset, acknowledged, settled}
+use Rattle.chip.specs.Event.{Event, Push, Pop, Command as CommandEvent, Status, Reset, Acknowledge}
+use Rattle.chip.specs.declared.commands.Obeyed.{Obeyed}
+use Rattle.chip.specs.Commands.{outcomeOf, properOperands}
+use Rattle.chip.specs.Step.{done, refused, pushOf, popOf, resetOf, acknowledgeOf, readOf, carried, commandUnder, answerTo}
+use Rattle.chip.specs.Held.{held, flipped, Settles, SettlesEither, Obeys, Performs, halfWord, refusalOf, answerAs, Commanded}
+use Rattle.chip.proofs.Answers.{carried-half, carried-improper, carried-done, command-by}
+use Rattle.chip.proofs.InTurn.{turned}
+
+-- pending by the parity of the bytes is pending turned once for each
+pub flips : (n : ℕ) (p : Bool) → flipped n p ≡ turned n p
+flips zero p = refl
+flips (suc zero) p = refl
+flips (suc (suc n)) p =
+    let e : suc (suc n) % 2 ≡ n % 2 = omega arith in
+    rw e (flips n p ∙ ap (turned n) (twice p))
+  where
+    twice : (q : Bool) → q ≡ not (not q)
+    twice true = refl
+    twice false = refl
+
+-- ---- events of a state that is not busy
+module _ (s : State) (h : s .status < 128) where
+  pub read-done : readOf s ≡ done (s .status) s
+  unfolding readOf
+  read-done = rw (lt-leb 128 (s .status) h)
+
+  pub reset-done : (mode : Mode) → resetOf mode s ≡ done 0 (afterReset mode s)
+  unfolding resetOf
+  reset-done mode = rw (lt-leb 128 (s .status) h)
+
+  pub acknowledge-done : acknowledgeOf s ≡ done 0 (acknowledged s)
+  unfolding acknowledgeOf
+  acknowledge-done = rw (lt-leb 128 (s .status) h)
+
+-- what a reset leaves beside the stack
+pub reset-held : (mode : Mode) (s : State) {stack : List ℕ} → stack ≡ afterReset mode s .stack → held stack false 0 false ≡ afterReset mode s
+reset-held Am9511A s e = ap (λ (l : List ℕ). held l false 0 false) e
+reset-held Am9511 s e = ap (λ (l : List ℕ). held l false 0 false) e
+
+-- a busy state is handed back by every event
+pub busy-event : (on : Settings) (s : State) (e : Event) → 128 ≤ s .status → refused BadState s ≡ answerTo on s e
+unfolding pushOf popOf resetOf acknowledgeOf readOf commandUnder
+busy-event on s (Push b) h = rw (le-leb 128 (s .status) h)
+busy-event on s Pop h = rw (le-leb 128 (s .status) h)
+busy-event on s (CommandEvent code) h = rw (le-leb 128 (s .status) h)
+busy-event on s Status h = rw (le-leb 128 (s .status) h)
+busy-event on s Reset h = rw (le-leb 128 (s .status) h)
+busy-event on s Acknowledge h = rw (le-leb 128 (s .status) h)
+
+-- ---- a code
+module _ (rule : Rule) (command : Command) (stack : Stack) (o : Obeyed) where
+  pub done-by : properOperands command (bytesIn stack) ≡ true → Settles (outcomeOf rule command (bytesIn stack)) o → Obeys rule command stack o
+  done-by p e = inl (p, e)
+
+  pub refused-by : properOperands command (bytesIn stack) ≡ false → o .answer ≡ numberOf Improper * 256 → Obeys rule command stack o
+  refused-by p e = inr (p, e)
+
+module _ (s : State) (code : ℕ) (o : Obeyed) where
+  pub as-done : o .answer < 256 → answerAs s code o ≡ done 0 (settled s (sr code) (left (bytesIn (o .stack)) (o .answer)))
+  as-done h = rw (lt-ltb (o .answer) 256 h)
+
+  pub as-refused : 256 ≤ o .answer → answerAs s code o ≡ refused (refusalOf (o .answer / 256)) s
+  as-refused h = rw (le-ltb (o .answer) 256 h)
+
+  as-number : (n : ℕ) → o .answer ≡ n → answerAs s code o ≡ cond (ltb n 256) (done 0 (settled s (sr code) (left (bytesIn (o .stack)) n))) (refused (refusalOf (n / 256)) s)
+  as-number n e = ap (λ (x : ℕ). cond (ltb x 256) (done 0 (settled s (sr code) (left (bytesIn (o .stack)) x))) (refused (refusalOf (x / 256)) s)) e
+
+  known-one : (rule : Rule) (command : Command) (stack : Stack) → s .stack ≡ bytesIn stack → s .pending ≡ false → Obeys rule command stack o → answerAs s code o ≡ carried rule s (sr code) command
+  known-one rule command stack es ep w =
+      ⊎-elim
+      (λ (d : (properOperands command (bytesIn stack) ≡ true) × Settles (outcomeOf rule command (bytesIn stack)) o).
+      carried-done rule s (sr code) command ep (ap (properOperands command) es ∙ d .0) (d .1 .0 ∙ ap (outcomeOf rule command) (sym es)) (as-done (d .1 .1)))
+      (λ (d : (properOperands command (bytesIn stack) ≡ false) × (o .answer ≡ numberOf Improper * 256)).
+      carried-improper rule s (sr code) command ep (ap (properOperands command) es ∙ d .0) (as-number (numberOf Improper * 256) (d .1)))
+      w
+
+  -- with nothing pending, and with a half word
+  pub performed : (rule : Rule) (kind : Kind) (stack : Stack) → s .stack ≡ bytesIn stack → s .pending ≡ false → s .status < 128
+      → kind ≡ decoded (code % 128) → Performs rule kind stack o → answerAs s code o ≡ commandUnder rule s code
+  performed rule (Known command) stack es ep h e w = command-by rule s code h e refl (known-one rule command stack es ep w)
+  performed rule Derived stack es ep h e w = command-by rule s code h e refl (as-number (numberOf DerivedCode * 256) w)
+  performed rule Unknown stack es ep h e w = command-by rule s code h e refl (as-number (numberOf UnknownCode * 256) w)
+
+  pub turned-down : (rule : Rule) (kind : Kind) → s .pending ≡ true → s .status < 128
+      → kind ≡ decoded (code % 128) → o .answer ≡ numberOf (halfWord kind) * 256 → answerAs s code o ≡ commandUnder rule s code
+  turned-down rule (Known command) ep h e w = command-by rule s code h e refl (carried-half rule s (sr code) command ep (as-number (numberOf HalfWord * 256) w))
+  turned-down rule Derived ep h e w = command-by rule s code h e refl (as-number (numberOf DerivedCode * 256) w)
+  turned-down rule Unknown ep h e w = command-by rule s code h e refl (as-number (numberOf UnknownCode * 256) w)
+
+-- what was found of a kind, an operation or a rule holds of it under its own name
+pub performs-as : (rule : Rule) (s : Stack) (o : Obeyed) {k l : Coded} → k ≡ l → Performs rule (kindIn l) s o → Performs rule (kindIn k) s o
+performs-as rule s o e = subst (λ (x : Coded). Performs rule (kindIn x) s o) (sym e)
+
+pub works-as : (w : Width) (s : Stack) (o : Obeyed) {k l : FixedOp} → k ≡ l → SettlesEither (fixedIn l w) s o → SettlesEither (fixedIn k w) s o
+works-as w s o e = subst (λ (x : FixedOp). SettlesEither (fixedIn x w) s o) (sym e)
+
+pub moves-as : (w : Width) (s : Stack) (o : Obeyed) {k l : MoveOp} → k ≡ l → SettlesEither (moveIn l w) s o → SettlesEither (moveIn k w) s o
+moves-as w s o e = subst (λ (x : MoveOp). SettlesEither (moveIn x w) s o) (sym e)
+
+pub by-rule : (pending : Bool) (code : ℕ) (stack : Stack) {rule r : Rule} {o x : Obeyed} → rule ≡ r → o ≡ x → Commanded r pending code stack x → Commanded rule pending code stack o
+by-rule pending code stack e f h = rw (e, f) h
+
+-- operands are asked for by no fixed-point operation and no move
+pub fixed-proper : (op : FixedOp) (w : Width) (s : List ℕ) → properOperands (fixedIn op w) s ≡ true
+fixed-proper AddOp w s = refl
+fixed-proper SubOp w s = refl
+fixed-proper MulOp w s = refl
+fixed-proper MuuOp w s = refl
+fixed-proper DivOp w s = refl
+fixed-proper ChsOp w s = refl
+
+pub move-proper : (op : MoveOp) (w : Width) (s : List ℕ) → properOperands (moveIn op w) s ≡ true
+move-proper PtoOp w s = refl
+move-proper PopOp w s = refl
+move-proper XchOp w s = refl

@@ -1,0 +1,16 @@
+-- Laws of decimal numbers.
+pub mod Parts
+pub mod Tests
+pub mod Spelling
+pub mod Quotients
+pub mod Kept
+pub mod Judging
+pub mod Scanning
+pub mod Parsing
+pub mod Shortest
+pub mod HexReading
+pub mod Lines
+pub mod Fractions
+pub mod Texts
+pub mod ReadBack
+pub mod HexBack

@@ -1,0 +1,9 @@
+-- Decimal numbers as people write them: the exact text, reading, the fewest places, the lines that are told, and what all that promises.
+pub mod Magnitude
+pub mod Exact
+pub mod Bring
+pub mod Read
+pub mod Short
+pub mod Hex
+pub mod Line
+pub mod Meaning
