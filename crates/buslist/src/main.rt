@@ -12,7 +12,7 @@ fn main() {
     let mut input = [0u8; 12289];
     let n = io::read_full(STDIN_FILENO, &mut input);
     let mut text = [0u8; listing::TEXT_ROOM];
-    let m = printout::told(
+    let m = list_text::told(
         os::arg_count(),
         &first[..a],
         &second[..b],

@@ -1,9 +1,9 @@
 -- The rows of the conversions, of the calls on buffers and of the call for formulas hold: each is computed. Assumes nothing.
 use mathlib.Core.Path.{refl}
 use lib.Ieee.{size, ofBits, toBits}
-use Rattle.host.specs.Host.{hostOf, takenOf}
-use Rattle.host.specs.Double.{outwardOf, inwardOf}
-use Rattle.buffers.specs.Buffers.{wordsTurn, floatsTurn}
+use Rattle.host_floats.specs.Host.{hostOf, takenOf}
+use Rattle.host_floats.specs.Double.{outwardOf, inwardOf}
+use Rattle.host_buffers.specs.Buffers.{wordsTurn, floatsTurn}
 use Rattle.formula.specs.Formula.{needOf}
 use Rattle.formula.specs.Reader.{formulaOf, factorOf, more, leafOf}
 use Rattle.formula.specs.File.{letterWord, properIn, fileOf}

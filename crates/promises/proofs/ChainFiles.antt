@@ -15,15 +15,15 @@ use Rattle.codes.specs.Codes.{decoded}
 use Rattle.chip.specs.Status.{statusOf}
 use Rattle.chip.specs.Commands.{floats}
 use Rattle.chip.specs.Step.{pushOf, carried, commandUnder}
-use Rattle.files.proofs.Append.{nothing}
-use Rattle.files.proofs.Through.{tally}
-use Rattle.records.specs.Run.{Outcome, runOf}
-use Rattle.records.proofs.Prefix.{lawful}
-use Rattle.memory.specs.History.{afterAll}
-use Rattle.memory.specs.Memory.{Card}
-use Rattle.stored.specs.Bytes.{isState, cardIn, laidOut}
-use Rattle.stored.specs.Calls.{Called, ranOf, signalOf}
-use Rattle.stored.proofs.Calling.{good}
+use Rattle.record_files.proofs.Append.{nothing}
+use Rattle.record_files.proofs.Through.{tally}
+use Rattle.record_runs.specs.Run.{Outcome, runOf}
+use Rattle.record_runs.proofs.Prefix.{lawful}
+use Rattle.error_memory.specs.History.{afterAll}
+use Rattle.error_memory.specs.Memory.{Card}
+use Rattle.state_bytes.specs.Bytes.{isState, cardIn, laidOut}
+use Rattle.state_bytes.specs.Calls.{Called, ranOf, signalOf}
+use Rattle.state_bytes.proofs.Calling.{good}
 use Rattle.promises.specs.Stack.{tos}
 use Rattle.promises.specs.FloatWords.{Le}
 use Rattle.promises.specs.Given.{Given, Chosen, settingsIn, runCall}

@@ -26,18 +26,18 @@ use Rattle.chip.specs.Commands.{baseRule}
 use Rattle.chip.specs.Step.{done, refused, pushOf, commandUnder, answerTo}
 use Rattle.chip.specs.Events.{afterEvents, answered, pushesOf, leavesClear, quiet}
 use Rattle.chip.proofs.Rows.{both-of}
-use Rattle.files.proofs.Tests.{either-eq}
-use Rattle.memory.specs.Event.{Event}
-use Rattle.memory.specs.Event.{Chip, Recall, Forget}
-use Rattle.memory.specs.Memory.{emptyMemory, Card, CardAnswer, cardWith, eventIn}
-use Rattle.memory.specs.History.{afterAll}
-use Rattle.memory.proofs.Kept.{settings-stay, chip-alone, event-alike, refused-leaves}
-use Rattle.memory.proofs.Good.{ReadyCard, event-fair, Sendable as Sends}
-use Rattle.stored.specs.Bytes.{isState, stateOf, cardIn, laidOut}
-use Rattle.stored.proofs.Cards.{behind, laid-is, card-returns, card-ready, laid-at, laid-length, card-short, card-long, laid-state, laid-bytes}
-use Rattle.stored.proofs.States.{state-ready}
-use Rattle.stored.specs.Calls.{Signal, signalBy, signalUnder, answerToKind, joinedOf}
-use Rattle.stored.proofs.Calling.{event-chosen}
+use Rattle.record_files.proofs.Tests.{either-eq}
+use Rattle.error_memory.specs.Event.{Event}
+use Rattle.error_memory.specs.Event.{Chip, Recall, Forget}
+use Rattle.error_memory.specs.Memory.{emptyMemory, Card, CardAnswer, cardWith, eventIn}
+use Rattle.error_memory.specs.History.{afterAll}
+use Rattle.error_memory.proofs.Kept.{settings-stay, chip-alone, event-alike, refused-leaves}
+use Rattle.error_memory.proofs.Good.{ReadyCard, event-fair, Sendable as Sends}
+use Rattle.state_bytes.specs.Bytes.{isState, stateOf, cardIn, laidOut}
+use Rattle.state_bytes.proofs.Cards.{behind, laid-is, card-returns, card-ready, laid-at, laid-length, card-short, card-long, laid-state, laid-bytes}
+use Rattle.state_bytes.proofs.States.{state-ready}
+use Rattle.state_bytes.specs.Calls.{Signal, signalBy, signalUnder, answerToKind, joinedOf}
+use Rattle.state_bytes.proofs.Calling.{event-chosen}
 use Rattle.promises.proofs.Measures.{ours-state, theirs-state}
 use Rattle.promises.specs.Given.{Given, Chosen, settingsIn, eventCall}
 use Rattle.promises.specs.Chains.{Step, Add, Subtract, Multiply, Divide, TakeFrom, Change, given, eventsOf, commandsIn, chainOf, Constants, wordAfter, Run, Starts, resultOf, Quiet, runEvents}

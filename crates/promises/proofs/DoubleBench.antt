@@ -1,8 +1,8 @@
 -- The rows and the calls hold: each is computed. Assumes nothing.
 use mathlib.Core.Path.{refl}
 use lib.Ieee.{size, ofBits, toBits}
-use Rattle.host.specs.Double.{outwardOf, inwardOf}
-use Rattle.buffers.specs.Buffers.{wordsTurn, floatsTurn}
+use Rattle.host_floats.specs.Double.{outwardOf, inwardOf}
+use Rattle.host_buffers.specs.Buffers.{wordsTurn, floatsTurn}
 use Rattle.promises.specs.DoubleBench.{DoublesBench}
 
 pub doubles-bench : DoublesBench

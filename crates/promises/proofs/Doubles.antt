@@ -21,23 +21,23 @@ use Rattle.little.proofs.Exact.{four-back, eight-back, le4-of, le8-of, four-lt,
 use Rattle.stack.specs.Stack.{Bytes}
 use Rattle.stack.proofs.Words.{byte-at}
 use Rattle.float.specs.Word.{negative, proper, size88, FloatWord}
-use Rattle.host.specs.Values.{HasWord, Endless, IsMinusZero, Small, BroughtTo, LargeBy}
-use Rattle.host.specs.Double.{doubleField, doubleBits, broughtOf, outwardOf, inwardOf}
-use Rattle.host.specs.declared.entry.Outward.{Outward}
-use Rattle.host.specs.declared.entry.Outward.the-variants.{Float as Floats, Refused as Stays}
-use Rattle.host.specs.declared.entry.Inward.{Inward}
-use Rattle.host.specs.declared.entry.Inward.the-variants.{Exact, Rounded, Refused}
-use Rattle.host.proofs.Apart.{held-endless, held-small, endless-minus, endless-small, minus-small}
-use Rattle.host.proofs.DoubleOut.{double-value, goes-out, stays-in, no-nan-out}
-use Rattle.host.proofs.Brought.{held-large-by, endless-large-by, minus-large-by, small-large-by, Right, exact, rounded, endless, minus, small, large, right}
-use Rattle.host.proofs.DoubleBack.{brought-once, answers-exact, answers-rounded, answers-endless, answers-minus, answers-small, answers-large, double-back, exact-bits}
-use Rattle.buffers.specs.declared.Entry.{Entry}
-use Rattle.buffers.specs.declared.Reply.{Reply}
-use Rattle.buffers.specs.Buffers.{outwardEntry, inwardEntry, wordEntry, floatEntry, floatEntries, replyTo, Turn, wordsTurn, floatsTurn, Turns}
-use Rattle.buffers.proofs.Writing.{firstBytes, first-length}
-use Rattle.buffers.proofs.Answers.{part-words, no-room-words, bad-word, words-written, no-rule, part-floats, no-room-floats, bad-float, floats-written}
-use Rattle.buffers.proofs.Blocks.{block, whole}
-use Rattle.buffers.proofs.Found.{roundedBelow, Taken, reply-bad, reply-done, First, all-or-first, none-rounded, rounded-none}
+use Rattle.host_floats.specs.Values.{HasWord, Endless, IsMinusZero, Small, BroughtTo, LargeBy}
+use Rattle.host_floats.specs.Double.{doubleField, doubleBits, broughtOf, outwardOf, inwardOf}
+use Rattle.host_floats.specs.declared.entry.Outward.{Outward}
+use Rattle.host_floats.specs.declared.entry.Outward.the-variants.{Float as Floats, Refused as Stays}
+use Rattle.host_floats.specs.declared.entry.Inward.{Inward}
+use Rattle.host_floats.specs.declared.entry.Inward.the-variants.{Exact, Rounded, Refused}
+use Rattle.host_floats.proofs.Apart.{held-endless, held-small, endless-minus, endless-small, minus-small}
+use Rattle.host_floats.proofs.DoubleOut.{double-value, goes-out, stays-in, no-nan-out}
+use Rattle.host_floats.proofs.Brought.{held-large-by, endless-large-by, minus-large-by, small-large-by, Right, exact, rounded, endless, minus, small, large, right}
+use Rattle.host_floats.proofs.DoubleBack.{brought-once, answers-exact, answers-rounded, answers-endless, answers-minus, answers-small, answers-large, double-back, exact-bits}
+use Rattle.host_buffers.specs.declared.Entry.{Entry}
+use Rattle.host_buffers.specs.declared.Reply.{Reply}
+use Rattle.host_buffers.specs.Buffers.{outwardEntry, inwardEntry, wordEntry, floatEntry, floatEntries, replyTo, Turn, wordsTurn, floatsTurn, Turns}
+use Rattle.host_buffers.proofs.Writing.{firstBytes, first-length}
+use Rattle.host_buffers.proofs.Answers.{part-words, no-room-words, bad-word, words-written, no-rule, part-floats, no-room-floats, bad-float, floats-written}
+use Rattle.host_buffers.proofs.Blocks.{block, whole}
+use Rattle.host_buffers.proofs.Found.{roundedBelow, Taken, reply-bad, reply-done, First, all-or-first, none-rounded, rounded-none}
 use Rattle.promises.proofs.Measures.{theirs-held, ours-held, theirs-brought, ours-brought, theirs-large, ours-large}
 use Rattle.promises.specs.Doubles.{carriedBits, outward, inward, OutwardExact, InwardAnswered, BroughtOnce, floatIn, wordBytes, floatBytes, turned, WordsCall, Names, cut, nearest, isRounded, howMany, FloatsCall, BufferCalls, BuffersKept, WordsBack, FloatsBack, WordsToF64Determined, F64ToWordsDetermined}
 

@@ -20,26 +20,26 @@ use Rattle.chip.specs.State.{State}
 use Rattle.chip.specs.State.{Answer}
 use Rattle.chip.specs.Event.{Push, Pop, Command, Status, Reset, Acknowledge}
 use Rattle.chip.specs.Step.{pushOf, popOf, resetOf, commandUnder}
-use Rattle.memory.specs.declared.Memory.{Memory}
-use Rattle.memory.specs.Event.{Event}
-use Rattle.memory.specs.Event.{Chip, Recall, Forget}
-use Rattle.memory.specs.Memory.{emptyMemory, isMemory, Card, cardWith, CardAnswer, eventIn}
-use Rattle.memory.proofs.Good.{ReadyCard}
-use Rattle.files.proofs.Tests.{either-eq}
-use Rattle.files.proofs.Append.{nothing}
-use Rattle.records.specs.Record.{Event as RecordEvent}
-use Rattle.records.specs.Record.{Push as PushRecord, Pop as PopRecord, Command as CommandRecord, Status as StatusRecord, Reset as ResetRecord, Acknowledge as AcknowledgeRecord, Recall as RecallRecord, Forget as ForgetRecord}
-use Rattle.records.specs.Record.{kindOf, Carried, Holds, before, pushAll, popAll, answerOf}
-use Rattle.records.specs.Run.{Outcome, runOf}
-use Rattle.records.proofs.Prefix.{lawful}
-use Rattle.records.proofs.Ready.{run-ready}
-use Rattle.records.proofs.Single.{reset-is}
+use Rattle.error_memory.specs.declared.Memory.{Memory}
+use Rattle.error_memory.specs.Event.{Event}
+use Rattle.error_memory.specs.Event.{Chip, Recall, Forget}
+use Rattle.error_memory.specs.Memory.{emptyMemory, isMemory, Card, cardWith, CardAnswer, eventIn}
+use Rattle.error_memory.proofs.Good.{ReadyCard}
+use Rattle.record_files.proofs.Tests.{either-eq}
+use Rattle.record_files.proofs.Append.{nothing}
+use Rattle.record_runs.specs.Record.{Event as RecordEvent}
+use Rattle.record_runs.specs.Record.{Push as PushRecord, Pop as PopRecord, Command as CommandRecord, Status as StatusRecord, Reset as ResetRecord, Acknowledge as AcknowledgeRecord, Recall as RecallRecord, Forget as ForgetRecord}
+use Rattle.record_runs.specs.Record.{kindOf, Carried, Holds, before, pushAll, popAll, answerOf}
+use Rattle.record_runs.specs.Run.{Outcome, runOf}
+use Rattle.record_runs.proofs.Prefix.{lawful}
+use Rattle.record_runs.proofs.Ready.{run-ready}
+use Rattle.record_runs.proofs.Single.{reset-is}
 use Rattle.terms.specs.Limits.{mostPayload}
-use Rattle.stored.specs.Bytes.{isChip, isState, stateOf, memoryIn, cardIn, stateBytesOf, laidOut}
-use Rattle.stored.proofs.States.{short-state, long-state, long-bad, short-memory, long-memory}
-use Rattle.stored.proofs.Cards.{card-returns, card-ready, laid-at}
-use Rattle.stored.specs.Calls.{Called, Signal, Calls, Signals, ranOf, away, callUnder, signalBy, signalUnder, answerToKind, joinedOf}
-use Rattle.stored.proofs.Calling.{run-chosen, event-chosen, good}
+use Rattle.state_bytes.specs.Bytes.{isChip, isState, stateOf, memoryIn, cardIn, stateBytesOf, laidOut}
+use Rattle.state_bytes.proofs.States.{short-state, long-state, long-bad, short-memory, long-memory}
+use Rattle.state_bytes.proofs.Cards.{card-returns, card-ready, laid-at}
+use Rattle.state_bytes.specs.Calls.{Called, Signal, Calls, Signals, ranOf, away, callUnder, signalBy, signalUnder, answerToKind, joinedOf}
+use Rattle.state_bytes.proofs.Calling.{run-chosen, event-chosen, good}
 use Rattle.promises.specs.StateBytes.{IsState}
 use Rattle.promises.specs.Remembered.{History, memoryOf, from, told, tells, afterAll, historyOf}
 use Rattle.promises.proofs.Measures.{theirs-state}

@@ -23,21 +23,21 @@ use Rattle.chip.specs.State.{busy}
 use Rattle.chip.specs.Step.{pushOf, popOf, readOf, acknowledgeOf, commandUnder}
 use Rattle.chip.proofs.InTurn.{pop-done}
 use Rattle.chip.proofs.Rows.{both-of}
-use Rattle.memory.specs.declared.Memory.{Memory}
-use Rattle.memory.specs.Event.{Event}
-use Rattle.memory.specs.Event.{Chip, Recall, Forget}
-use Rattle.memory.specs.Memory.{emptyMemory, Card, cardWith, CardAnswer, keptAfter, answerWith, eventIn}
-use Rattle.memory.specs.History.{afterAll}
-use Rattle.memory.proofs.Good.{memory-cases, ReadyCard}
-use Rattle.records.specs.Record.{turnOf}
-use Rattle.records.specs.Run.{Outcome, took, after as joinedTo, runOf as fileRun}
-use Rattle.files.proofs.Append.{nothing, onward, appended}
-use Rattle.records.proofs.Prefix.{lawful}
-use Rattle.records.proofs.Single.{reset-is}
-use Rattle.stored.specs.Bytes.{isState, cardIn, laidOut}
-use Rattle.stored.proofs.Cards.{card-returns, card-ready, laid-at}
-use Rattle.stored.specs.Calls.{Called, ranOf, joinedOf}
-use Rattle.stored.proofs.Calling.{good}
+use Rattle.error_memory.specs.declared.Memory.{Memory}
+use Rattle.error_memory.specs.Event.{Event}
+use Rattle.error_memory.specs.Event.{Chip, Recall, Forget}
+use Rattle.error_memory.specs.Memory.{emptyMemory, Card, cardWith, CardAnswer, keptAfter, answerWith, eventIn}
+use Rattle.error_memory.specs.History.{afterAll}
+use Rattle.error_memory.proofs.Good.{memory-cases, ReadyCard}
+use Rattle.record_runs.specs.Record.{turnOf}
+use Rattle.record_runs.specs.Run.{Outcome, took, after as joinedTo, runOf as fileRun}
+use Rattle.record_files.proofs.Append.{nothing, onward, appended}
+use Rattle.record_runs.proofs.Prefix.{lawful}
+use Rattle.record_runs.proofs.Single.{reset-is}
+use Rattle.state_bytes.specs.Bytes.{isState, cardIn, laidOut}
+use Rattle.state_bytes.proofs.Cards.{card-returns, card-ready, laid-at}
+use Rattle.state_bytes.specs.Calls.{Called, ranOf, joinedOf}
+use Rattle.state_bytes.proofs.Calling.{good}
 use Rattle.promises.proofs.Measures.{theirs-state}
 use Rattle.promises.specs.StateBytes.{IsState}
 use Rattle.promises.specs.Given.{Given, Chosen, settingsIn, runCall}

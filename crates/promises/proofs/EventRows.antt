@@ -9,8 +9,8 @@ use Rattle.codes.specs.Codes.{decoded}
 use Rattle.chip.specs.Status.{statusOf}
 use Rattle.chip.specs.Commands.{keepsA, losesA, changesA, floats, converts, widens, narrows, roots}
 use Rattle.chip.specs.Step.{pushOf, popOf, readOf, resetOf, acknowledgeOf, carried, commandUnder}
-use Rattle.stored.specs.Bytes.{isState}
-use Rattle.stored.specs.Calls.{signalOf}
+use Rattle.state_bytes.specs.Bytes.{isState}
+use Rattle.state_bytes.specs.Calls.{signalOf}
 use Rattle.promises.specs.EventRows.{EventRows}
 
 pub event-rows : EventRows

@@ -11,19 +11,19 @@ use Rattle.terms.specs.declared.Refusal.{Refusal}
 use Rattle.terms.specs.declared.Refusal.the-variants.{NoSuchKind, CutShort, BadLength, NoRoom}
 use Rattle.terms.specs.Refusal.{numberOf}
 use Rattle.terms.specs.Limits.{mostPayload}
-use Rattle.memory.specs.Memory.{Card}
-use Rattle.records.specs.Record.{Event}
-use Rattle.records.specs.Record.{Push, Pop, Command, Status, Reset, Acknowledge, Recall, Forget}
-use Rattle.records.specs.declared.head.Frame.the-variants.{Broken}
-use Rattle.records.specs.Record.{Stop}
+use Rattle.error_memory.specs.Memory.{Card}
+use Rattle.record_runs.specs.Record.{Event}
+use Rattle.record_runs.specs.Record.{Push, Pop, Command, Status, Reset, Acknowledge, Recall, Forget}
+use Rattle.record_runs.specs.declared.head.Frame.the-variants.{Broken}
+use Rattle.record_runs.specs.Record.{Stop}
 use Rattle.little.specs.Little.{wordAt}
-use Rattle.records.specs.Record.{answeredOf, rowUnder, frameUnder, headIn, headOf, Holds, stopped, turnUnder, turnOf}
-use Rattle.files.proofs.Tests.{either-lt, either-eq}
-use Rattle.records.proofs.Single.{stopped-by}
-use Rattle.records.proofs.Heads.{short, low, high, cut, whole, head-is}
-use Rattle.files.proofs.Append.{first-stops}
+use Rattle.record_runs.specs.Record.{answeredOf, rowUnder, frameUnder, headIn, headOf, Holds, stopped, turnUnder, turnOf}
+use Rattle.record_files.proofs.Tests.{either-lt, either-eq}
+use Rattle.record_runs.proofs.Single.{stopped-by}
+use Rattle.record_runs.proofs.Heads.{short, low, high, cut, whole, head-is}
+use Rattle.record_files.proofs.Append.{first-stops}
 use Rattle.promises.specs.Fronts.{Stops, Fronts}
-use Rattle.records.proofs.Prefix.{lawful}
+use Rattle.record_runs.proofs.Prefix.{lawful}
 
 -- a head that is a refusal ends the run with its number
 stops-with : (s : Card) (l : List ℕ) (room : ℕ) (r : Refusal) → headOf l ≡ Stop r → 0 < length l → 0 < numberOf r → Stops s l room (numberOf r)

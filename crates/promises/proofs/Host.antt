@@ -8,15 +8,15 @@ use lib.Ieee.{Float, binary32, ofBits, toBits}
 use lib.Ieee.Bits.{ofBits-fits, ofBits-toBits, toBits-ofBits}
 use lib.Ieee.Exact.{HasValue}
 use Rattle.float.specs.Word.{negative, proper, size88}
-use Rattle.host.specs.Host.{hostBits, takenOf, hostReply, takenReply}
-use Rattle.host.specs.Values.{HasWord, Endless, IsMinusZero, Large, Small}
-use Rattle.host.specs.declared.Taken.{Taken}
-use Rattle.host.specs.declared.Taken.the-variants.{Word}
-use Rattle.host.proofs.Outward.{word-value, goes, stays, plain}
-use Rattle.host.proofs.Apart.{held-endless, held-large, held-small, endless-minus, endless-large, endless-small, minus-large, minus-small, large-small}
-use Rattle.host.proofs.Classes.{minus-right, minus-bits, zero-right}
-use Rattle.host.proofs.Inward.{Right, held, endless, minus, large, small, right}
-use Rattle.host.proofs.Back.{answers-word, answers-endless, answers-minus, answers-large, answers-small, word-back, bits-back}
+use Rattle.host_floats.specs.Host.{hostBits, takenOf, hostReply, takenReply}
+use Rattle.host_floats.specs.Values.{HasWord, Endless, IsMinusZero, Large, Small}
+use Rattle.host_floats.specs.declared.Taken.{Taken}
+use Rattle.host_floats.specs.declared.Taken.the-variants.{Word}
+use Rattle.host_floats.proofs.Outward.{word-value, goes, stays, plain}
+use Rattle.host_floats.proofs.Apart.{held-endless, held-large, held-small, endless-minus, endless-large, endless-small, minus-large, minus-small, large-small}
+use Rattle.host_floats.proofs.Classes.{minus-right, minus-bits, zero-right}
+use Rattle.host_floats.proofs.Inward.{Right, held, endless, minus, large, small, right}
+use Rattle.host_floats.proofs.Back.{answers-word, answers-endless, answers-minus, answers-large, answers-small, word-back, bits-back}
 use Rattle.promises.proofs.Measures.{theirs-word, theirs-held, ours-held}
 use Rattle.promises.specs.Host.{outward, inward, number, Gives, ValueKept, AcceptedExactly, OneException, Answered, RefusedExactly, WordBack, FloatBack}
 

@@ -21,29 +21,29 @@ use Rattle.chip.specs.Commands.{properOperands}
 use Rattle.chip.specs.Step.{refused, unlessBusy, pushOf, popOf, readOf, resetOf, acknowledgeOf, carried, answerByKind, commandUnder}
 use Rattle.chip.specs.Event.{Push, Pop, Command, Status, Reset, Acknowledge}
 use Rattle.chip.proofs.Ready.{picked}
-use Rattle.memory.specs.Event.{Chip, Recall, Forget}
-use Rattle.memory.specs.declared.Memory.{Memory}
-use Rattle.memory.specs.Memory.{emptyMemory, Card, CardAnswer, unlessBusy as unlessCardBusy}
-use Rattle.memory.proofs.Good.{ReadyCard, event-fair}
+use Rattle.error_memory.specs.Event.{Chip, Recall, Forget}
+use Rattle.error_memory.specs.declared.Memory.{Memory}
+use Rattle.error_memory.specs.Memory.{emptyMemory, Card, CardAnswer, unlessBusy as unlessCardBusy}
+use Rattle.error_memory.proofs.Good.{ReadyCard, event-fair}
 use Rattle.terms.specs.declared.Refusal.the-variants.{BadState, BadMode, BadRule}
 use Rattle.stack.specs.Stack.{Bytes, topByte}
 use Rattle.stack.proofs.Words.{bytes-take, byte-at}
 use Rattle.codes.specs.Command.{Kind}
 use Rattle.codes.specs.Command.{Known, Derived, Unknown}
 use Rattle.codes.specs.Codes.{sr, decoded}
-use Rattle.files.proofs.Tests.{either-lt, either-eq}
-use Rattle.files.proofs.Append.{nothing, appended}
-use Rattle.files.proofs.Through.{tally, up-to-stop}
-use Rattle.files.proofs.Cut.{cut-anywhere}
-use Rattle.records.specs.Run.{Outcome, runOf}
-use Rattle.records.proofs.Prefix.{lawful}
-use Rattle.records.proofs.Ready.{run-ready}
-use Rattle.stored.specs.Bytes.{isState, memoryIn, cardIn, laidOut}
-use Rattle.stored.proofs.Cards.{card-returns, card-ready, laid-length, laid-state}
-use Rattle.records.specs.declared.head.EventKind.{EventKind}
-use Rattle.stored.specs.Calls.{Called, ranOf, callOf, Signal, signalOf, signalBy, unsent, answerToKind, answeredBy}
+use Rattle.record_files.proofs.Tests.{either-lt, either-eq}
+use Rattle.record_files.proofs.Append.{nothing, appended}
+use Rattle.record_files.proofs.Through.{tally, up-to-stop}
+use Rattle.record_files.proofs.Cut.{cut-anywhere}
+use Rattle.record_runs.specs.Run.{Outcome, runOf}
+use Rattle.record_runs.proofs.Prefix.{lawful}
+use Rattle.record_runs.proofs.Ready.{run-ready}
+use Rattle.state_bytes.specs.Bytes.{isState, memoryIn, cardIn, laidOut}
+use Rattle.state_bytes.proofs.Cards.{card-returns, card-ready, laid-length, laid-state}
+use Rattle.record_runs.specs.declared.head.EventKind.{EventKind}
+use Rattle.state_bytes.specs.Calls.{Called, ranOf, callOf, Signal, signalOf, signalBy, unsent, answerToKind, answeredBy}
 use Rattle.pundaliket.specs.Calls.{Sent, sentOf}
-use Rattle.stored.proofs.Calling.{bad-state, too-long, good}
+use Rattle.state_bytes.proofs.Calling.{bad-state, too-long, good}
 use Rattle.promises.specs.Given.{Given, Chosen, settingsIn, runCall, eventCall}
 use Rattle.promises.specs.StateBytes.{IsState}
 use Rattle.promises.specs.Records.{countAt}

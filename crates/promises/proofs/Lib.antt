@@ -40,6 +40,9 @@ pub mod Doubles
 pub mod DoubleBench
 pub mod WrongConverters
 pub mod FormulaText
+pub mod FormulaWords
+pub mod FormulaLeaves
+pub mod FormulaRuns
 pub mod Translations
 pub mod Formulas
 pub mod ChainFiles

@@ -11,28 +11,28 @@ use lib.Dec.{ltb, lit<, lit≤}
 use lib.ListN.{length, take, drop, getD, replicate, length-replicate}
 use lib.Seq.{take-append-seam}
 use Rattle.terms.specs.Refusal.{numberOf}
-use Rattle.memory.specs.Memory.{Card}
-use Rattle.records.specs.Record.{Event}
-use Rattle.records.specs.Record.{Push, Pop, Command, Status, Reset, Acknowledge, Recall, Forget}
-use Rattle.records.specs.Record.{wordAt, kindOf, answerOf, dataOf, replyOf}
-use Rattle.records.specs.Run.{Outcome, runOf}
-use Rattle.files.proofs.Through.{tally}
-use Rattle.stored.specs.Bytes.{isState}
-use Rattle.stored.specs.Calls.{Called, ranOf}
-use Rattle.stored.proofs.Calling.{too-long, good}
+use Rattle.error_memory.specs.Memory.{Card}
+use Rattle.record_runs.specs.Record.{Event}
+use Rattle.record_runs.specs.Record.{Push, Pop, Command, Status, Reset, Acknowledge, Recall, Forget}
+use Rattle.record_runs.specs.Record.{wordAt, kindOf, answerOf, dataOf, replyOf}
+use Rattle.record_runs.specs.Run.{Outcome, runOf}
+use Rattle.record_files.proofs.Through.{tally}
+use Rattle.state_bytes.specs.Bytes.{isState}
+use Rattle.state_bytes.specs.Calls.{Called, ranOf}
+use Rattle.state_bytes.proofs.Calling.{too-long, good}
 use Rattle.listing.specs.Text.{spelled as their-spelled, decimal as their-decimal}
 use Rattle.promises.specs.PrintedText.{digit, spelled, decimal}
 use Rattle.promises.proofs.PrintedText.{decimal-is}
 use Rattle.listing.specs.Listing.{dataText, lineOf, endOf, replyKind, replyRefusal, replySize, replyData, linesUpTo, hasReply, linesOf, listingOf, printedOf}
 use Rattle.little.proofs.Exact.{two-bytes}
 use Rattle.listing.proofs.Listed.{reply-listed, core-kind}
-use Rattle.printout.specs.Printout.{callFor, printoutOf}
+use Rattle.list_text.specs.Printout.{callFor, printoutOf}
 use Rattle.promises.proofs.RecordFiles.{theirs-record}
 use Rattle.promises.specs.Records.{joined, EachTaken, repliesOf, total, lengths}
 use Rattle.promises.specs.Listings.{valueOf, Digits, Decimal, hexText, recordLine, linesFor, lastLine, fresh, Listings}
 use Rattle.promises.proofs.Records.{record-run}
 use Rattle.little.proofs.Exact.{le4-exact}
-use Rattle.records.proofs.Prefix.{lawful}
+use Rattle.record_runs.proofs.Prefix.{lawful}
 
 -- ---- the lines of the records
 data-same : (bytes : List ℕ) → dataText bytes ≡ hexText bytes

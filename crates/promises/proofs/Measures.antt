@@ -22,14 +22,14 @@ use Rattle.float.specs.Root as root
 use Rattle.float.specs.Close as closes
 use Rattle.float.specs.Word.{size88 as size-of, value as value-of}
 use Rattle.float.specs.Convert.{wholePart as whole-of}
-use Rattle.host.specs.Values as values
+use Rattle.host_floats.specs.Values as values
 use Rattle.stack.specs.Stack as stack
 use Rattle.chip.specs.Events as events
-use Rattle.files.proofs.Tests.{either-eq}
-use Rattle.memory.specs.Memory.{isMemory}
-use Rattle.memory.proofs.Good.{memory-cases, marked-memory}
-use Rattle.stored.specs.Bytes.{isState}
-use Rattle.stored.proofs.States.{state-stands, stands-state}
+use Rattle.record_files.proofs.Tests.{either-eq}
+use Rattle.error_memory.specs.Memory.{isMemory}
+use Rattle.error_memory.proofs.Good.{memory-cases, marked-memory}
+use Rattle.state_bytes.specs.Bytes.{isState}
+use Rattle.state_bytes.proofs.States.{state-stands, stands-state}
 use Rattle.promises.specs.Stack.{IsStack}
 use Rattle.promises.specs.FloatWords.{mantissa, exponent, size88, value, FloatWord, Le}
 use Rattle.promises.specs.FloatResults.{Pair, Between, NearPair, PairBy, Steps, CutsBy, ExactlyBy, wholePart, Truncated}

@@ -25,22 +25,22 @@ use Rattle.chip.specs.State.{busy, moved, keptStack, afterReset}
 use Rattle.chip.specs.Step.{pushOf, popOf, resetOf, commandUnder}
 use Rattle.chip.specs.Events.{afterEvents}
 use Rattle.chip.proofs.InTurn.{push-done, pop-done}
-use Rattle.memory.specs.declared.Memory.{Memory}
-use Rattle.memory.specs.Memory.{Card, CardAnswer, cardWith, answerWith}
-use Rattle.memory.proofs.Kept.{settings-stay}
-use Rattle.memory.specs.Event.{Chip, Recall as RecallEvent, Forget as ForgetEvent}
-use Rattle.files.proofs.Append.{nothing, room-after}
-use Rattle.files.proofs.Tests.{either-eq}
-use Rattle.records.specs.Record.{Event}
-use Rattle.records.specs.Record.{Push, Pop, Command, Status, Reset, Acknowledge, Recall, Forget}
-use Rattle.records.specs.Record.{kindOf, answerOf, replyOf}
-use Rattle.records.specs.Run.{Outcome, took, after, runOf}
-use Rattle.records.proofs.Prefix.{lawful}
-use Rattle.records.proofs.Single.{reset-is}
-use Rattle.stored.specs.Bytes.{isState, stateOf, memoryIn, cardIn}
-use Rattle.records.specs.declared.head.EventKind.{EventKind}
-use Rattle.stored.specs.Calls.{Called, Signal, ranOf, away, callUnder, signalBy, signalUnder, unsent, answerToKind, answeredBy}
-use Rattle.stored.proofs.Calling.{run-chosen, event-chosen, bad-mode, no-mode}
+use Rattle.error_memory.specs.declared.Memory.{Memory}
+use Rattle.error_memory.specs.Memory.{Card, CardAnswer, cardWith, answerWith}
+use Rattle.error_memory.proofs.Kept.{settings-stay}
+use Rattle.error_memory.specs.Event.{Chip, Recall as RecallEvent, Forget as ForgetEvent}
+use Rattle.record_files.proofs.Append.{nothing, room-after}
+use Rattle.record_files.proofs.Tests.{either-eq}
+use Rattle.record_runs.specs.Record.{Event}
+use Rattle.record_runs.specs.Record.{Push, Pop, Command, Status, Reset, Acknowledge, Recall, Forget}
+use Rattle.record_runs.specs.Record.{kindOf, answerOf, replyOf}
+use Rattle.record_runs.specs.Run.{Outcome, took, after, runOf}
+use Rattle.record_runs.proofs.Prefix.{lawful}
+use Rattle.record_runs.proofs.Single.{reset-is}
+use Rattle.state_bytes.specs.Bytes.{isState, stateOf, memoryIn, cardIn}
+use Rattle.record_runs.specs.declared.head.EventKind.{EventKind}
+use Rattle.state_bytes.specs.Calls.{Called, Signal, ranOf, away, callUnder, signalBy, signalUnder, unsent, answerToKind, answeredBy}
+use Rattle.state_bytes.proofs.Calling.{run-chosen, event-chosen, bad-mode, no-mode}
 use Rattle.promises.specs.Given.{Given, Chosen, settingsIn, runCall, eventCall}
 use Rattle.promises.specs.RecordFiles.{IsRecord}
 use Rattle.promises.proofs.RecordFiles.{theirs-record}

@@ -9,18 +9,18 @@ use lib.Dec.{ltb, lit≤}
 use lib.ListN.{length, take, drop, getD}
 use lib.Seq.{take-all}
 use Rattle.terms.specs.declared.Refusal.the-variants.{BadLength, NoRoom}
-use Rattle.memory.specs.Memory.{Card}
-use Rattle.files.proofs.Append.{nothing, first-stops, alone, appended}
-use Rattle.records.specs.Record.{Event}
-use Rattle.records.specs.Record.{Stop}
-use Rattle.records.specs.Record.{payloadOf, answeredOf, answerOf, headIn, headUnder, Carried, Holds, Turned, stopped, worked, turnUnder}
-use Rattle.records.specs.Run.{Outcome, ended, after, runUnder}
-use Rattle.records.proofs.Heads.{high, whole, head-is}
-use Rattle.records.proofs.Prefix.{lawful-under}
-use Rattle.records.proofs.Wider.{same-run, same-up-to}
-use Rattle.stored.specs.Bytes.{cardIn}
-use Rattle.stored.specs.Calls.{ranOf}
-use Rattle.stored.proofs.Calling.{good}
+use Rattle.error_memory.specs.Memory.{Card}
+use Rattle.record_files.proofs.Append.{nothing, first-stops, alone, appended}
+use Rattle.record_runs.specs.Record.{Event}
+use Rattle.record_runs.specs.Record.{Stop}
+use Rattle.record_runs.specs.Record.{payloadOf, answeredOf, answerOf, headIn, headUnder, Carried, Holds, Turned, stopped, worked, turnUnder}
+use Rattle.record_runs.specs.Run.{Outcome, ended, after, runUnder}
+use Rattle.record_runs.proofs.Heads.{high, whole, head-is}
+use Rattle.record_runs.proofs.Prefix.{lawful-under}
+use Rattle.record_runs.proofs.Wider.{same-run, same-up-to}
+use Rattle.state_bytes.specs.Bytes.{cardIn}
+use Rattle.state_bytes.specs.Calls.{ranOf}
+use Rattle.state_bytes.proofs.Calling.{good}
 use Rattle.promises.specs.Given.{settingsIn}
 use Rattle.promises.proofs.Measures.{theirs-state}
 use Rattle.promises.specs.RecordFiles.{IsRecord, push, pop, command, status, reset, acknowledge, recall, forget}

@@ -24,11 +24,11 @@ use Rattle.chip.proofs.Kept.{command-keeps}
 use Rattle.chip.proofs.Accepted.{leaves}
 use Rattle.chip.proofs.InTurn.{pop-done}
 use Rattle.chip.proofs.Ready.{Ready, push-fair, pop-fair, read-fair, reset-fair, acknowledge-fair}
-use Rattle.files.proofs.Tests.{either-eq}
-use Rattle.memory.specs.History.{afterAll}
-use Rattle.memory.proofs.Kept.{chip-alone}
-use Rattle.stored.specs.Bytes.{stateOf, cardIn, flagOf}
-use Rattle.stored.proofs.Cards.{card-ready, laid-at}
+use Rattle.record_files.proofs.Tests.{either-eq}
+use Rattle.error_memory.specs.History.{afterAll}
+use Rattle.error_memory.proofs.Kept.{chip-alone}
+use Rattle.state_bytes.specs.Bytes.{stateOf, cardIn, flagOf}
+use Rattle.state_bytes.proofs.Cards.{card-ready, laid-at}
 use Rattle.promises.proofs.Measures.{theirs-stack, theirs-state}
 use Rattle.promises.specs.Cores.{Sendable, onBus}
 use Rattle.promises.specs.Given.{settingsIn}

@@ -5,7 +5,7 @@ use mathlib.Core.List.{List, [], _∷_, _++_}
 use Prim.Native.Nat.{ℕ, zero, suc, _/_, _%_}
 use lib.Dec.{ltb}
 use Rattle.listing.specs.Text.{spelled as their-spelled, decimal as their-decimal}
-use Rattle.workings.specs.Lines.{hexOf as their-hex}
+use Rattle.step_text.specs.Lines.{hexOf as their-hex}
 use Rattle.promises.specs.PrintedText.{digit, spelled, decimal, hexOf}
 
 spelled-is : (most n : ℕ) → their-spelled most n ≡ spelled most n

@@ -5,9 +5,9 @@ use Prim.Native.Nat.{ℕ, _+_, _*_, _≤_}
 use native.Mathlib.Omega.{arith}
 use lib.Dec.{lit≤}
 use lib.ListN.{length, drop, getD, length-drop}
-use Rattle.records.specs.Record.{Event}
-use Rattle.records.specs.Record.{Push, Pop, Command, Status, Reset, Acknowledge, Recall, Forget}
-use Rattle.records.specs.Record.{payloadOf, answeredOf, Holds}
+use Rattle.record_runs.specs.Record.{Event}
+use Rattle.record_runs.specs.Record.{Push, Pop, Command, Status, Reset, Acknowledge, Recall, Forget}
+use Rattle.record_runs.specs.Record.{payloadOf, answeredOf, Holds}
 use Rattle.promises.specs.RecordFiles.{IsRecord, push, pop, command, status, reset, acknowledge, recall, forget, dataIn}
 
 -- a whole record of an event and nothing else, as the crate has it

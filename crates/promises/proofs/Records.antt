@@ -11,24 +11,24 @@ use Rattle.little.proofs.Exact.{le4-exact}
 use Rattle.terms.specs.Refusal.{numberOf}
 use Rattle.stack.specs.Stack.{Bytes}
 use Rattle.stack.proofs.Words.{bytes-drop}
-use Rattle.memory.specs.Memory.{Card}
-use Rattle.memory.proofs.Good.{ReadyCard}
-use Rattle.files.proofs.Tests.{either-lt}
-use Rattle.files.proofs.Append.{room-after, first-stops, alone, appended}
-use Rattle.files.proofs.Through.{through, tally}
-use Rattle.records.specs.Record.{Event}
-use Rattle.records.specs.Record.{Head}
-use Rattle.records.specs.Record.{Whole, Stop}
-use Rattle.records.specs.Record.{kindOf, payloadOf, answeredOf, headOf, answerOf, dataOf, replyOf, stopped, turnOf}
-use Rattle.records.specs.Run.{Outcome, ended, took, after, runOf}
+use Rattle.error_memory.specs.Memory.{Card}
+use Rattle.error_memory.proofs.Good.{ReadyCard}
+use Rattle.record_files.proofs.Tests.{either-lt}
+use Rattle.record_files.proofs.Append.{room-after, first-stops, alone, appended}
+use Rattle.record_files.proofs.Through.{through, tally}
+use Rattle.record_runs.specs.Record.{Event}
+use Rattle.record_runs.specs.Record.{Head}
+use Rattle.record_runs.specs.Record.{Whole, Stop}
+use Rattle.record_runs.specs.Record.{kindOf, payloadOf, answeredOf, headOf, answerOf, dataOf, replyOf, stopped, turnOf}
+use Rattle.record_runs.specs.Run.{Outcome, ended, took, after, runOf}
 use Rattle.terms.specs.Limits.{mostPayload}
-use Rattle.records.proofs.Heads.{heads}
-use Rattle.records.proofs.Steps.{steps}
-use Rattle.records.proofs.Prefix.{holds-too, within, lawful}
-use Rattle.records.proofs.Single.{one-turn, no-turn, stopped-by, push-alone, pop-alone, command-alone, status-alone, reset-alone, acknowledge-alone, recall-alone, forget-alone}
-use Rattle.records.proofs.Ready.{event-fair, run-ready}
-use Rattle.stored.specs.Bytes.{cardIn}
-use Rattle.stored.proofs.Calling.{good}
+use Rattle.record_runs.proofs.Heads.{heads}
+use Rattle.record_runs.proofs.Steps.{steps}
+use Rattle.record_runs.proofs.Prefix.{holds-too, within, lawful}
+use Rattle.record_runs.proofs.Single.{one-turn, no-turn, stopped-by, push-alone, pop-alone, command-alone, status-alone, reset-alone, acknowledge-alone, recall-alone, forget-alone}
+use Rattle.record_runs.proofs.Ready.{event-fair, run-ready}
+use Rattle.state_bytes.specs.Bytes.{cardIn}
+use Rattle.state_bytes.proofs.Calling.{good}
 use Rattle.promises.specs.Given.{settingsIn}
 use Rattle.promises.proofs.Measures.{theirs-stack, theirs-memory, theirs-state}
 use Rattle.promises.specs.RecordFiles.{IsRecord}

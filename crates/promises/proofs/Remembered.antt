@@ -5,8 +5,8 @@ use mathlib.Core.List.{List, [], _∷_, _++_, map}
 use Prim.Native.Nat.{ℕ, _%_}
 use lib.Bits.{bitOr}
 use lib.Dec.{eqb}
-use Rattle.memory.specs.History as theirs
-use Rattle.memory.proofs.History.{memory-is-history as memory-is-told}
+use Rattle.error_memory.specs.History as theirs
+use Rattle.error_memory.proofs.History.{memory-is-history as memory-is-told}
 use Rattle.promises.specs.Subjects.{Answer, ChipEvent, Push, Pop, Command, Status, Reset, Acknowledge, answerTo}
 use Rattle.promises.specs.Subjects.{Memory, Card, Event, Chip, Recall, Forget, eventIn}
 use Rattle.promises.specs.BusEvents.{busy}

@@ -10,7 +10,7 @@ use Rattle.codes.specs.Command.{Nop, Add, Sub, Mul, Muu, Div, Chs, Float, Chsf,
 use Rattle.codes.specs.Codes.{sr, decoded}
 use Rattle.chip.specs.State.{State}
 use Rattle.chip.specs.Step.{unlessBusy, carried, answerByKind, commandUnder}
-use Rattle.stored.proofs.Calling.{bad-rule, no-rule}
+use Rattle.state_bytes.proofs.Calling.{bad-rule, no-rule}
 use Rattle.promises.specs.Rules.{NoRule, reads, RuleReaders}
 
 pub no-such-rule : NoRule

@@ -12,26 +12,26 @@ use lib.Seq.{drop-append-add}
 use Rattle.terms.specs.declared.Refusal.the-variants.{NoRoom, InputTooLong, BadState, BadMode, BadRule}
 use Rattle.terms.specs.Settings.{Settings, isMode, isRule}
 use Rattle.stack.specs.Stack.{Bytes}
-use Rattle.memory.specs.Memory.{Card, cardWith}
-use Rattle.memory.proofs.Good.{ReadyCard}
-use Rattle.records.specs.Record.{Head}
-use Rattle.records.specs.Record.{Whole, Stop}
-use Rattle.records.specs.Record.{payloadOf, answeredOf, answerOf, worked, headOf, turnBy, turnUnder, turnOf, stopped}
-use Rattle.records.specs.Run.{Outcome, ended, runOf}
-use Rattle.files.specs.Run.{Turned, idle}
-use Rattle.files.proofs.Append.{nothing, first-stops}
-use Rattle.files.proofs.Through.{tally, stops-there}
-use Rattle.stored.specs.Bytes.{isState, cardIn, laidOut}
-use Rattle.stored.proofs.Cards.{laid-is, card-returns, card-ready, card-short, card-long, laid-state}
-use Rattle.stored.specs.Calls.{Called, ranOf, away, callOf}
-use Rattle.stored.proofs.Calling.{good}
+use Rattle.error_memory.specs.Memory.{Card, cardWith}
+use Rattle.error_memory.proofs.Good.{ReadyCard}
+use Rattle.record_runs.specs.Record.{Head}
+use Rattle.record_runs.specs.Record.{Whole, Stop}
+use Rattle.record_runs.specs.Record.{payloadOf, answeredOf, answerOf, worked, headOf, turnBy, turnUnder, turnOf, stopped}
+use Rattle.record_runs.specs.Run.{Outcome, ended, runOf}
+use Rattle.record_files.specs.Run.{Turned, idle}
+use Rattle.record_files.proofs.Append.{nothing, first-stops}
+use Rattle.record_files.proofs.Through.{tally, stops-there}
+use Rattle.state_bytes.specs.Bytes.{isState, cardIn, laidOut}
+use Rattle.state_bytes.proofs.Cards.{laid-is, card-returns, card-ready, card-short, card-long, laid-state}
+use Rattle.state_bytes.specs.Calls.{Called, ranOf, away, callOf}
+use Rattle.state_bytes.proofs.Calling.{good}
 use Rattle.promises.proofs.Measures.{ours-state, theirs-state}
 use Rattle.promises.specs.Given.{settingsIn, runCall}
 use Rattle.promises.specs.Records.{joined, total, lengths}
 use Rattle.promises.specs.RunCall.{Laid, StandsFor, Reports, RunCall, ReportsResult, StopsAgain}
 use Rattle.promises.proofs.Records.{counted, counts-exact}
-use Rattle.records.proofs.Ready.{run-ready}
-use Rattle.records.proofs.Prefix.{lawful}
+use Rattle.record_runs.proofs.Ready.{run-ready}
+use Rattle.record_runs.proofs.Prefix.{lawful}
 
 -- the card that good bytes stand for is the one that is read
 stands-read : (state : List ℕ) (c : Card) → isState state ≡ true → StandsFor state c → cardIn (c .on) state ≡ c

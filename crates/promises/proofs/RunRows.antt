@@ -15,10 +15,10 @@ use Rattle.codes.specs.Codes.{decoded}
 use Rattle.chip.specs.Status.{statusOf}
 use Rattle.chip.specs.Commands.{keepsA, losesA, changesA, floats, converts, widens, narrows, roots}
 use Rattle.chip.specs.Step.{pushOf, popOf, readOf, resetOf, acknowledgeOf, carried, commandUnder}
-use Rattle.files.specs.Run.{run, runBy}
-use Rattle.records.specs.Record.{frameUnder, turnUnder}
-use Rattle.stored.specs.Bytes.{isState}
-use Rattle.stored.specs.Calls.{callOf}
+use Rattle.record_files.specs.Run.{run, runBy}
+use Rattle.record_runs.specs.Record.{frameUnder, turnUnder}
+use Rattle.state_bytes.specs.Bytes.{isState}
+use Rattle.state_bytes.specs.Calls.{callOf}
 use Rattle.promises.specs.PrintedText.{bytes}
 use Rattle.promises.specs.StateBytes.{IsState}
 use Rattle.promises.specs.Given.{Given}

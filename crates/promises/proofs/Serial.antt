@@ -27,27 +27,27 @@ use Rattle.codes.specs.Command.{Mul as MulCommand, Muu as MuuCommand, Div as Di
 use Rattle.codes.specs.declared.FloatOp.the-variants.{Mul as FMul, Div as FDiv}
 use Rattle.codes.specs.Command.{Known}
 use Rattle.codes.specs.Codes.{decoded}
-use Rattle.serial.specs.declared.Operation.{Operation}
-use Rattle.serial.specs.declared.Operation.the-variants.{Mul, Muu, Div, Fmul, Fdiv}
-use Rattle.serial.specs.declared.Answer.{Answer}
-use Rattle.serial.specs.declared.Answer.the-variants.{Word, Refused}
-use Rattle.serial.specs.declared.tasks.Task.{Task}
-use Rattle.serial.specs.declared.tasks.Task.the-variants.{Nothing}
-use Rattle.serial.specs.Product.{addedUpTo}
-use Rattle.serial.specs.Quotient.{subtractedUpTo}
-use Rattle.serial.specs.Answer.{stepsIn}
-use Rattle.serial.specs.Engine.{mulAnswer, muuAnswer, divAnswer, fmulAnswer, fdivAnswer}
-use Rattle.serial.specs.Work.{widthOf, Operands, answerOf, mulTask, divTask, fmulTask, fdivTask, taskOf, mostOf, Made}
-use Rattle.serial.proofs.Cases.{words as words-of}
-use Rattle.serial.proofs.Same.{same-mul, same-muu, same-div, same-fmul, same-fdiv}
-use Rattle.serial.proofs.Steps.{made}
-use Rattle.workings.specs.declared.asked.Found.{Found}
-use Rattle.workings.specs.declared.asked.Found.the-variants.{Operation as Named, Nothing as Unnamed}
+use Rattle.bit_serial.specs.declared.Operation.{Operation}
+use Rattle.bit_serial.specs.declared.Operation.the-variants.{Mul, Muu, Div, Fmul, Fdiv}
+use Rattle.bit_serial.specs.declared.Answer.{Answer}
+use Rattle.bit_serial.specs.declared.Answer.the-variants.{Word, Refused}
+use Rattle.bit_serial.specs.declared.tasks.Task.{Task}
+use Rattle.bit_serial.specs.declared.tasks.Task.the-variants.{Nothing}
+use Rattle.bit_serial.specs.Product.{addedUpTo}
+use Rattle.bit_serial.specs.Quotient.{subtractedUpTo}
+use Rattle.bit_serial.specs.Answer.{stepsIn}
+use Rattle.bit_serial.specs.Engine.{mulAnswer, muuAnswer, divAnswer, fmulAnswer, fdivAnswer}
+use Rattle.bit_serial.specs.Work.{widthOf, Operands, answerOf, mulTask, divTask, fmulTask, fdivTask, taskOf, mostOf, Made}
+use Rattle.bit_serial.proofs.Cases.{words as words-of}
+use Rattle.bit_serial.proofs.Same.{same-mul, same-muu, same-div, same-fmul, same-fdiv}
+use Rattle.bit_serial.proofs.Steps.{made}
+use Rattle.step_text.specs.declared.asked.Found.{Found}
+use Rattle.step_text.specs.declared.asked.Found.the-variants.{Operation as Named, Nothing as Unnamed}
 use Rattle.listing.specs.Text.{spelled as their-spelled, decimal as their-decimal}
-use Rattle.workings.specs.Lines.{stepLine, answerLine, statusFor, hexOf as their-hex}
-use Rattle.workings.specs.Steps.{productLines, quotientLines, workingsOf, leftAfter, partialAfter, linesAfter}
-use Rattle.workings.specs.Asked.{digitValue, readFrom, readHex, operationAt, sameText, ruleFor}
-use Rattle.workings.proofs.Numbered.{numbered}
+use Rattle.step_text.specs.Lines.{stepLine, answerLine, statusFor, hexOf as their-hex}
+use Rattle.step_text.specs.Steps.{productLines, quotientLines, workingsOf, leftAfter, partialAfter, linesAfter}
+use Rattle.step_text.specs.Asked.{digitValue, readFrom, readHex, operationAt, sameText, ruleFor}
+use Rattle.step_text.proofs.Numbered.{numbered}
 use Rattle.promises.specs.SerialWork as book
 use Rattle.promises.specs.PrintedText.{written, decimal, hexOf}
 use Rattle.promises.proofs.PrintedText.{decimal-is, hex-is}

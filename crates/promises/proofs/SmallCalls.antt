@@ -18,18 +18,18 @@ use Rattle.chip.specs.State.{State}
 use Rattle.chip.specs.Event.{Reset}
 use Rattle.chip.specs.State.{afterReset}
 use Rattle.chip.specs.Step.{done, pushOf, popOf, readOf, resetOf, acknowledgeOf, given}
-use Rattle.memory.specs.declared.Memory.{Memory}
-use Rattle.memory.specs.Memory.{emptyMemory, Card, CardAnswer, cardWith, around, answerWith}
-use Rattle.host.specs.declared.Reply.{Reply}
+use Rattle.error_memory.specs.declared.Memory.{Memory}
+use Rattle.error_memory.specs.Memory.{emptyMemory, Card, CardAnswer, cardWith, around, answerWith}
+use Rattle.host_floats.specs.declared.Reply.{Reply}
 use Rattle.terms.specs.declared.Refusal.the-variants.{Done, BadState, BadMode, BadRule}
-use Rattle.stored.specs.Bytes.{isState, stateOf, memoryIn, cardIn, flagOf, laidOut}
-use Rattle.files.proofs.Tests.{either-eq}
-use Rattle.stored.proofs.States.{short-memory, long-memory}
-use Rattle.stored.proofs.Cards.{flag-back, laid-is}
-use Rattle.records.specs.declared.head.EventKind.{EventKind}
-use Rattle.stored.specs.Calls.{Signal, settingsOf, signalBy, unsent, signalUnder, signalOf, answerToKind, answeredBy}
+use Rattle.state_bytes.specs.Bytes.{isState, stateOf, memoryIn, cardIn, flagOf, laidOut}
+use Rattle.record_files.proofs.Tests.{either-eq}
+use Rattle.state_bytes.proofs.States.{short-memory, long-memory}
+use Rattle.state_bytes.proofs.Cards.{flag-back, laid-is}
+use Rattle.record_runs.specs.declared.head.EventKind.{EventKind}
+use Rattle.state_bytes.specs.Calls.{Signal, settingsOf, signalBy, unsent, signalUnder, signalOf, answerToKind, answeredBy}
 use Rattle.pundaliket.specs.Calls.{sentOf}
-use Rattle.stored.proofs.Calling.{event-chosen}
+use Rattle.state_bytes.proofs.Calling.{event-chosen}
 use Rattle.promises.proofs.Measures.{theirs-state, no-state-is}
 use Rattle.promises.specs.Given.{Given, Chosen, settingsIn, eventCall}
 use Rattle.promises.specs.Host.{number, outward, inward}

@@ -12,16 +12,16 @@ use Rattle.terms.specs.declared.Rule.{Rule}
 use Rattle.terms.specs.declared.Rule.the-variants.{Cut, Nearest}
 use Rattle.terms.specs.Width.{sizeOf}
 use Rattle.chip.proofs.Rows.{both-of}
-use Rattle.serial.specs.declared.Operation.{Operation}
-use Rattle.serial.specs.Work.{widthOf}
-use Rattle.workings.specs.declared.asked.Read.{Read}
-use Rattle.workings.specs.declared.asked.Read.the-variants.{Number, Nothing as Unread}
-use Rattle.workings.specs.declared.asked.Found.{Found}
-use Rattle.workings.specs.declared.asked.Found.the-variants.{Operation as Named, Nothing as Unnamed}
-use Rattle.workings.specs.declared.asked.Given.{Given}
-use Rattle.workings.specs.declared.asked.Given.the-variants.{Under, Nothing as Unruled}
-use Rattle.workings.specs.Steps.{workingsOf}
-use Rattle.workings.specs.Asked.{digitValue, readFrom, readHex, operationAt, operationIn, sameText, nearestText, ruleFor, withNumbers, askedWith, textOf, toldOf, usageText}
+use Rattle.bit_serial.specs.declared.Operation.{Operation}
+use Rattle.bit_serial.specs.Work.{widthOf}
+use Rattle.step_text.specs.declared.asked.Read.{Read}
+use Rattle.step_text.specs.declared.asked.Read.the-variants.{Number, Nothing as Unread}
+use Rattle.step_text.specs.declared.asked.Found.{Found}
+use Rattle.step_text.specs.declared.asked.Found.the-variants.{Operation as Named, Nothing as Unnamed}
+use Rattle.step_text.specs.declared.asked.Given.{Given}
+use Rattle.step_text.specs.declared.asked.Given.the-variants.{Under, Nothing as Unruled}
+use Rattle.step_text.specs.Steps.{workingsOf}
+use Rattle.step_text.specs.Asked.{digitValue, readFrom, readHex, operationAt, operationIn, sameText, nearestText, ruleFor, withNumbers, askedWith, textOf, toldOf, usageText}
 use Rattle.promises.specs.SerialWork.{hexDigit, AllHex, hexNumber, IsHex, Ruled, cut, nearest, Asks}
 
 -- ---- numbers

@@ -18,12 +18,12 @@ use Rattle.stack.proofs.Words.{number-bytes}
 use Rattle.chip.specs.State.{State}
 use Rattle.chip.specs.State.{resetState}
 use Rattle.chip.specs.Events.{AtRest}
-use Rattle.memory.specs.declared.Memory.{Memory}
-use Rattle.memory.specs.Memory.{emptyMemory, Card}
-use Rattle.records.specs.Run.{Outcome}
-use Rattle.stored.specs.Bytes.{isState, stateOf, memoryIn, cardIn, laidOut}
-use Rattle.stored.proofs.Cards.{laid-is, card-returns}
-use Rattle.stored.proofs.States.{state-ready}
+use Rattle.error_memory.specs.declared.Memory.{Memory}
+use Rattle.error_memory.specs.Memory.{emptyMemory, Card}
+use Rattle.record_runs.specs.Run.{Outcome}
+use Rattle.state_bytes.specs.Bytes.{isState, stateOf, memoryIn, cardIn, laidOut}
+use Rattle.state_bytes.proofs.Cards.{laid-is, card-returns}
+use Rattle.state_bytes.proofs.States.{state-ready}
 use Rattle.formula.specs.Formula.{Plus, Less, Times, Over, Formula, Letter, Constant, Minus, Brackets, Joined, nested, needOf}
 use Rattle.formula.specs.Grammar.{IsSum, product, plus, less, IsProduct, factor, times, over, IsFactor, letter, constant, minus, brackets, IsText}
 use Rattle.formula.specs.Reader.{Read, Found, Outside, formulaOf, factorOf, more, leafOf}
@@ -34,8 +34,8 @@ use Rattle.formula.specs.declared.Refusal.the-variants.{Done, NoFormula, Improp
 use Rattle.formula.proofs.Texts.{read-is, is-read, one-tree}
 use Rattle.formula.proofs.Translating.{letters-wrong, text-empty, text-long, text-fits}
 use Rattle.formula.proofs.Sizes.{file-most, replies-few, file-bytes}
-use Rattle.evaluation.proofs.Leaves.{leaves}
-use Rattle.evaluation.proofs.Evaluated.{Left, evaluates}
+use Rattle.promises.proofs.FormulaLeaves.{leaves}
+use Rattle.promises.proofs.FormulaRuns.{Left, evaluates}
 use Rattle.pundaliket.specs.FormulaCall.{Wrote, wroteBy, formulaCall}
 use Rattle.promises.proofs.Measures.{ours-rest, ours-word, ours-state, theirs-state}
 use Rattle.promises.specs.Given.{Given, Chosen, settingsIn, runCall}

@@ -37,14 +37,14 @@ use Rattle.chip.proofs.Accepted.{accepts}
 use Rattle.chip.proofs.InTurn.{turned as passed, pops-state}
 use Rattle.chip.proofs.OnTop.{idle}
 use Rattle.chip.proofs.Events.{at-rest-lt, at-rest}
-use Rattle.memory.specs.Event.{Event as CardEvent}
-use Rattle.memory.specs.Event.{Chip}
-use Rattle.memory.specs.Memory.{Card, eventIn, keptAfter}
-use Rattle.memory.specs.History.{afterAll}
-use Rattle.memory.proofs.Kept.{chip-alone, none-left}
-use Rattle.stored.specs.Bytes.{stateOf, cardIn, stateBytesOf, memoryBytesOf, flagOf, laidOut}
-use Rattle.stored.proofs.Cards.{behind, laid-is, laid-at, card-returns, card-ready}
-use Rattle.stored.specs.Calls.{joinedOf}
+use Rattle.error_memory.specs.Event.{Event as CardEvent}
+use Rattle.error_memory.specs.Event.{Chip}
+use Rattle.error_memory.specs.Memory.{Card, eventIn, keptAfter}
+use Rattle.error_memory.specs.History.{afterAll}
+use Rattle.error_memory.proofs.Kept.{chip-alone, none-left}
+use Rattle.state_bytes.specs.Bytes.{stateOf, cardIn, stateBytesOf, memoryBytesOf, flagOf, laidOut}
+use Rattle.state_bytes.proofs.Cards.{behind, laid-is, laid-at, card-returns, card-ready}
+use Rattle.state_bytes.specs.Calls.{joinedOf}
 use Rattle.promises.proofs.Measures.{theirs-stack, ours-stack, theirs-rest, ours-rest, theirs-state}
 use Rattle.promises.specs.Chains.{given}
 use Rattle.promises.specs.Given.{Given, Chosen, settingsIn}

@@ -13,15 +13,15 @@ use Rattle.float.specs.Convert.{chsf}
 use Rattle.stack.specs.Stack.{Bytes, zeros}
 use Rattle.chip.specs.Step.{pushOf, resetOf}
 use Rattle.chip.proofs.Rows.{both-of}
-use Rattle.host.specs.Host.{hostOf, takenOf}
-use Rattle.files.specs.Run.{run, runBy}
-use Rattle.records.specs.Record.{Push, Reset}
-use Rattle.records.specs.Record.{frameUnder, turnUnder}
-use Rattle.stored.specs.Bytes.{isState, cardIn}
-use Rattle.records.specs.Run.{runOf}
-use Rattle.stored.specs.Calls.{Called, Calls, Signal, Signals, ranOf, callOf, signalUnder}
+use Rattle.host_floats.specs.Host.{hostOf, takenOf}
+use Rattle.record_files.specs.Run.{run, runBy}
+use Rattle.record_runs.specs.Record.{Push, Reset}
+use Rattle.record_runs.specs.Record.{frameUnder, turnUnder}
+use Rattle.state_bytes.specs.Bytes.{isState, cardIn}
+use Rattle.record_runs.specs.Run.{runOf}
+use Rattle.state_bytes.specs.Calls.{Called, Calls, Signal, Signals, ranOf, callOf, signalUnder}
 use Rattle.pundaliket.specs.Calls.{sentOf}
-use Rattle.stored.proofs.Calling.{bad-state, too-long, good, event-chosen}
+use Rattle.state_bytes.proofs.Calling.{bad-state, too-long, good, event-chosen}
 use Rattle.promises.proofs.Measures.{ours-state, theirs-state, no-state-is}
 use Rattle.promises.specs.Given.{Given, Chosen, settingsIn, runCall}
 use Rattle.promises.specs.Chains.{Change}

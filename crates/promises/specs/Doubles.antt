@@ -11,12 +11,12 @@ use lib.Ieee.{Float, binary64, ofBits, toBits}
 use lib.Ieee.Exact.{HasValue}
 use Rattle.terms.specs.declared.Rule.{Rule}
 use Rattle.terms.specs.declared.Rule.the-variants.{Cut, Nearest}
-use Rattle.host.specs.Double.{outwardOf, inwardOf}
-use Rattle.host.specs.declared.entry.Outward.{Outward}
-use Rattle.host.specs.declared.entry.Outward.the-variants.{Float as Floats, Refused as Stays}
-use Rattle.host.specs.declared.entry.Inward.{Inward}
-use Rattle.host.specs.declared.entry.Inward.the-variants.{Exact, Rounded, Refused}
-use Rattle.buffers.specs.declared.Entry.{Entry}
+use Rattle.host_floats.specs.Double.{outwardOf, inwardOf}
+use Rattle.host_floats.specs.declared.entry.Outward.{Outward}
+use Rattle.host_floats.specs.declared.entry.Outward.the-variants.{Float as Floats, Refused as Stays}
+use Rattle.host_floats.specs.declared.entry.Inward.{Inward}
+use Rattle.host_floats.specs.declared.entry.Inward.the-variants.{Exact, Rounded, Refused}
+use Rattle.host_buffers.specs.declared.Entry.{Entry}
 use Rattle.promises.specs.Subjects.{Turn, wordsTurn, floatsTurn, Turns}
 use Rattle.promises.specs.Stack.{Bytes}
 use Rattle.promises.specs.RefusalNumbers.{numberOf}

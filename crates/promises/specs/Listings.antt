@@ -8,7 +8,7 @@ use lib.ListN.{length, drop, getD}
 use Rattle.terms.specs.declared.Mode.the-variants.{Am9511A}
 use Rattle.terms.specs.declared.Rule.the-variants.{Cut}
 use Rattle.listing.specs.Listing.{replyKind, replyRefusal, replySize, replyData}
-use Rattle.printout.specs.Printout.{printoutOf}
+use Rattle.list_text.specs.Printout.{printoutOf}
 use Rattle.promises.specs.PrintedText.{digit, decimal}
 use Rattle.promises.specs.Subjects.{Card, runOf}
 use Rattle.promises.specs.BusEvents.{resetState, given}

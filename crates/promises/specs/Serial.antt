@@ -21,15 +21,15 @@ use Rattle.codes.specs.Command.{Mul as MulCommand, Muu as MuuCommand, Div as Di
 use Rattle.codes.specs.declared.FloatOp.the-variants.{Mul as FMul, Div as FDiv}
 use Rattle.codes.specs.Command.{Known}
 use Rattle.codes.specs.Codes.{decoded}
-use Rattle.serial.specs.declared.Operation.{Operation}
-use Rattle.serial.specs.declared.Operation.the-variants.{Mul, Muu, Div, Fmul, Fdiv}
-use Rattle.serial.specs.declared.Answer.{Answer}
-use Rattle.serial.specs.declared.Answer.the-variants.{Word, Refused}
-use Rattle.serial.specs.Work.{answerOf}
-use Rattle.workings.specs.declared.asked.Found.{Found}
-use Rattle.workings.specs.declared.asked.Found.the-variants.{Operation as Named, Nothing as Unnamed}
-use Rattle.workings.specs.Steps.{workingsOf}
-use Rattle.workings.specs.Asked.{operationAt, toldOf}
+use Rattle.bit_serial.specs.declared.Operation.{Operation}
+use Rattle.bit_serial.specs.declared.Operation.the-variants.{Mul, Muu, Div, Fmul, Fdiv}
+use Rattle.bit_serial.specs.declared.Answer.{Answer}
+use Rattle.bit_serial.specs.declared.Answer.the-variants.{Word, Refused}
+use Rattle.bit_serial.specs.Work.{answerOf}
+use Rattle.step_text.specs.declared.asked.Found.{Found}
+use Rattle.step_text.specs.declared.asked.Found.the-variants.{Operation as Named, Nothing as Unnamed}
+use Rattle.step_text.specs.Steps.{workingsOf}
+use Rattle.step_text.specs.Asked.{operationAt, toldOf}
 use Rattle.promises.specs.Stack.{bitsOf}
 use Rattle.promises.specs.FloatWords.{proper}
 use Rattle.promises.specs.SerialWork.{numberIn, stepsIn, widthOf, Operands, taskOf, Made, linesAfter, answerLine, Asks}

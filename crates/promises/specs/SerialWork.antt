@@ -12,14 +12,14 @@ use Rattle.terms.specs.declared.Rule.{Rule}
 use Rattle.terms.specs.declared.Rule.the-variants.{Cut, Nearest}
 use Rattle.terms.specs.declared.Width.{Width}
 use Rattle.terms.specs.declared.Width.the-variants.{Double}
-use Rattle.serial.specs.declared.Operation.{Operation}
-use Rattle.serial.specs.declared.Operation.the-variants.{Mul, Muu, Div, Fmul, Fdiv}
-use Rattle.serial.specs.declared.Answer.{Answer}
-use Rattle.serial.specs.declared.Answer.the-variants.{Word, Refused}
-use Rattle.serial.specs.declared.tasks.Task.{Task}
-use Rattle.serial.specs.declared.tasks.Task.the-variants.{Nothing, Multiply, Divide}
-use Rattle.workings.specs.declared.asked.Found.the-variants.{Operation as Named}
-use Rattle.workings.specs.Asked.{operationAt}
+use Rattle.bit_serial.specs.declared.Operation.{Operation}
+use Rattle.bit_serial.specs.declared.Operation.the-variants.{Mul, Muu, Div, Fmul, Fdiv}
+use Rattle.bit_serial.specs.declared.Answer.{Answer}
+use Rattle.bit_serial.specs.declared.Answer.the-variants.{Word, Refused}
+use Rattle.bit_serial.specs.declared.tasks.Task.{Task}
+use Rattle.bit_serial.specs.declared.tasks.Task.the-variants.{Nothing, Multiply, Divide}
+use Rattle.step_text.specs.declared.asked.Found.the-variants.{Operation as Named}
+use Rattle.step_text.specs.Asked.{operationAt}
 use Rattle.promises.specs.Stack.{sizeOf, bitsOf}
 use Rattle.promises.specs.RefusalNumbers.{numberOf}
 use Rattle.promises.specs.FloatWords.{mantissa, proper}

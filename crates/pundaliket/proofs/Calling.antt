@@ -7,7 +7,7 @@ use borrow.Author.Tests.{eq-eqb, ne-eqb}
 use Rattle.little.specs.Little.{le4}
 use Rattle.terms.specs.declared.Refusal.the-variants.{NoRoom}
 use Rattle.terms.specs.Refusal.{numberOf}
-use Rattle.host.specs.declared.Reply.{Reply}
+use Rattle.host_floats.specs.declared.Reply.{Reply}
 use Rattle.pundaliket.specs.Calls.{sentOf, Sends}
 
 module _ (reply : Reply) (out : List ℕ) where

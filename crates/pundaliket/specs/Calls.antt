@@ -8,7 +8,7 @@ use lib.ListN.{length}
 use Rattle.little.specs.Little.{wordBytes, le4}
 use Rattle.terms.specs.declared.Refusal.the-variants.{NoRoom}
 use Rattle.terms.specs.Refusal.{numberOf}
-use Rattle.host.specs.declared.Reply.{Reply}
+use Rattle.host_floats.specs.declared.Reply.{Reply}
 
 -- what the call returns, and what the slice holds after
 pub record Sent : Type 0 where

@@ -3,12 +3,12 @@
 pub mod doubles;
 pub mod formulas;
 
-use host::Reply;
+use host_floats::Reply;
 use little::put_word;
 use terms::Refusal;
 use terms::number;
-ghost use Rattle.host.specs.Host.{hostOf, takenOf, hostReply, takenReply};
-ghost use Rattle.stored.specs.Calls.{Calls, callOf, Signals, signalOf};
+ghost use Rattle.host_floats.specs.Host.{hostOf, takenOf, hostReply, takenReply};
+ghost use Rattle.state_bytes.specs.Calls.{Calls, callOf, Signals, signalOf};
 ghost use Rattle.pundaliket.specs.Calls.{sentOf, Sends};
 
 // A file of records run on a state. Returns the refusal; 14, then 16, 17, 13, 9 before any record.
@@ -24,7 +24,7 @@ pub extern "C" fn pundaliket_run(
     ensures { λ r. ⌜ Calls (callOf mode rule (now (state .entry)) (now (input .entry)) (now (replies .entry))
         (now (report .entry))) r (now (state .exit)) (now (replies .exit)) (now (report .exit)) ⌝ }
 {
-    stored::calls::run(mode, rule, state, input, replies, report)
+    state_bytes::calls::run(mode, rule, state, input, replies, report)
 }
 
 // One event on a state. Returns 256 times the refusal plus the byte read; a refused event writes nothing.
@@ -38,7 +38,7 @@ pub extern "C" fn pundaliket_event(
 ) -> u32
     ensures { λ r. ⌜ Signals (signalOf mode rule (now (state .entry)) kind byte) r (now (state .exit)) ⌝ }
 {
-    stored::calls::event(mode, rule, state, kind, byte)
+    state_bytes::calls::event(mode, rule, state, kind, byte)
 }
 
 // The reply of a conversion, its 32 bits to `out` on 0 alone; a slice that is not four bytes first.
@@ -62,7 +62,7 @@ fn send(reply: Reply, out: &mut [u8]) -> u32
 pub extern "C" fn pundaliket_word_to_f32(word: u32, out: &mut [u8]) -> u32
     ensures { λ r. ⌜ Sends (sentOf (hostReply (hostOf word)) (now (out .entry))) r (now (out .exit)) ⌝ }
 {
-    send(host::reply_to_word(word), out)
+    send(host_floats::reply_to_word(word), out)
 }
 
 // The word of the value of an f32, given by its bits, to `out`. Returns the refusal.
@@ -70,5 +70,5 @@ pub extern "C" fn pundaliket_word_to_f32(word: u32, out: &mut [u8]) -> u32
 pub extern "C" fn pundaliket_f32_to_word(bits: u32, out: &mut [u8]) -> u32
     ensures { λ r. ⌜ Sends (sentOf (takenReply (takenOf bits)) (now (out .entry))) r (now (out .exit)) ⌝ }
 {
-    send(host::reply_to_f32(bits), out)
+    send(host_floats::reply_to_f32(bits), out)
 }

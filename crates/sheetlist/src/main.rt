@@ -12,8 +12,8 @@ fn main() {
     let b = os::arg(2, &mut second);
     let mut input = [0u8; 12289];
     let n = io::read_full(STDIN_FILENO, &mut input);
-    let mut text = [0u8; sheetprint::PRINT_ROOM];
-    let m = sheetprint::told(
+    let mut text = [0u8; sheet_text::PRINT_ROOM];
+    let m = sheet_text::told(
         os::arg_count(),
         &first[..a],
         &second[..b],

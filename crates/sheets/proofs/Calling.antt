@@ -11,13 +11,13 @@ use Rattle.terms.specs.Refusal.{numberOf}
 use Rattle.terms.specs.Limits.{reportBytes, mostInput}
 use Rattle.terms.specs.Settings.{isMode, isRule, modeOf, ruleOf}
 use Rattle.chip.specs.Step.{given}
-use Rattle.memory.specs.Memory.{Card}
-use Rattle.files.specs.Run.{Outcome, Runs}
-use Rattle.files.proofs.Through.{through}
+use Rattle.error_memory.specs.Memory.{Card}
+use Rattle.record_files.specs.Run.{Outcome, Runs}
+use Rattle.record_files.proofs.Through.{through}
 use Rattle.sheets.proofs.Lines.{lawful}
-use Rattle.stored.specs.Bytes.{isState, cardIn, laidOut, doorOf, reportOf}
-use Rattle.stored.proofs.Calling.{shut}
-use Rattle.ledger.specs.Ledger.{isSheets}
+use Rattle.state_bytes.specs.Bytes.{isState, cardIn, laidOut, doorOf, reportOf}
+use Rattle.state_bytes.proofs.Calling.{shut}
+use Rattle.sheet_bytes.specs.Ledger.{isSheets}
 use Rattle.sheets.specs.Step.{Held, held, runOf}
 use Rattle.sheets.specs.Calls.{Calls, callOf, ranOf, away}
 

@@ -9,15 +9,15 @@ use lib.Dec.{ltb, lit<, lit≤}
 use lib.ListN.{length, getD, set, take, drop, replicate, length-drop, length-set}
 use lib.Seq.{getD-take, getD-set-same, getD-set-other, length-take-le, take-take, take-set-le}
 use Rattle.little.specs.Little.{wordAt, le4}
-use Rattle.files.proofs.Tests.{either-lt, either-eq}
-use Rattle.files.proofs.Through.{through}
-use Rattle.records.specs.Record.{turnOf}
-use Rattle.ledger.specs.declared.Refusal.the-variants.{StillOpen, NoneOpen, NoSuchSlot, HalfPending, SlotEmpty, ListFull}
-use Rattle.ledger.specs.Ledger.{isSheets, closedIn, isOpen, keptBits, laidAt, withBit, dropped, opened, keptIn, closed, openSerial, openWords}
-use Rattle.ledger.specs.Entering.{Entered, refuse, enter, openOf, keepOf, closeOf, enteredOf, payloadFor}
-use Rattle.ledger.proofs.Ledgers.{length-laid, length-line}
-use Rattle.ledger.proofs.Laid.{four, before-laid, in-laid, byte-behind, byte-of}
-use Rattle.ledger.proofs.Bits.{bits}
+use Rattle.record_files.proofs.Tests.{either-lt, either-eq}
+use Rattle.record_files.proofs.Through.{through}
+use Rattle.record_runs.specs.Record.{turnOf}
+use Rattle.sheet_bytes.specs.declared.Refusal.the-variants.{StillOpen, NoneOpen, NoSuchSlot, HalfPending, SlotEmpty, ListFull}
+use Rattle.sheet_bytes.specs.Ledger.{isSheets, closedIn, isOpen, keptBits, laidAt, withBit, dropped, opened, keptIn, closed, openSerial, openWords}
+use Rattle.sheet_bytes.specs.Entering.{Entered, refuse, enter, openOf, keepOf, closeOf, enteredOf, payloadFor}
+use Rattle.sheet_bytes.proofs.Ledgers.{length-laid, length-line}
+use Rattle.sheet_bytes.proofs.Laid.{four, before-laid, in-laid, byte-behind, byte-of}
+use Rattle.sheet_bytes.proofs.Bits.{bits}
 use Rattle.sheets.specs.Step.{Held, topOf, lineOf, runOf}
 use Rattle.sheets.specs.Growth.{Grown}
 use Rattle.sheets.proofs.Lines.{taken, lawful}

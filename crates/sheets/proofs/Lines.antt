@@ -11,20 +11,20 @@ use borrow.Author.Tests.{lt-ltb, le-ltb, eq-eqb, ne-eqb, ltb-false}
 use Rattle.little.specs.Little.{wordAt}
 use Rattle.terms.specs.declared.Refusal.the-variants.{CutShort}
 use Rattle.terms.specs.Limits.{mostPayload}
-use Rattle.files.specs.Run.{Turned, idle}
-use Rattle.files.specs.Lawful.{Stopping, Lawful}
-use Rattle.files.proofs.Tests.{either-lt, either-eq}
-use Rattle.files.proofs.Through.{drop-take}
-use Rattle.memory.specs.Memory.{Card}
-use Rattle.records.specs.Record.{Event}
-use Rattle.records.specs.Record.{Push, Pop, Command, Status, Reset, Acknowledge, Recall, Forget}
-use Rattle.records.specs.declared.head.Frame.the-variants.{Broken}
-use Rattle.records.specs.Record.{kindOf, frameUnder, turnUnder, turnOf}
-use Rattle.records.proofs.Heads.{short, cut, whole, frames}
-use Rattle.records.proofs.Steps.{steps}
-use Rattle.records.proofs.Turning.{length-dataOf}
-use Rattle.records.proofs.Prefix.{lawful as core-lawful}
-use Rattle.ledger.specs.Entering.{payloadFor}
+use Rattle.record_files.specs.Run.{Turned, idle}
+use Rattle.record_files.specs.Lawful.{Stopping, Lawful}
+use Rattle.record_files.proofs.Tests.{either-lt, either-eq}
+use Rattle.record_files.proofs.Through.{drop-take}
+use Rattle.error_memory.specs.Memory.{Card}
+use Rattle.record_runs.specs.Record.{Event}
+use Rattle.record_runs.specs.Record.{Push, Pop, Command, Status, Reset, Acknowledge, Recall, Forget}
+use Rattle.record_runs.specs.declared.head.Frame.the-variants.{Broken}
+use Rattle.record_runs.specs.Record.{kindOf, frameUnder, turnUnder, turnOf}
+use Rattle.record_runs.proofs.Heads.{short, cut, whole, frames}
+use Rattle.record_runs.proofs.Steps.{steps}
+use Rattle.record_runs.proofs.Turning.{length-dataOf}
+use Rattle.record_runs.proofs.Prefix.{lawful as core-lawful}
+use Rattle.sheet_bytes.specs.Entering.{payloadFor}
 use Rattle.sheets.specs.Step.{Held, held, isFramed, isOwnKind, isOwn, entryOf, ownTurn, answered, coreBy, lineOf}
 
 -- a whole record of this library at the front of a file

@@ -13,20 +13,20 @@ use Rattle.terms.specs.declared.Refusal.the-variants.{BadLength, NoRoom}
 use Rattle.terms.specs.Refusal.{numberOf as coreNumber}
 use Rattle.terms.specs.Limits.{mostPayload}
 use Rattle.terms.specs.Settings.{Settings}
-use Rattle.memory.specs.declared.Card.{Card as CardHeld}
-use Rattle.memory.specs.Memory.{Card}
-use Rattle.memory.specs.Held.{cardUnder}
-use Rattle.files.specs.Run.{Turned, Turns, idle}
-use Rattle.records.specs.declared.head.Frame.{Frame}
-use Rattle.records.specs.declared.step.Pass.{Pass}
-use Rattle.records.specs.Record.{frameUnder, turnOf}
-use Rattle.records.proofs.Ready.{calm-turn}
+use Rattle.error_memory.specs.declared.Card.{Card as CardHeld}
+use Rattle.error_memory.specs.Memory.{Card}
+use Rattle.error_memory.specs.Held.{cardUnder}
+use Rattle.record_files.specs.Run.{Turned, Turns, idle}
+use Rattle.record_runs.specs.declared.head.Frame.{Frame}
+use Rattle.record_runs.specs.declared.step.Pass.{Pass}
+use Rattle.record_runs.specs.Record.{frameUnder, turnOf}
+use Rattle.record_runs.proofs.Ready.{calm-turn}
 use Rattle.chip.proofs.Ready.{Ready}
-use Rattle.records.specs.Pass.{unchanged}
-use Rattle.ledger.specs.declared.Refusal.{Refusal as SheetRefusal}
-use Rattle.ledger.specs.Ledger.{bytesAt, dropped}
-use Rattle.ledger.specs.Entering.{Entered, numberOf, payloadFor}
-use Rattle.ledger.proofs.Entering.{Enters}
+use Rattle.record_runs.specs.Pass.{unchanged}
+use Rattle.sheet_bytes.specs.declared.Refusal.{Refusal as SheetRefusal}
+use Rattle.sheet_bytes.specs.Ledger.{bytesAt, dropped}
+use Rattle.sheet_bytes.specs.Entering.{Entered, numberOf, payloadFor}
+use Rattle.sheet_bytes.proofs.Entering.{Enters}
 use Rattle.sheets.specs.Step.{Held, held, isFramed, isOwn, answered, entryOf, ownReply, ownTurn, sheetsAfter, coreBy, lineOf}
 use Rattle.sheets.specs.Held.{Passed}
 use Rattle.sheets.proofs.Lines.{Owns, own-kind}

@@ -11,9 +11,9 @@ use Rattle.terms.specs.Refusal.{numberOf}
 use Rattle.terms.specs.Limits.{reportBytes, mostInput}
 use Rattle.terms.specs.Settings.{Settings, isMode, modeOf, isRule, ruleOf}
 use Rattle.chip.specs.Step.{given}
-use Rattle.files.specs.Run.{Outcome}
-use Rattle.stored.specs.Bytes.{isState, cardIn, laidOut, reportOf}
-use Rattle.ledger.specs.Ledger.{isSheets}
+use Rattle.record_files.specs.Run.{Outcome}
+use Rattle.state_bytes.specs.Bytes.{isState, cardIn, laidOut, reportOf}
+use Rattle.sheet_bytes.specs.Ledger.{isSheets}
 use Rattle.sheets.specs.Step.{Held, held, runOf}
 
 -- what the call returns, and what each slice holds after

@@ -4,11 +4,11 @@ use mathlib.Core.List.{List}
 use lib.ListN.{length}
 use Rattle.little.specs.Little.{wordAt}
 use Rattle.terms.specs.Settings.{Settings}
-use Rattle.memory.specs.declared.Card.{Card}
-use Rattle.memory.specs.Held.{cardUnder}
-use Rattle.files.specs.Run.{Turned, Turns, Outcome, Runs}
-use Rattle.records.specs.declared.step.Pass.{Pass}
-use Rattle.records.specs.Record.{turnOf}
+use Rattle.error_memory.specs.declared.Card.{Card}
+use Rattle.error_memory.specs.Held.{cardUnder}
+use Rattle.record_files.specs.Run.{Turned, Turns, Outcome, Runs}
+use Rattle.record_runs.specs.declared.step.Pass.{Pass}
+use Rattle.record_runs.specs.Record.{turnOf}
 use Rattle.sheets.specs.Step.{Held, held, ownTurn, coreBy}
 
 -- a turn, and a run, of the code beside the definition's, with the sheets that it leaves; the settings stay

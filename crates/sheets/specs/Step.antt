@@ -4,17 +4,17 @@ use mathlib.Core.Bool.{Bool, true, false, not, cond}
 use mathlib.Core.List.{List, [], _∷_, _++_}
 use lib.Dec.{eqb, ltb}
 use Rattle.little.specs.Little.{wordAt, le2}
-use Rattle.files.specs.Run.{Turned, Outcome, RecordStep, idle, runBy}
+use Rattle.record_files.specs.Run.{Turned, Outcome, RecordStep, idle, runBy}
 use Rattle.terms.specs.Limits.{mostPayload}
 use Rattle.terms.specs.declared.Refusal.the-variants.{BadLength, NoRoom}
 use Rattle.terms.specs.Refusal.{numberOf as coreNumber}
 use Rattle.stack.specs.Stack.{tos}
-use Rattle.memory.specs.Memory.{Card}
-use Rattle.records.specs.declared.head.Frame.{Frame}
-use Rattle.records.specs.declared.head.Frame.the-variants.{Framed, Broken}
-use Rattle.records.specs.Record.{frameUnder, turnOf}
-use Rattle.ledger.specs.Ledger.{bytesAt, dropped}
-use Rattle.ledger.specs.Entering.{Entered, numberOf, openKind, closeKind, payloadFor, enteredOf}
+use Rattle.error_memory.specs.Memory.{Card}
+use Rattle.record_runs.specs.declared.head.Frame.{Frame}
+use Rattle.record_runs.specs.declared.head.Frame.the-variants.{Framed, Broken}
+use Rattle.record_runs.specs.Record.{frameUnder, turnOf}
+use Rattle.sheet_bytes.specs.Ledger.{bytesAt, dropped}
+use Rattle.sheet_bytes.specs.Entering.{Entered, numberOf, openKind, closeKind, payloadFor, enteredOf}
 
 -- the card and the bytes of the sheets
 pub record Held : Type 0 where

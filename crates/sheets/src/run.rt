@@ -1,16 +1,16 @@
 // The run of a file with records of this library among the core's: every record in turn, by the record step.
 use crate::step::pass_line;
 use chip::State;
-use memory::Card;
-use records::step::Pass;
+use error_memory::Card;
+use record_runs::step::Pass;
 use terms::Mode;
 use terms::Rule;
 ghost use mathlib.Core.Path.{_≡_};
 ghost use Prim.Native.Nat.{_<_};
 ghost use lib.ListN.{length};
 ghost use Rattle.chip.specs.Step.{given};
-ghost use Rattle.ledger.specs.Ledger.{sheetsBytes};
-ghost use Rattle.memory.specs.Held.{cardUnder};
+ghost use Rattle.sheet_bytes.specs.Ledger.{sheetsBytes};
+ghost use Rattle.error_memory.specs.Held.{cardUnder};
 ghost use Rattle.sheets.specs.Step.{held, runOf};
 ghost use Rattle.sheets.specs.Held.{Ran};
 

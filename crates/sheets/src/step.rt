@@ -1,19 +1,19 @@
 // The record step of this library, on a card and on the sheets where they lie: its own kinds, and the core's step for
 // all others.
-use ledger::bytes::drop_open;
-use ledger::enter::CLOSE_KIND;
-use ledger::enter::OPEN_KIND;
-use ledger::enter::enter;
-use ledger::enter::payload_for;
-use ledger::number;
-use memory::Card;
-use records::head::Frame;
-use records::head::read_frame;
-use records::head::word;
-use records::step::Pass;
-use records::step::open_reply;
-use records::step::pass_record;
-use records::step::stop;
+use error_memory::Card;
+use record_runs::head::Frame;
+use record_runs::head::read_frame;
+use record_runs::head::word;
+use record_runs::step::Pass;
+use record_runs::step::open_reply;
+use record_runs::step::pass_record;
+use record_runs::step::stop;
+use sheet_bytes::bytes::drop_open;
+use sheet_bytes::enter::CLOSE_KIND;
+use sheet_bytes::enter::OPEN_KIND;
+use sheet_bytes::enter::enter;
+use sheet_bytes::enter::payload_for;
+use sheet_bytes::number;
 use terms::Mode;
 use terms::Refusal;
 use terms::Rule;
@@ -23,8 +23,8 @@ ghost use mathlib.Core.Bool.{true};
 ghost use Prim.Native.Nat.{_<_};
 ghost use lib.ListN.{length};
 ghost use Rattle.chip.specs.Step.{given};
-ghost use Rattle.ledger.specs.Ledger.{sheetsBytes};
-ghost use Rattle.memory.specs.Held.{cardUnder};
+ghost use Rattle.sheet_bytes.specs.Ledger.{sheetsBytes};
+ghost use Rattle.error_memory.specs.Held.{cardUnder};
 ghost use Rattle.sheets.specs.Step.{held, isOwn, lineOf};
 ghost use Rattle.sheets.specs.Held.{Passed, PassesOwn, PassesCore};
 

@@ -11,8 +11,8 @@ fn main() {
     let k = os::arg(3, &mut a);
     let mut option = [0u8; 16];
     let j = os::arg(4, &mut option);
-    let mut text = [0u8; workings::TEXT_ROOM];
-    let t = workings::told(
+    let mut text = [0u8; step_text::TEXT_ROOM];
+    let t = step_text::told(
         os::arg_count(),
         &code[..n],
         &b[..m],

@@ -6,10 +6,10 @@ use lib.ListN.{length}
 use denote.Ref.{now}
 use Rattle.chip.specs.State.{State}
 use Rattle.chip.specs.Step.{given}
-use Rattle.memory.specs.Memory.{Card, cardWith}
-use Rattle.memory.specs.Held.{cardUnder}
-use Rattle.stored.specs.Bytes.{cardIn}
-use Rattle.stored.proofs.States.{state-sized, state-ready}
+use Rattle.error_memory.specs.Memory.{Card, cardWith}
+use Rattle.error_memory.specs.Held.{cardUnder}
+use Rattle.state_bytes.specs.Bytes.{cardIn}
+use Rattle.state_bytes.proofs.States.{state-sized, state-ready}
 use Rattle.sheets.specs.Step.{held, runOf}
 use Rattle.sheets.specs.Held.{Ran}
 use Rattle.sheets.proofs.Calling.{called, run-small}

@@ -5,9 +5,9 @@ use borrow.Author.Tests.{not-true, not-false}
 use denote.Ref.{now}
 use Rattle.terms.specs.declared.Refusal.the-variants.{BadState, InputTooLong}
 use Rattle.terms.specs.Refusal.{numberOf}
-use Rattle.stored.specs.Bytes.{doorOf, reportOf}
-use Rattle.stored.proofs.Calling.{Admitted, admitted}
-use Rattle.ledger.proofs.Ledgers.{is-long}
+use Rattle.state_bytes.specs.Bytes.{doorOf, reportOf}
+use Rattle.state_bytes.proofs.Calling.{Admitted, admitted}
+use Rattle.sheet_bytes.proofs.Ledgers.{is-long}
 use Rattle.sheets.proofs.Calling.{turned-away, bad-report, call-away, bad-sheets, too-long, good}
 use borrow.Author.Needs.{needs}
 use Rattle.sheets.proofs.sheets_run.Statement.{statement}

@@ -8,10 +8,10 @@ use Rattle.stack.proofs.TwoWords.{is-stack}
 use Rattle.chip.specs.Step.{given}
 use Rattle.chip.specs.Held.{stateIn}
 use Rattle.chip.proofs.Ready.{Ready}
-use Rattle.memory.specs.Held.{cardUnder}
-use Rattle.files.proofs.Running.{Going, starts, goes-on, stops, ends, all-length}
-use Rattle.records.proofs.Writes.{all-rest, back}
-use Rattle.ledger.specs.Ledger.{sheetsBytes}
+use Rattle.error_memory.specs.Held.{cardUnder}
+use Rattle.record_files.proofs.Running.{Going, starts, goes-on, stops, ends, all-length}
+use Rattle.record_runs.proofs.Writes.{all-rest, back}
+use Rattle.sheet_bytes.specs.Ledger.{sheetsBytes}
 use Rattle.sheets.specs.Step.{Held, held, lineOf}
 use Rattle.sheets.specs.Held.{Passed}
 use Rattle.sheets.proofs.Lines.{lawful}

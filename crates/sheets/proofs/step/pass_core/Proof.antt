@@ -5,8 +5,8 @@ use lib.ListN.{length}
 use denote.Ref.{now}
 use Rattle.little.specs.Little.{wordAt}
 use Rattle.chip.specs.Step.{given}
-use Rattle.memory.specs.Held.{cardUnder}
-use Rattle.records.specs.Record.{turnOf}
+use Rattle.error_memory.specs.Held.{cardUnder}
+use Rattle.record_runs.specs.Record.{turnOf}
 use Rattle.sheets.specs.Step.{held}
 use Rattle.sheets.proofs.Lines.{core-took}
 use Rattle.sheets.proofs.Turning.{core-turns, refused-keeps, other-keeps, reset-drops}

@@ -7,8 +7,8 @@ use native.Mathlib.Nat.{add-sub-cancel-left}
 use lib.ListN.{take, drop}
 use denote.Ref.{now}
 use Rattle.little.specs.Little.{wordAt, le2}
-use Rattle.memory.specs.Held.{cardUnder}
-use Rattle.ledger.specs.Entering.{payloadFor}
+use Rattle.error_memory.specs.Held.{cardUnder}
+use Rattle.sheet_bytes.specs.Entering.{payloadFor}
 use Rattle.sheets.specs.Step.{held}
 use Rattle.sheets.proofs.Lines.{owns}
 use Rattle.sheets.proofs.Turning.{own-bad, own-full, own-done}

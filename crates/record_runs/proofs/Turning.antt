@@ -1,0 +1,161 @@
+-- A record step beside its definition: one that stops leaves all as it was, one that works leaves the reply at the front of the room. Assumes nothing.
+use mathlib.Core.Path.{_≡_, refl, sym, ap, subst, _∙_}
+use mathlib.Core.List.{List, [], _∷_, _++_, append-assoc}
+use Prim.Native.Nat.{ℕ, zero, suc, _+_, _≤_, _<_, zero-le}
+use native.Mathlib.Omega.{arith}
+use borrow.Author.Tests.{lt-ltb, le-ltb, lt-leb, eq-eqb, ne-eqb}
+use lib.Dec.{lit<}
+use lib.ListN.{length, take, drop, getD, length-drop}
+use lib.Seq.{length-take-le, drop-drop, drop-at, sets, sets-eq, getD-take, getD-drop}
+use Rattle.terms.specs.declared.Refusal.{Refusal}
+use Rattle.terms.specs.declared.Refusal.the-variants.{NoRoom, BadLength}
+use Rattle.terms.specs.Refusal.{numberOf}
+use Rattle.terms.specs.Limits.{mostPayload}
+use Rattle.terms.specs.Settings.{Settings}
+use Rattle.chip.specs.declared.State.{State}
+use Rattle.chip.specs.State.{Answer}
+use Rattle.chip.specs.Event.{Command as CommandEvent, Reset as ResetEvent}
+use Rattle.chip.specs.Step.{readOf}
+use Rattle.error_memory.specs.declared.Memory.{Memory}
+use Rattle.error_memory.specs.declared.Card.{Card as Held}
+use Rattle.error_memory.specs.Memory.{Card, CardAnswer, emptyMemory, remembered, keptBy}
+use Rattle.error_memory.specs.Held.{cardUnder}
+use Rattle.record_files.specs.Run.{Turns}
+use Rattle.record_runs.specs.declared.head.EventKind.{EventKind}
+use Rattle.record_runs.specs.declared.head.EventKind.the-variants.{Push as PushKind, Pop as PopKind, Command as CommandKind, Status as StatusKind, Reset as ResetKind, Acknowledge as AcknowledgeKind, Recall as RecallKind, Forget as ForgetKind, Unknown as UnknownKind}
+use Rattle.record_runs.specs.declared.head.Frame.the-variants.{Framed, Broken}
+use Rattle.record_runs.specs.declared.step.Pass.{Pass}
+use Rattle.record_runs.specs.Record.{Event, Push, Pop, Command, Status, Reset, Acknowledge, Recall, Forget, Head, Whole, Stop}
+use Rattle.record_runs.specs.Record.{wordAt, le2, exactly, kindNamed, rowBy, kindOf, payloadOf, answeredOf, frameUnder, headIn, answerOf, dataOf, replyOf, stopped, turnBy, turnUnder, turnOf}
+use Rattle.record_runs.specs.Pass.{unchanged, finished, Passed, Passes}
+use Rattle.record_runs.proofs.Heads.{frame-stops}
+use Rattle.record_runs.proofs.Blocks.{length-popped}
+
+-- the data of a reply are as many as its event says
+pub length-dataOf : (c : Card) (e : Event) → length (dataOf c e) ≡ answeredOf e
+length-dataOf c (Push n) = refl
+length-dataOf c (Pop n) = length-popped n (c .chip)
+length-dataOf c (Command code) = refl
+length-dataOf c Status = refl
+length-dataOf c Reset = refl
+length-dataOf c Acknowledge = refl
+length-dataOf c Recall = refl
+length-dataOf c Forget = refl
+
+-- a reply that is written, and the room after it
+closed : (kind r n : ℕ) (bytes room : List ℕ) → length bytes ≡ n
+    → le2 (3 + n) ++ (le2 (kind + 128) ++ (r ∷ (bytes ++ drop (5 + n) room))) ≡ replyOf kind r bytes ++ drop (length (replyOf kind r bytes)) room
+closed kind r n bytes room h =
+    let k : 5 + n ≡ length (replyOf kind r bytes) = omega arith in
+    ap (λ (i : ℕ). le2 (3 + n) ++ (le2 (kind + 128) ++ (r ∷ (bytes ++ drop i room)))) k
+    ∙ ap (λ (i : ℕ). le2 (3 + i) ++ (le2 (kind + 128) ++ (r ∷ (bytes ++ drop (length (replyOf kind r bytes)) room)))) (sym h)
+
+module _ (on : Settings) (c : Held) (file room : List ℕ) where
+  -- a record that stops
+  pub stays : (q : Refusal) {r : Pass} → r ≡ unchanged q c → 0 < numberOf q → Passed on (stopped q (cardUnder on c)) r file room room
+  stays q e h = subst (λ (x : Pass). Passed on (stopped q (cardUnder on c)) x file room room) (sym e) (record {
+    refusal-is = refl;
+    state-is = refl;
+    size-is = refl;
+    reply-is = refl;
+    left-is = refl;
+    within = zero-le;
+    fits = zero-le;
+    moves = λ z. omega arith;
+  })
+
+  pub no-room : (e : Event) {r : Pass} → r ≡ unchanged NoRoom c → length room < 5 + answeredOf e → Passed on (turnBy (cardUnder on c) file (length room) (Whole e)) r file room room
+  no-room e er h = rw (lt-ltb (length room) (5 + answeredOf e) h) (stays NoRoom er (lit< tt))
+
+  -- a payload that has not as many bytes as it must have, or as many
+  pub other-size : (wanted n : ℕ) (e : Event) {r : Pass} → (n ≡ wanted → ⊥) → r ≡ unchanged BadLength c
+      → Passed on (turnBy (cardUnder on c) file (length room) (exactly wanted n e)) r file room room
+  other-size wanted n e h er = rw (ne-eqb n wanted h) (stays BadLength er (lit< tt))
+
+  pub that-size : (wanted n : ℕ) (e : Event) (r : Pass) {left : List ℕ} → n ≡ wanted
+      → Passed on (turnBy (cardUnder on c) file (length room) (Whole e)) r file room left → Passed on (turnBy (cardUnder on c) file (length room) (exactly wanted n e)) r file room left
+  that-size wanted n e r h w = rw (eq-eqb n wanted h) w
+
+  -- a record that is worked: the answer found to be its event's, the data behind the reply's first five bytes
+  pub took : (e : Event) (a : CardAnswer) (s : State) (m : Memory) {r : Pass} {refusal : ℕ} {bytes left : List ℕ}
+      → r ≡ finished s m (4 + payloadOf e) (5 + answeredOf e) → a ≡ answerOf (cardUnder on c) (take (payloadOf e) (drop 4 file)) e
+      → cardUnder on (record { chip = s; memory = m }) ≡ a .card → refusal ≡ numberOf (a .refusal)
+      → bytes ≡ dataOf (cardUnder on c) e ++ drop (answeredOf e) (drop 5 room) → left ≡ le2 (3 + answeredOf e) ++ (le2 (kindOf e + 128) ++ (refusal ∷ bytes))
+      → 4 + payloadOf e ≤ length file → 5 + answeredOf e ≤ length room
+      → Passed on (turnBy (cardUnder on c) file (length room) (Whole e)) r file room left
+  took e a s m {left = left} ep ea ek er eb el there has =
+      let k = cardUnder on c in
+      let d = length-dataOf k e in
+      let t : Passed on (turnBy k file (length room) (Whole e)) (finished s m (4 + payloadOf e) (5 + answeredOf e)) file room left = rw (le-ltb (length room) (5 + answeredOf e) has) (record {
+        refusal-is = refl;
+        state-is = ek ∙ ap (λ (x : CardAnswer). x .card) ea;
+        size-is = refl;
+        reply-is = omega (arith, d);
+        left-is =
+            el
+            ∙ rw (eb, drop-drop (answeredOf e) 5 room, er, ea)
+            (closed (kindOf e) (numberOf (answerOf k (take (payloadOf e) (drop 4 file)) e .refusal)) (answeredOf e) (dataOf k e) room d);
+        within = there;
+        fits = has;
+        moves = λ z. omega arith;
+      }) in
+      subst (λ (x : Pass). Passed on (turnBy k file (length room) (Whole e)) x file room left) (sym ep) t
+
+-- ---- what is remembered after a command and after a reset, by the number of the refusal
+module _ (m : Memory) (code n status : ℕ) where
+  pub refused-keeps : (n ≡ 0 → ⊥) → m ≡ keptBy m (CommandEvent code) n status
+  refused-keeps h = rw (ne-eqb n 0 h)
+
+  pub done-keeps : {x : Memory} → n ≡ 0 → x ≡ remembered m code status → x ≡ keptBy m (CommandEvent code) n status
+  done-keeps h e = e ∙ rw (eq-eqb n 0 h)
+
+-- ---- what a worker lays behind the first five bytes
+pub behind : (room left : List ℕ) → 5 ≤ length room → drop 5 (take 5 room ++ left) ≡ left
+behind room left h = drop-at (take 5 room) left 5 (length-take-le 5 room h)
+
+stored : (room bytes : List ℕ) → 5 + length bytes ≤ length room → drop 5 (sets room 5 bytes) ≡ bytes ++ drop (length bytes) (drop 5 room)
+stored room bytes h =
+    ap (drop 5) (sets-eq bytes room 5 (omega arith) ∙ append-assoc (take 5 room) bytes (drop (5 + length bytes) room))
+    ∙ behind room (bytes ++ drop (5 + length bytes) room) (omega arith)
+    ∙ ap (λ (l : List ℕ). bytes ++ l) (sym (drop-drop (length bytes) 5 room))
+
+-- the status byte as the data of a reply, and the memory's two bytes
+pub status-data : (c : Card) (room : List ℕ) (b : ℕ) → b ≡ readOf (c .chip) .byte → 6 ≤ length room → drop 5 (sets room 5 (b ∷ [])) ≡ dataOf c Status ++ drop 1 (drop 5 room)
+status-data c room b e h = stored room (b ∷ []) h ∙ ap (λ (x : ℕ). x ∷ drop 1 (drop 5 room)) e
+
+pub recall-data : (c : Card) (room : List ℕ) → c .chip .status < 128 → 7 ≤ length room
+    → drop 5 (sets room 5 (c .memory .bits ∷ c .memory .code ∷ [])) ≡ dataOf c Recall ++ drop 2 (drop 5 room)
+recall-data c room ready h = stored room (c .memory .bits ∷ c .memory .code ∷ []) h ∙ rw (lt-leb 128 (c .chip .status) ready)
+
+-- ---- a frame, and the kind and the payload in it
+-- a payload of no byte has no first one
+no-first : (kind : EventKind) (x y : ℕ) → rowBy mostPayload kind 0 x ≡ rowBy mostPayload kind 0 y
+no-first PushKind x y = refl
+no-first PopKind x y = refl
+no-first CommandKind x y = refl
+no-first StatusKind x y = refl
+no-first ResetKind x y = refl
+no-first AcknowledgeKind x y = refl
+no-first RecallKind x y = refl
+no-first ForgetKind x y = refl
+no-first UnknownKind x y = refl
+
+same-first : (kind : EventKind) (n : ℕ) (l : List ℕ) → rowBy mostPayload kind n (getD (take n (drop 4 l)) 0 0) ≡ rowBy mostPayload kind n (getD l 4 0)
+same-first kind zero l = no-first kind (getD (take 0 (drop 4 l)) 0 0) (getD l 4 0)
+same-first kind (suc n) l = ap (rowBy mostPayload kind (suc n)) (getD-take (suc n) (drop 4 l) 0 0 (omega arith) ∙ getD-drop 4 l 0 0)
+
+pub framed : (on : Settings) (c : Held) (l room left : List ℕ) (n : ℕ) (kind : EventKind) (r : Pass)
+    → 4 + n ≤ length l → kind ≡ kindNamed (wordAt l 2) → frameUnder mostPayload l ≡ Framed n
+    → Passes on c kind (take n (drop 4 l)) r room left → Passed on (turnOf (cardUnder on c) l (length room)) r l room left
+unfolding turnUnder
+framed on c l room left n kind r there ek ef passes =
+    let p = take n (drop 4 l) in
+    let e : length p ≡ n = length-take-le n (drop 4 l) (omega (arith, length-drop 4 l)) in
+    let row = ap (λ (k : ℕ). rowBy mostPayload kind k (getD p 0 0)) e ∙ same-first kind n l ∙ ap (λ (k : EventKind). rowBy mostPayload k n (getD l 4 0)) ek ∙ ap (headIn mostPayload l) (sym ef) in
+    subst (λ (h : Head). Passed on (turnBy (cardUnder on c) l (length room) h) r l room left) row (passes l (omega (arith, e, there)) (ap (λ (k : ℕ). take k (drop 4 l)) e))
+
+pub broken : (on : Settings) (c : Held) (l room : List ℕ) (q : Refusal) {r : Pass} → frameUnder mostPayload l ≡ Broken q → r ≡ unchanged q c → Passed on (turnOf (cardUnder on c) l (length room)) r l room room
+unfolding turnUnder
+broken on c l room q ef er =
+    let s = frame-stops mostPayload l q ef in
+    rw ef (stays on c l room q er (omega (arith, s .0)))

@@ -1,0 +1,201 @@
+-- The ways through the calls: by the door and the tests behind it, which case of the definition holds. Assumes nothing.
+use mathlib.Core.Path.{_≡_, refl, sym, ap, subst, _∙_}
+use mathlib.Core.Logic.{⊎-elim}
+use mathlib.Core.Bool.{Bool, true, false, cond}
+use mathlib.Core.List.{List, _++_}
+use Prim.Native.Nat.{ℕ, _≤_, _<_}
+use native.Mathlib.Omega.{arith}
+use lib.Dec.{eqb}
+use lib.ListN.{length, take}
+use lib.Seq.{length-take-le}
+use borrow.Author.Tests.{lt-ltb, le-ltb, lt-leb, le-leb, leb-true, eq-eqb, ne-eqb, eqb-true}
+use Rattle.terms.specs.declared.Refusal.{Refusal}
+use Rattle.terms.specs.declared.Refusal.the-variants.{Done, InputTooLong, BadState, BadMode, BadRule}
+use Rattle.terms.specs.Refusal.{numberOf}
+use Rattle.terms.specs.declared.Mode.the-variants.{Am9511A}
+use Rattle.terms.specs.declared.Rule.the-variants.{Cut}
+use Rattle.terms.specs.Settings.{Settings, isMode, isRule}
+use Rattle.chip.specs.Step.{given}
+use Rattle.chip.specs.State.{State, Answer}
+use Rattle.chip.specs.declared.Answer.{Answer as HeldAnswer}
+use Rattle.chip.specs.Held.{answerIn}
+use Rattle.error_memory.specs.declared.Memory.{Memory}
+use Rattle.error_memory.specs.Event.{Event, Recall, Forget}
+use Rattle.error_memory.specs.Memory.{emptyMemory, Card, CardAnswer, cardWith, around, eventIn}
+use Rattle.error_memory.proofs.Good.{recalled, forgotten}
+use Rattle.record_files.specs.Run.{Runs}
+use Rattle.record_runs.specs.Record.{kindNamed}
+use Rattle.record_runs.specs.Run.{Outcome, runOf}
+use Rattle.state_bytes.specs.Bytes.{Sized, isState, stateOf, memoryIn, cardIn, memoryBytesOf, withMemory, laid, laidOut, doorOf, reportOf}
+use Rattle.state_bytes.specs.Calls.{settingsOf, ranOf, away, callUnder, signalUnder, callOf, Calls, answeredBy, Signal, joinedOf, signalBy, unsent, signalOf, Signals, Settles}
+use Rattle.state_bytes.proofs.Laid.{other-memory}
+use Rattle.state_bytes.proofs.States.{least, sized-as, state-sized, state-ready, short-memory, long-memory}
+use Rattle.state_bytes.proofs.Cards.{card-returns, laid-length, long-back}
+
+-- ---- the door
+module _ {A : Type 0} (f : Refusal → A) (a : A) where
+  -- shut, it gives its refusal
+  pub shut : (x y z : Bool) → (numberOf (cond x (cond y (cond z Done BadState) BadRule) BadMode) ≡ 0 → ⊥)
+      → cond x (cond y (cond z a (f BadState)) (f BadRule)) (f BadMode) ≡ f (cond x (cond y (cond z Done BadState) BadRule) BadMode)
+  shut true true true h = absurd (h refl)
+  shut true true false h = refl
+  shut true false true h = refl
+  shut true false false h = refl
+  shut false true true h = refl
+  shut false true false h = refl
+  shut false false true h = refl
+  shut false false false h = refl
+
+-- open, all three were good
+opened : (x y z : Bool) → numberOf (cond x (cond y (cond z Done BadState) BadRule) BadMode) ≡ 0 → (x ≡ true) × (y ≡ true) × (z ≡ true)
+opened true true true h = (refl, refl, refl)
+opened true true false h = let y : ⊥ = omega arith in absurd y
+opened true false true h = let y : ⊥ = omega arith in absurd y
+opened true false false h = let y : ⊥ = omega arith in absurd y
+opened false true true h = let y : ⊥ = omega arith in absurd y
+opened false true false h = let y : ⊥ = omega arith in absurd y
+opened false false true h = let y : ⊥ = omega arith in absurd y
+opened false false false h = let y : ⊥ = omega arith in absurd y
+
+-- what was admitted
+pub record Admitted (mode rule : ℕ) (state : List ℕ) : Type 0 where
+  pub mode-is : mode ≤ 1
+  pub rule-is : rule ≤ 1
+  pub state-is : isState state ≡ true
+
+pub admitted : (mode rule : ℕ) (state : List ℕ) → numberOf (doorOf mode rule state) ≡ 0 → Admitted mode rule state
+admitted mode rule state h =
+    let o = opened (isMode mode) (isRule rule) (isState state) h in
+    record { mode-is = leb-true mode 1 (o .0); rule-is = leb-true rule 1 (o .1); state-is = o .2 }
+
+-- ---- a chip's bytes written, then what is remembered
+pub kept-back : (l : List ℕ) (s : State) (f : Memory → Memory) {y left : List ℕ} → Sized l → length (s .stack) ≡ 16 → y ≡ laid (length l) s (memoryIn l)
+    → left ≡ withMemory y (f (memoryIn y)) → left ≡ laid (length l) s (f (memoryIn l))
+kept-back l s f {y} h n e k =
+    let len : length y ≡ length l = ap length e ∙ laid-length (cardWith (given Am9511A Cut) s (memoryIn l)) n (length l) h in
+    let mem : memoryIn y ≡ memoryIn l = ⊎-elim (λ a. short-memory y (len ∙ a) ∙ sym (short-memory l a)) (λ b. ap memoryIn e ∙ long-back s (memoryIn l) n (length l) b) h in
+    other-memory (length l) s (memoryIn l) (f (memoryIn y)) n e len k ∙ ap (λ (m : Memory). laid (length l) s (f m)) mem
+
+pub laid-sized : (l : List ℕ) (s : State) (m : Memory) {y : List ℕ} → Sized l → length (s .stack) ≡ 16 → y ≡ laid (length l) s m → Sized y
+laid-sized l s m {y} h n e = sized-as l y (ap length e ∙ laid-length (cardWith (given Am9511A Cut) s m) n (length l) h) h
+
+-- ---- the run
+-- a run of the code, with its state and report laid out
+pub called : (size : ℕ) (o : Outcome) (refusal : ℕ) (c : Card) (taken written : ℕ) (input replies left state report : List ℕ)
+    → Runs o refusal c taken written input replies left → state ≡ laidOut size c → report ≡ reportOf refusal taken written
+    → Calls (ranOf size o replies) refusal state left report
+called size o refusal c taken written input replies left state report r a b = record {
+  result-is = r .refusal-is;
+  state-is = a ∙ rw (r .state-is);
+  replies-is = r .left-is;
+  report-is = b ∙ rw (r .refusal-is, r .taken-is, r .written-is);
+}
+
+-- a call that is turned away
+pub turned-away : (r : Refusal) (n : ℕ) (state replies report : List ℕ) → n ≡ numberOf r → report ≡ reportOf (numberOf r) 0 0
+    → Calls (away r state replies) n state replies report
+turned-away r n state replies report e h = record { result-is = e; state-is = refl; replies-is = refl; report-is = h }
+
+module _ (mode rule : ℕ) (state input replies report : List ℕ) where
+  pub call-away : length report ≡ 9 → (numberOf (doorOf mode rule state) ≡ 0 → ⊥) → callOf mode rule state input replies report ≡ away (doorOf mode rule state) state replies
+  unfolding callOf
+  call-away a h = rw (eq-eqb (length report) 9 a) (shut (λ r. away r state replies) _ (isMode mode) (isRule rule) (isState state) h)
+
+  pub bad-report : (length report ≡ 9 → ⊥) → (n : ℕ) → n ≡ 14 → Calls (callOf mode rule state input replies report) n state replies report
+  unfolding callOf
+  bad-report a n e = simp ne-eqb record { result-is = e; state-is = refl; replies-is = refl; report-is = refl }
+
+  -- under numbers that are not turned away
+  pub run-chosen : mode ≤ 1 → rule ≤ 1 → callOf mode rule state input replies report ≡ cond (eqb (length report) 9) (callUnder (settingsOf mode rule) state input replies) (record { result = 14; state = state; replies = replies; report = report })
+  unfolding callOf
+  run-chosen k q = rw (le-leb mode 1 k, le-leb rule 1 q)
+
+  pub bad-mode : length report ≡ 9 → 1 < mode → callOf mode rule state input replies report ≡ away BadMode state replies
+  unfolding callOf
+  bad-mode a k = rw (eq-eqb (length report) 9 a, lt-leb mode 1 k)
+
+  pub bad-rule : length report ≡ 9 → mode ≤ 1 → 1 < rule → callOf mode rule state input replies report ≡ away BadRule state replies
+  unfolding callOf
+  bad-rule a k q = rw (eq-eqb (length report) 9 a, le-leb mode 1 k, lt-leb rule 1 q)
+
+  pub bad-state : length report ≡ 9 → mode ≤ 1 → rule ≤ 1 → isState state ≡ false → callOf mode rule state input replies report ≡ away BadState state replies
+  unfolding callOf
+  bad-state a k q b = rw (eq-eqb (length report) 9 a, le-leb mode 1 k, le-leb rule 1 q, b)
+
+  pub too-long : length report ≡ 9 → mode ≤ 1 → rule ≤ 1 → isState state ≡ true → 12288 < length input → callOf mode rule state input replies report ≡ away InputTooLong state replies
+  unfolding callOf
+  too-long a k q b d = rw (eq-eqb (length report) 9 a, le-leb mode 1 k, le-leb rule 1 q, b, lt-ltb 12288 (length input) d)
+
+  pub good : length report ≡ 9 → mode ≤ 1 → rule ≤ 1 → isState state ≡ true → length input ≤ 12288
+      → callOf mode rule state input replies report ≡ ranOf (length state) (runOf (cardIn (settingsOf mode rule) state) input (length replies)) replies
+  unfolding callOf
+  good a k q b d = rw (eq-eqb (length report) 9 a, le-leb mode 1 k, le-leb rule 1 q, b, le-ltb 12288 (length input) d)
+
+-- ---- a single event
+-- refused, or done and laid out
+module _ (state : List ℕ) (on : Settings) (m : Memory) (a : Answer) {n r : ℕ} (en : n ≡ numberOf (a .refusal)) (er : r ≡ joinedOf n (a .byte)) where
+  pub no-event : (n ≡ 0 → ⊥) → Signals (signalBy state (around on m a)) r state
+  no-event g = rw (← en, ne-eqb n 0 g) record { result-is = er; state-is = refl }
+
+  pub an-event : {left : List ℕ} → n ≡ 0 → left ≡ laid (length state) (a .state) m → Signals (signalBy state (around on m a)) r left
+  an-event g d = rw (← en, eq-eqb n 0 g) record { result-is = er; state-is = d }
+
+-- what is remembered counts where the event was done
+pub signal-as : (state : List ℕ) (on : Settings) (a : Answer) (k m : Memory) → (numberOf (a .refusal) ≡ 0 → k ≡ m) → signalBy state (around on k a) ≡ signalBy state (around on m a)
+signal-as state on a k m h = by (eqb (numberOf (a .refusal)) 0) refl
+  where
+    with-memory : Bool → Memory → Signal
+    with-memory x z = record { result = joinedOf (numberOf (a .refusal)) (a .byte); state = cond x (laid (length state) (a .state) z) state }
+
+    by : (x : Bool) → eqb (numberOf (a .refusal)) 0 ≡ x → with-memory x k ≡ with-memory x m
+    by true e = ap (with-memory true) (h (eqb-true (numberOf (a .refusal)) 0 e))
+    by false e = refl
+
+-- the program's answer, found to be the chip's, with what that leaves remembered
+pub settled : (state : List ℕ) (a : HeldAnswer) (k m : Memory) (on : Settings) {r : ℕ} {left : List ℕ} {b : Answer} → Settles state a k r left → answerIn a ≡ b
+    → (numberOf (b .refusal) ≡ 0 → k ≡ m) → Signals (signalBy state (around on m b)) r left
+settled state a k m on {r} {left} {b} w e h =
+    subst (λ (t : Signal). Signals t r left) (ap (λ (x : Answer). signalBy state (around on k x)) e ∙ signal-as state on b k m h) (w on)
+
+-- the memory read, and cleared
+module _ (on : Settings) (state : List ℕ) (h : isState state ≡ true) {r : ℕ} where
+  by-card : {a b : CardAnswer} {left : List ℕ} → a ≡ b → Signals (signalBy state a) r left → Signals (signalBy state b) r left
+  by-card {left = left} e w = subst (λ (x : CardAnswer). Signals (signalBy state x) r left) e w
+
+  pub a-recall : (m : Memory) → m ≡ memoryIn state → r ≡ joinedOf 0 (m .bits) → Signals (signalBy state (eventIn (cardIn on state) Recall)) r state
+  a-recall m is er =
+      by-card (recalled (cardIn on state) (state-ready state h)) (record { result-is = er ∙ ap (λ (k : Memory). joinedOf 0 (k .bits)) is; state-is = sym (card-returns on state h) })
+
+  pub a-forget : (m : Memory) {left : List ℕ} → m ≡ emptyMemory → r ≡ joinedOf 0 0 → left ≡ take 19 state ++ memoryBytesOf (length state) m → Signals (signalBy state (eventIn (cardIn on state) Forget)) r left
+  a-forget m is er e =
+      by-card (forgotten (cardIn on state) (state-ready state h)) (record {
+        result-is = er;
+        state-is = other-memory (length state) (stateOf state) (memoryIn state) emptyMemory (length-take-le 16 state (omega (arith, least state (state-sized state h)))) (sym (card-returns on state h)) refl
+            (e ∙ ap (λ (k : Memory). take 19 state ++ memoryBytesOf (length state) k) is);
+      })
+
+-- by the door
+module _ (mode rule : ℕ) (state : List ℕ) (kind byte : ℕ) where
+  pub no-mode : 1 < mode → (n r : ℕ) → n ≡ numberOf BadMode → r ≡ joinedOf n 0 → Signals (signalOf mode rule state kind byte) r state
+  unfolding signalOf
+  no-mode k n r e f = rw (lt-leb mode 1 k) record { result-is = f ∙ rw e; state-is = refl }
+
+  pub no-rule : mode ≤ 1 → 1 < rule → (n r : ℕ) → n ≡ numberOf BadRule → r ≡ joinedOf n 0 → Signals (signalOf mode rule state kind byte) r state
+  unfolding signalOf
+  no-rule k q n r e f = rw (le-leb mode 1 k, lt-leb rule 1 q) record { result-is = f ∙ rw e; state-is = refl }
+
+  pub event-chosen : mode ≤ 1 → rule ≤ 1 → signalOf mode rule state kind byte ≡ signalUnder (settingsOf mode rule) state kind byte
+  unfolding signalOf
+  event-chosen k q = rw (le-leb mode 1 k, le-leb rule 1 q)
+
+  pub no-state : mode ≤ 1 → rule ≤ 1 → isState state ≡ false → (n r : ℕ) → n ≡ numberOf BadState → r ≡ joinedOf n 0 → Signals (signalOf mode rule state kind byte) r state
+  unfolding signalOf
+  no-state k q h n r e f = rw (le-leb mode 1 k, le-leb rule 1 q, h) record { result-is = f ∙ rw e; state-is = refl }
+
+  pub signal-away : (numberOf (doorOf mode rule state) ≡ 0 → ⊥) → signalOf mode rule state kind byte ≡ unsent (doorOf mode rule state) state
+  unfolding signalOf
+  signal-away h = shut (λ r. unsent r state) _ (isMode mode) (isRule rule) (isState state) h
+
+  pub signalled : Admitted mode rule state → signalOf mode rule state kind byte ≡ signalBy state (answeredBy (cardIn (settingsOf mode rule) state) byte (kindNamed kind))
+  unfolding signalOf
+  signalled a = rw (le-leb mode 1 (a .mode-is), le-leb rule 1 (a .rule-is), a .state-is)

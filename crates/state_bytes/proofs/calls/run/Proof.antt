@@ -1,0 +1,80 @@
+-- `state_bytes::calls::run` meets its contract: 14, turned away at the door, 9, or run. Assumes nothing.
+use mathlib.Core.Path.{_≡_, refl, sym, ap, _∙_}
+use Prim.Native.Nat.{ℕ}
+use denote.Ref.{now}
+use Rattle.terms.specs.Refusal.{numberOf}
+use Rattle.terms.specs.declared.Refusal.the-variants.{InputTooLong}
+use Rattle.state_bytes.specs.Bytes.{doorOf, reportOf}
+use Rattle.state_bytes.proofs.Calling.{admitted, Admitted, turned-away, bad-report, call-away, too-long, good}
+use borrow.Author.Needs.{needs}
+use Rattle.state_bytes.proofs.calls.run.Statement.{statement}
+use Rattle.state_bytes.proofs.calls.run.Tie as tie
+
+-- the number of the door's refusal, and what it admits
+abbrev At-number : Type 0
+At-number = tie.After-number2
+
+door : (k : At-number) → let a = k .before .before .before .before .before .before .before .before .args in k .number2 .result ≡ numberOf (doorOf (a .mode) (a .rule) (now (a .state)))
+door k = k .number2 .ensures .0 ∙ ap numberOf (k .before .admit .ensures)
+
+goes-in : (k : At-number) → k .number2 .result ≡ 0 → let a = k .before .before .before .before .before .before .before .before .args in Admitted (a .mode) (a .rule) (now (a .state))
+goes-in k z = let a = k .before .before .before .before .before .before .before .before .args in admitted (a .mode) (a .rule) (now (a .state)) (sym (door k) ∙ z)
+
+returns : tie.Need-returns
+returns c =
+    let a = c .before .before .before .before .before .before .args in
+    bad-report (a .mode) (a .rule) (now (a .state)) (now (a .input)) (now (a .replies)) (now (a .report)) (c .before .if1 .taken) _ (c .number .ensures .0)
+
+returns-2 : tie.Need-returns-2
+returns-2 c =
+    let k = c .before .before .before .before .before in
+    let a = k .before .before .before .before .before .before .before .before .args in
+    let t = c .before .before .turn-away .ensures in
+    rw (call-away (a .mode) (a .rule) (now (a .state)) (now (a .input)) (now (a .replies)) (now (a .report)) (k .before .before .before .if1 .left) (λ z. (c .before .before .before .before .if2 .taken) (door k ∙ z)))
+    (turned-away (doorOf (a .mode) (a .rule) (now (a .state))) _ (now (a .state)) (now (a .replies)) _ (t .0 ∙ door k) (t .1 ∙ ap (λ (n : ℕ). reportOf n 0 0) (door k)))
+
+returns-3 : tie.Need-returns-3
+returns-3 c =
+    let k = c .before .before .before .before .before .before .before in
+    let a = k .before .before .before .before .before .before .before .before .args in
+    let g = goes-in k (c .before .before .before .before .before .before .if2 .left) in
+    let t = c .before .before .turn-away2 .ensures in
+    let n = c .before .before .before .number3 .ensures .0 in
+    rw (too-long (a .mode) (a .rule) (now (a .state)) (now (a .input)) (now (a .replies)) (now (a .report)) (k .before .before .before .if1 .left) (g .mode-is) (g .rule-is) (g .state-is) (c .before .before .before .before .before .if3 .taken))
+    (turned-away InputTooLong _ (now (a .state)) (now (a .replies)) _ (t .0 ∙ n) (t .1 ∙ ap (λ (x : ℕ). reportOf x 0 0) n))
+
+run-good-requires : tie.Need-run-good-requires
+run-good-requires c κs = let k = c .before .before .before .before .before .before .before .before in (goes-in k (c .before .before .before .before .before .before .before .if2 .left) .state-is, k .before .before .before .if1 .left)
+
+returns-4 : tie.Need-returns-4
+returns-4 c =
+    let k = c .before .before .before .before .before .before .before .before .before .before .before .before .before .before .before in
+    let a = k .before .before .before .before .before .before .before .before .args in
+    let g = goes-in k (c .before .before .before .before .before .before .before .before .before .before .before .before .before .before .if2 .left) in
+    rw (
+      good (a .mode) (a .rule) (now (a .state)) (now (a .input)) (now (a .replies)) (now (a .report)) (k .before .before .before .if1 .left) (g .mode-is) (g .rule-is) (g .state-is) (c .before .before .before .before .before .before .before .before .before .before .before .before .before .if3 .left),
+      ← c .before .before .before .before .before .before .before .before .before .before .before .before .mode-of .ensures,
+      ← c .before .before .before .before .before .before .before .before .before .before .before .rule-of .ensures,
+    ) (c .before .before .before .before .before .before .run-good .ensures)
+
+run-good-requires-2 : tie.Need-run-good-requires-2
+run-good-requires-2 c κs = let k = c .before .before .before .before .before .before .before .before in (goes-in k (c .before .before .before .before .before .before .before .if2 .left) .state-is, k .before .before .before .if1 .left)
+
+returns-5 : tie.Need-returns-5
+returns-5 c =
+    let k = c .before .before .before .before .before .before .before .before .before .before .before .before .before .before .before in
+    let a = k .before .before .before .before .before .before .before .before .args in
+    let g = goes-in k (c .before .before .before .before .before .before .before .before .before .before .before .before .before .before .if2 .left) in
+    rw (
+      good (a .mode) (a .rule) (now (a .state)) (now (a .input)) (now (a .replies)) (now (a .report)) (k .before .before .before .if1 .left) (g .mode-is) (g .rule-is) (g .state-is) (c .before .before .before .before .before .before .before .before .before .before .before .before .before .if3 .left),
+      ← c .before .before .before .before .before .before .before .before .before .before .before .before .mode-of .ensures,
+      ← c .before .before .before .before .before .before .before .before .before .before .before .rule-of .ensures,
+    ) (c .before .before .before .before .before .before .run-good2 .ensures)
+
+pub run-spec : {M : Type 1} → statement M
+run-spec =
+    tie.close
+    (tie.spec (λ c κs. search needs) (λ c. search needs) returns (λ c κs. search needs) (λ c κs. search needs) (λ c κs. search needs)
+    (λ c. search needs) (λ c. search needs) returns-2 (λ c κs. search needs) (λ c κs. search needs) (λ c. search needs) (λ c. search needs) returns-3
+    (λ c κs. search needs) (λ c κs. search needs) run-good-requires (λ c. search needs) (λ c. search needs) (λ c. search needs) returns-4
+    run-good-requires-2 (λ c. search needs) (λ c. search needs) (λ c. search needs) returns-5)
