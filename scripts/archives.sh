@@ -9,7 +9,7 @@ make_module() {
     module=$top/target/module/$1.bc library=$top/target/staticlib/lib$1.a
     current "$library" || rm -f "$top/target/made/$1.bc"
     build "$module" keep_module "$1" || return 1
-    ! current "$module" || build "$library" : 2>/dev/null
+    ! current "$module" || current "$library" || note "$library"
 }
 
 # keep_module NAME: `rt staticlib NAME` with the kit given by links, but for its clang. In clang's place stands a script
