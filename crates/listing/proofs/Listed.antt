@@ -9,10 +9,10 @@ use lib.ListN.{length, take, drop, getD, length-append, length-take, length-drop
 use lib.Dec.{ltb}
 use borrow.Author.Tests.{lt-ltb}
 use lib.Seq.{length-take-le, drop-drop, take-all, getD-drop, take-append-seam, drop-append-seam}
-use Rattle.little.specs.Little.{wordAt}
+use Rattle.little.specs.Little.{wordAt, fourAt}
 use Rattle.little.proofs.Exact.{two-bytes}
 use Rattle.listing.specs.Text.{Adds}
-use Rattle.listing.specs.Listing.{lineOf, replyBytes, kindFrom, replyKind, replyRefusal, replyData, replySize, replyLine, hasReply, wholeSize, Front, linesUpTo, linesOf, listingOf, countAt, printedOf}
+use Rattle.listing.specs.Listing.{lineOf, replyBytes, kindFrom, replyKind, replyRefusal, replyData, replySize, replyLine, hasReply, wholeSize, Front, linesUpTo, linesOf, listingOf, printedOf}
 use Rattle.listing.proofs.Adding.{take-least}
 use Rattle.listing.proofs.Decimal.{short}
 use Rattle.listing.proofs.Lines.{line-length, data-length}
@@ -157,12 +157,12 @@ module _ (replies before after : List ℕ) (place number at : ℕ) (g : Going re
 
 -- what the code reads of the report
 pub as-printed : (replies report : List ℕ) (n written refusal taken : ℕ) → length replies ≡ 65536 → n ≡ min written 65536
-    → written ≡ countAt report 5 → refusal ≡ getD report 0 0 → taken ≡ countAt report 1 → listingOf (take n replies) refusal taken ≡ printedOf replies report
+    → written ≡ fourAt report 5 → refusal ≡ getD report 0 0 → taken ≡ fourAt report 1 → listingOf (take n replies) refusal taken ≡ printedOf replies report
 as-printed replies report n written refusal taken h a w r t =
     ap (λ (x : List ℕ). listingOf x refusal taken)
     (ap (λ (k : ℕ). take k replies) a ∙ take-least replies written 65536 h ∙ ap (λ (k : ℕ). take k replies) w)
-    ∙ ap (λ (k : ℕ). listingOf (take (countAt report 5) replies) k taken) r
-    ∙ ap (λ (k : ℕ). listingOf (take (countAt report 5) replies) (getD report 0 0) k) t
+    ∙ ap (λ (k : ℕ). listingOf (take (fourAt report 5) replies) k taken) r
+    ∙ ap (λ (k : ℕ). listingOf (take (fourAt report 5) replies) (getD report 0 0) k) t
 
 -- the word of a core's reply is read back
 pub core-kind : (kind word : ℕ) → kind < 32640 → word ≡ kind + 128 → kindFrom word ≡ kind
