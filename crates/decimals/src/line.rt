@@ -42,7 +42,7 @@ pub const LINE_ROOM: usize = 256;
 const MOST_TEXT: usize = 64;
 
 // The last digits of a number to a base, so many of them.
-fn add_digits(out: &mut [u8], place: usize, n: u64, base: u64, count: usize) -> usize
+pub fn add_digits(out: &mut [u8], place: usize, n: u64, base: u64, count: usize) -> usize
     requires { ⌜ (0 < base) × (base ≤ 16) × (place + count ≤ length (now out)) ⌝ }
     ensures { λ r. ⌜ Adds (digitsTo base count n) (now (out .entry)) (now (out .exit)) place r ⌝ }
 {

@@ -1,0 +1,3 @@
+-- Laws of records in words.
+pub mod Tables
+pub mod Telling
