@@ -1,0 +1,119 @@
+// node machine.mjs PAGE.html TOP: the page's own scripts and modules, without a screen, against the native programs and the
+// scripts of the commands. START is a command that starts a native program. Ends with 0 only if nothing differs.
+import { createHash } from 'node:crypto';
+import { spawnSync } from 'node:child_process';
+import { join } from 'node:path';
+import { counter, drawnFile, drawnFormula, draws, examples, machine, native } from './parts.mjs';
+
+const [page, top] = process.argv.slice(2), { count, is } = counter(), draw = draws(9511);
+const parts = await machine(page), { runs, texts, sha256, MODULES, CODES, WHY } = parts;
+const codes = Object.keys(CODES).map(Number), PROGRAM = { list: 'buslist', sheets: 'sheetlist' };
+const SETTINGS = [{}, { nearest: true }, { older: true }, { older: true, nearest: true }];
+const words = ({ older, nearest }) => [...(older ? ['--am9511'] : []), ...(nearest ? ['--nearest'] : [])];
+const latin = bytes => Buffer.from(bytes).toString('latin1');
+
+// ---- listings, and the state behind a record: what the native program pops, and tells of status and error memory, behind it
+
+const ASKED = [3, 0, 2, 0, 16, 2, 0, 4, 0, 2, 0, 7, 0];
+const stateBehind = (job, input, settings) => {
+  const lines = latin(native(top, PROGRAM[job], Buffer.from([...input, ...ASKED]), words(settings))).split('\n');
+  const at = lines.findIndex(line => line.startsWith('end '));
+  return lines.slice(at - 3, at).map(line => line.split(' ').slice(3).join(' ')).join(' ');
+};
+const stateOf = state => texts.hexes([...state.slice(0, 16), state[17], state[19], state[20]]);
+
+const listed = async (job, what, input, settings, every) => {
+  const r = await runs.listing(job, input, settings);
+  is(`${job} ${what}`, r.said, latin(native(top, PROGRAM[job], input, words(settings))));
+  is(`${job} ${what}: rows and lines`, String(r.agree), 'true');
+  for (const [i, row] of r.rows.entries()) {
+    const behind = row.at + row.record.length;
+    if (i % every === every - 1 && behind + ASKED.length <= 12288) {
+      is(`${job} ${what}: the state behind record ${i + 1}`, stateOf(row.state), stateBehind(job, input.subarray(0, behind), settings));
+    }
+  }
+};
+for (const { name, hex } of examples(top)) {
+  const input = texts.hexBytes(hex), job = name.startsWith('sheets') ? 'sheets' : 'list';
+  for (const settings of SETTINGS) await listed(job, name, input, settings, settings === SETTINGS[0] ? 2 : 16);
+  await listed(job === 'list' ? 'sheets' : 'list', name, input, {}, 64);
+}
+for (let i = 0; i < 160; i++) await listed(i % 2 ? 'list' : 'sheets', `drawn ${i}`, drawnFile(draw, codes), SETTINGS[i >> 1 & 3], 40);
+const long = Uint8Array.from({ length: 12289 }, (_, i) => [2, 0, 4, 0][i % 4]);
+for (const n of [0, 12288, 12289]) for (const job of ['list', 'sheets']) await listed(job, `${n} bytes`, long.subarray(0, n), {}, 4000);
+
+// ---- formulas, steps, decimals
+
+const odd = ['', 'a', '(a-b)/c*#01800000', 'a+(b+(c+(d+e)))', 'a'.repeat(300), `${'('.repeat(17)}a${')'.repeat(17)}`,
+  `${'a+a*('.repeat(16)}#01800000${')'.repeat(16)}`, 'é', 'a b'];
+const refusals = new Set();
+for (const text of [...odd, ...Array.from({ length: 150 }, () => drawnFormula(draw))]) {
+  const letters = Array.from({ length: 8 }, () => draw(20) ? draw(256) * 2 ** 24 + 0x800000 + draw(0x800000) : 0x01400000);
+  const input = Buffer.alloc(32), got = await runs.formula(letters, texts.encoded(text));
+  letters.forEach((word, i) => input.writeUInt32BE(word, 4 * i));
+  refusals.add(got.refusal);
+  is(`formula ${text}`, got.refusal ? `refused ${got.refusal}\nend\n` : `${latin(got.file)}end\n`,
+    latin(native(top, 'formulas', Buffer.concat([input, Buffer.from(text)]))));
+}
+is('formulas of each refusal', [...refusals].sort().join(' '), '0 30 31 32');
+
+const digits = n => Array.from({ length: n }, () => '0123456789ABCDEF'[draw(16)]).join('');
+const calls = [[], ['6F'], ['6F', 'FFF9', '0002'], ['6F', 'fff9', '0002'], ['6F', 'FFF9', '0002', '--nearest', 'x'], ['zz', 'FFF9', '0002'],
+  ['6F', '12345678901234567', '0002'], ['12', '01400000', '01800000'], ['6F', '', '']];
+for (const code of ['6E', '76', '6F']) for (let i = 0; i < 12; i++) calls.push([code, digits(4), digits(4)]);
+for (const code of ['2E', '36', '2F', '12', '13']) for (let i = 0; i < 20; i++) calls.push([code, digits(8), digits(8), ...(i % 2 ? ['--nearest'] : [])]);
+for (const call of calls) is(`steps ${call}`, await runs.steps(call), latin(native(top, 'steps', '', call)));
+
+const numbers = ['2.5', '0.1', '-0.001', '2', '2.', '.5', '-.5', '+2.5', '2.5.1', '2.5e', '123ABCD', '12345678901234567890.0', '9'.repeat(100),
+  '9223372036854775808.0', '0.00000000000000000002', `0.${'0'.repeat(27)}1`, '02a00000', '00400000', '3FFFFFFF', '40800000',
+  ...Array.from({ length: 1500 }, () => digits(8)), ...Array.from({ length: 500 }, () => `${draw(2) ? '-' : ''}${draw(10 ** draw(10))}.${draw(10 ** draw(10))}`)];
+for (const nearest of [false, true]) for (const exact of [false, true]) {
+  const must = [0, 1, 2].map(k => numbers.slice(700 * k, 700 * k + 700).map(text => `${text}\n`).join('')).map(part =>
+    latin(native(top, 'word', part, [nearest ? 'nearest' : 'cut', exact ? 'exact' : 'short'])).split('\n').slice(0, -2)).flat();
+  const got = await runs.told(numbers, { nearest, exact });
+  numbers.forEach((text, i) => is(`word ${text}`, got[i], must[i]));
+}
+const wrong = numbers.slice(0, 16), lines = await runs.told(wrong, {});
+for (const [i, text] of wrong.entries()) {
+  if (!/^(refused|wrong)/.test(lines[i])) continue;
+  const said = spawnSync(join(top, 'word'), ['--', text]).stderr.toString();
+  is(`why ${text} has no word`, String(said.includes(texts.noWord(lines[i], text))), 'true');
+}
+
+// ---- what no program tells: hex text against scripts/hex.awk, an exact sum multiplied back, SHA-256, reasons for every refusal
+
+const pieces = ['00', '1f', 'A', ' ', '\t', '\n', '\r', '\r\n', '#', 'g', '# c\n', 'FF', '0x01', '0X', 'x', ',', ':', 'S', '02 ', '03\n', '\0'];
+const hexTexts = ['', '0', '0 0', '00\r\n01\r02\n03', '# only', '\ufeff0102', 'zz', '00 0x', '0x0102,03', '0x0x01', '00x01', ':10', 'S1', '00\n:', 'é',
+  '01'.repeat(12289) + 'zz', '01'.repeat(13000), ...Array.from({ length: 120 }, () => Array.from({ length: 1 + draw(9) }, () => pieces[draw(pieces.length)]).join(''))]
+  .map(text => Buffer.from(text)).concat([[0xFF, 0xFE, 0x30, 0], [0xFE, 0xFF, 0, 0x30], [0x30, 0x31, 0xEF, 0xBB, 0xBF]].map(bytes => Buffer.from(bytes)));
+for (const text of hexTexts) {
+  const command = `od -A n -v -t x1 | LC_ALL=C awk -v most=12289 -f '${top}/scripts/hex.awk'`, said = spawnSync('sh', ['-c', command], { input: text });
+  const escapes = latin(said.stdout), must = said.status ? escapes.split('\n').slice(-2)[0] :
+    Buffer.from((escapes.match(/\\\d{3}/g) || []).map(octal => parseInt(octal.slice(1), 8)));
+  let got;
+  try { got = texts.hexBytes(text); } catch (error) { got = error.message; }
+  is(`hex text ${JSON.stringify(latin(text).slice(0, 40))}`, got, must);
+}
+for (let i = 0; i < 200; i++) {
+  const figure = '+-'[draw(2)] + digits(48), [, sign, whole, places] = /^(-?)(\d+)\.(\d+)$/.exec(texts.sum(figure));
+  is(`sum ${figure}`, `${sign || '+'}${(BigInt(whole + places) * 2n ** 88n / 10n ** BigInt(places.length)).toString(16).toUpperCase().padStart(48, '0')}`, figure);
+  const bytes = Uint8Array.from({ length: i * 3 }, () => draw(256));
+  is(`SHA-256 of ${i * 3} bytes`, sha256(bytes), createHash('sha256').update(bytes).digest('hex'));
+}
+is('refusals with a reason', Object.keys(WHY).join(' '), '1 2 3 4 5 6 7 8 9 20 21 22 23 24 25 30 31 32 33');
+
+// ---- a wrong bit in a module is caught before it is run
+
+for (const name in MODULES) {
+  const bytes = Buffer.from(MODULES[name].bytes, 'base64');
+  for (const at of [8, bytes.length >> 1, bytes.length - 1]) {
+    bytes[at] ^= 1;
+    const changed = data => data.replace(MODULES[name].bytes, bytes.toString('base64'));
+    is(`${name} with a wrong bit`, await machine(page, changed).then(() => 'taken', error => error.message),
+      `the program ${name} in this file is not as it was built`);
+    bytes[at] ^= 1;
+  }
+}
+
+console.log(`${count.compared} outputs, ${count.differ} differ`);
+process.exitCode = count.differ ? 1 : 0;
