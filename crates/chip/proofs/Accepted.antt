@@ -1,4 +1,5 @@
--- A command that is answered 0: the state was not busy and whole, the code known, its operands proper, and the state after is what the row of the command leaves. Assumes nothing.
+-- A command that is answered 0: the state was not busy and whole, the code known, its operands proper, and the state after is what the row of the
+-- command leaves. Assumes nothing.
 use mathlib.Core.Path.{_≡_, refl, sym, ap, subst}
 use mathlib.Core.Bool.{Bool, true, false, cond}
 use Prim.Native.Nat.{ℕ, _%_, _<_}

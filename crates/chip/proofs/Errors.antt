@@ -1,4 +1,5 @@
--- The error of every float result has four bits, so that the status has room for it: overflow 1, underflow 2, the root of a negative word 4, divide by zero 8. Assumes nothing.
+-- The error of every float result has four bits, so that the status has room for it: overflow 1, underflow 2, the root of a negative word 4, divide by
+-- zero 8. Assumes nothing.
 use mathlib.Core.Bool.{Bool, true, false, cond}
 use Prim.Native.Nat.{ℕ, _<_}
 use lib.Dec.{lit<, leb}

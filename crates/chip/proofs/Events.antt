@@ -1,4 +1,5 @@
--- Events in turn: those of two runs joined are the one run and then the other; a push, or a command that ends with a word on top, hands that word on. Assumes nothing.
+-- Events in turn: those of two runs joined are the one run and then the other; a push, or a command that ends with a word on top, hands that word on.
+-- Assumes nothing.
 use mathlib.Core.Path.{_≡_, refl, sym, ap, ap₂, _∙_, subst}
 use mathlib.Core.Bool.{Bool, true, false, _&&_}
 use mathlib.Core.List.{List, [], _∷_, _++_}
@@ -70,7 +71,7 @@ underWord t = take 8 (take 9 (take 10 (take 11 t)))
 -- ---- what events do
 module _ (on : Settings) where
   -- nothing more happens
-  pub does-none : (s : State) (w : ℕ) → Tops w s → Does on s [] (record { word = w; error = 0 })
+  does-none : (s : State) (w : ℕ) → Tops w s → Does on s [] (record { word = w; error = 0 })
   does-none s w T = record { all-answered = refl; tops = T; no-error = λ q. refl }
 
   -- an event that is answered 0 comes first

@@ -1,4 +1,5 @@
--- Bytes pushed and popped in turn on a state that is not busy: each is answered 0, a word pushed low byte first lies on top with the rest moved down and nothing more pending,
+-- Bytes pushed and popped in turn on a state that is not busy: each is answered 0, a word pushed low byte first lies on top with the rest moved down and
+-- nothing more pending,
 -- pops hand out the top bytes, and after an accepted command they hand out R. Assumes nothing.
 use mathlib.Core.Path.{_≡_, refl, ap, ap₂, _∙_}
 use mathlib.Core.Bool.{Bool, true, false, not}

@@ -20,15 +20,18 @@ use Rattle.float.specs.Convert.{flts, fltd, fixs, fixd, chsf}
 use Rattle.float.specs.Root.{sqrt}
 use Rattle.float.proofs.Results.{fltd-result, flts-result}
 use Rattle.float.proofs.RootExact.{root-result}
-use Rattle.stack.specs.Stack.{IsStack, bytesOf, zeros, tos, nos, rotated, overA, overZero, replaced, copied, exchanged, pushedWord, converted, widened, narrowed, handedOut}
+use Rattle.stack.specs.Stack.{IsStack, bytesOf, zeros, tos, nos, rotated, overA, overZero, replaced, copied, exchanged, pushedWord, converted, widened}
+use Rattle.stack.specs.Stack.{narrowed, handedOut}
 use Rattle.stack.proofs.Words.{tos-lt, nos-lt, length-bytes}
-use Rattle.stack.proofs.Layouts.{two-fit, overA-stack, overZero-stack, replaced-stack, rotated-stack, exchanged-stack, copied-stack, pushedWord-stack, converted-stack, widened-stack, narrowed-stack}
+use Rattle.stack.proofs.Layouts.{two-fit, overA-stack, overZero-stack, replaced-stack, rotated-stack, exchanged-stack, copied-stack, pushedWord-stack}
+use Rattle.stack.proofs.Layouts.{converted-stack, widened-stack, narrowed-stack}
 use Rattle.stack.proofs.Moves.{pops-hand, pops-read}
 use Rattle.codes.specs.Command.{Command}
 use Rattle.codes.specs.Command.{Nop, Add, Sub, Mul, Muu, Div, Chs, Float, Chsf, Flt, Fix, Pto, Pop, Xch, Pupi, Sqrt}
 use Rattle.chip.specs.State.{CommandOutcome}
 use Rattle.chip.specs.Status.{sign, zeroBits, statusOf, errorOf}
-use Rattle.chip.specs.Commands.{piOf, wordA, wordB, halfOf, ends, keepsA, losesA, changesA, floats, converts, widens, narrows, roots, floatOf, outcomeOf, properOperands}
+use Rattle.chip.specs.Commands.{piOf, wordA, wordB, halfOf, ends, keepsA, losesA, changesA, floats, converts, widens, narrows, roots, floatOf}
+use Rattle.chip.specs.Commands.{outcomeOf, properOperands}
 use Rattle.chip.specs.InTurn.{resultBytes}
 use Rattle.chip.proofs.Errors.{float-result, fix-error}
 use Rattle.chip.proofs.Rows.{both-of}

@@ -1,4 +1,5 @@
--- What stands for a chip with its memory stands for one after every event: a command that leaves an error has a code, and bits joined are bits of the same places. Assumes nothing.
+-- What stands for a chip with its memory stands for one after every event: a command that leaves an error has a code, and bits joined are bits of the
+-- same places. Assumes nothing.
 use mathlib.Core.Path.{_≡_, refl, ap, ap₂, _∙_}
 use mathlib.Core.Logic.{_⊎_, inl, inr, ⊎-elim}
 use mathlib.Core.Bool.{Bool, true, false, cond, not, false≢true}

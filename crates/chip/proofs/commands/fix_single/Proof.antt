@@ -19,4 +19,7 @@ returns-2 : tie.Need-returns-2
 returns-2 c rule = (c .settled2 .ensures .0 ∙ over-row (bytesIn (c .before .before .before .before .before .before .args .s)) (c .before .before .before .before .before .tos .ensures .0) (c .before .before .before .before .fixs .ensures) (c .before .before .if1 .left) (c .before .convert .ensures) refl, c .settled2 .ensures .1)
 
 pub fix-single-spec : {M : Type 1} → statement M
-fix-single-spec = tie.close (tie.spec (λ c κs. search needs) (λ c κs. search needs) (λ c κs. search needs) (λ c κs. search needs) returns (λ c κs. search needs) settled-requires-2 returns-2)
+fix-single-spec =
+    tie.close
+    (tie.spec (λ c κs. search needs) (λ c κs. search needs) (λ c κs. search needs) (λ c κs. search needs) returns (λ c κs. search needs)
+    settled-requires-2 returns-2)

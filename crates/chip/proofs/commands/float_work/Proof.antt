@@ -35,4 +35,7 @@ returns-3 c =
     (c .settled .ensures .0 ∙ float-row (a .rule) (a .op) (bytesIn (a .s)) eb ea (c .before .before .float-result .ensures .0) (c .before .over-zero .ensures) refl, c .settled .ensures .1)
 
 pub float-work-spec : {M : Type 1} → statement M
-float-work-spec = tie.close (tie.spec (λ c κs. search needs) (λ c κs. search needs) (λ c κs. search needs) (λ c κs. search needs) returns (λ c κs. search needs) (λ c κs. search needs) returns-2 float-result-requires (λ c κs. search needs) (λ c κs. search needs) returns-3)
+float-work-spec =
+    tie.close
+    (tie.spec (λ c κs. search needs) (λ c κs. search needs) (λ c κs. search needs) (λ c κs. search needs) returns (λ c κs. search needs)
+    (λ c κs. search needs) returns-2 float-result-requires (λ c κs. search needs) (λ c κs. search needs) returns-3)

@@ -40,4 +40,7 @@ returns-3 c =
     (c .settled2 .ensures .0 ∙ no-root-row (a .rule) (bytesIn (a .s)) (c .before .before .before .before .before .before .tos .ensures .0) (c .before .before .before .sqrt .ensures) (c .before .if2 .left) refl, c .settled2 .ensures .1)
 
 pub take-root-spec : {M : Type 1} → statement M
-take-root-spec = tie.close (tie.spec (λ c κs. search needs) (λ c κs. search needs) (λ c κs. search needs) returns sqrt-requires (λ c κs. search needs) (λ c κs. search needs) returns-2 settled-requires-2 returns-3)
+take-root-spec =
+    tie.close
+    (tie.spec (λ c κs. search needs) (λ c κs. search needs) (λ c κs. search needs) returns sqrt-requires (λ c κs. search needs) (λ c κs. search needs)
+    returns-2 settled-requires-2 returns-3)

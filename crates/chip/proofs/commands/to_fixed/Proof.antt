@@ -29,4 +29,7 @@ returns-3 c =
     (c .fix-double .ensures (a .rule) .0 ∙ ap (λ (w : Width). outcomeOf (a .rule) (Fix w) (bytesIn (a .s))) (sym (c .before .enum-told2 .given .1)), c .fix-double .ensures (a .rule) .1)
 
 pub to-fixed-spec : {M : Type 1} → statement M
-to-fixed-spec = tie.close (tie.spec (λ c κs. search needs) (λ c κs. search needs) (λ c κs. search needs) returns (λ c. search needs) (λ c κs. search needs) (λ c. search needs) (λ c κs. search needs) returns-2 returns-3)
+to-fixed-spec =
+    tie.close
+    (tie.spec (λ c κs. search needs) (λ c κs. search needs) (λ c κs. search needs) returns (λ c. search needs) (λ c κs. search needs)
+    (λ c. search needs) (λ c κs. search needs) returns-2 returns-3)

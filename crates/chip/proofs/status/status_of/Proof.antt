@@ -16,4 +16,7 @@ returns c =
     status-parts (a .width) (bytesIn (a .stack)) (a .error) (a .carry) top (c .before .before .before .top-bit .ensures ∙ ap (λ (x : ℕ). leb (2 ^ (bitsOf (a .width) - 1)) x) top) (c .before .before .bit .ensures .0) (c .before .bit2 .ensures .0) (c .bit3 .ensures .0)
 
 pub status-of-spec : {M : Type 1} → statement M
-status-of-spec = tie.close (tie.spec (λ c κs. search needs) (λ c κs. search needs) (λ c κs. search needs) (λ c κs. search needs) (λ c. search needs) (λ c. search needs) (λ c. search needs) (λ c κs. search needs) (λ c. search needs) returns)
+status-of-spec =
+    tie.close
+    (tie.spec (λ c κs. search needs) (λ c κs. search needs) (λ c κs. search needs) (λ c κs. search needs) (λ c. search needs) (λ c. search needs)
+    (λ c. search needs) (λ c κs. search needs) (λ c. search needs) returns)
