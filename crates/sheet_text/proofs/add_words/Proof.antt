@@ -6,33 +6,16 @@ use Rattle.sheet_text.proofs.add_words.Tie as tie
 
 returns : tie.Need-returns
 returns c =
-    both (c .before .before .before .before .before .before .before .before .before .before .before .before .before .before .before .before .before .before .before .before .before .before .before .before .before .before .add-word .ensures)
-    (both (c .before .before .before .before .before .before .before .before .before .before .before .before .before .before .before .before .before .before .add-word2 .ensures)
-    (both (c .before .before .before .before .before .before .before .before .before .before .add-word3 .ensures) (c .before .before .add-word4 .ensures)))
+    both (c .before .before .before .before .before .before .before .before .before .before .before .before .before .before .add-word .ensures)
+    (both (c .before .before .before .before .before .before .before .before .before .before .add-word2 .ensures) (both (c .before .before .before .before .before .before .add-word3 .ensures) (c .before .before .add-word4 .ensures)))
 
 pub add-words-spec : {M : Type 1} → statement M
 add-words-spec =
     tie.close
     (tie.spec
-    (λ c. search needs)
-    (λ c. search needs)
-    (λ c. search needs)
-    (λ c. search needs)
     (λ c κs. search needs)
-    (λ c. search needs)
-    (λ c. search needs)
-    (λ c. search needs)
-    (λ c. search needs)
     (λ c κs. search needs)
-    (λ c. search needs)
-    (λ c. search needs)
-    (λ c. search needs)
-    (λ c. search needs)
     (λ c κs. search needs)
-    (λ c. search needs)
-    (λ c. search needs)
-    (λ c. search needs)
-    (λ c. search needs)
     (λ c κs. search needs)
     (λ c. search needs)
     returns)
