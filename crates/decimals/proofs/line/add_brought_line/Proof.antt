@@ -1,10 +1,10 @@
--- `decimals::line::add_rounded_line` adds the parts of the line in turn. Assumes nothing.
+-- `decimals::line::add_brought_line` adds the parts of the line in turn. Assumes nothing.
 use native.Mathlib.Omega.{arith}
 use borrow.Author.Needs.{needs}
 use Rattle.decimals.proofs.Lines.{digits-length}
 use Rattle.listing.proofs.Adding.{both}
-use Rattle.decimals.proofs.line.add_rounded_line.Statement.{statement}
-use Rattle.decimals.proofs.line.add_rounded_line.Tie as tie
+use Rattle.decimals.proofs.line.add_brought_line.Statement.{statement}
+use Rattle.decimals.proofs.line.add_brought_line.Tie as tie
 
 add-digits-requires : tie.Need-add-digits-requires
 add-digits-requires c κs = (omega arith, omega arith, omega (arith, c .before .before .before .pre .1))
@@ -30,8 +30,8 @@ add-requires-2 c κs =
           (start .args .word),
     )
 
-add-rule-requires : tie.Need-add-rule-requires
-add-rule-requires c κs =
+add-mark-requires : tie.Need-add-mark-requires
+add-mark-requires c κs =
     let at-add2 = c .before .before .before in
     let at-add = at-add2 .before .before .before .before in
     let at-add-digits = at-add .before .before .before .before .before in
@@ -48,8 +48,8 @@ add-rule-requires c κs =
 
 add-requires-3 : tie.Need-add-requires-3
 add-requires-3 c κs =
-    let at-add-rule = c .before .before .before .before in
-    let at-add2 = at-add-rule .before .before .before .before in
+    let at-add-mark = c .before .before .before .before in
+    let at-add2 = at-add-mark .before .before .before .before in
     let at-add = at-add2 .before .before .before .before in
     let at-add-digits = at-add .before .before .before .before .before in
     let start = at-add-digits .before .before .before .before in
@@ -60,28 +60,28 @@ add-requires-3 c κs =
       at-add-digits .add-digits .ensures .moved,
       at-add .add .ensures .moved,
       at-add2 .add2 .ensures .moved,
-      at-add-rule .add-rule .ensures .1,
+      at-add-mark .add-mark .ensures .1,
       digits-length 16 8 (start .args .word),
     )
 
 returns : tie.Need-returns
 returns c =
-    let at-add-rule = c .before .before .before .before .before .before .before in
-    let at-add2 = at-add-rule .before .before .before .before in
+    let at-add-mark = c .before .before .before .before .before .before .before in
+    let at-add2 = at-add-mark .before .before .before .before in
     let at-add = at-add2 .before .before .before .before in
     let at-add-digits = at-add .before .before .before .before .before in
-    both (at-add-digits .add-digits .ensures) (both (at-add .add .ensures) (both (at-add2 .add2 .ensures) (both (at-add-rule .add-rule .ensures .0)
+    both (at-add-digits .add-digits .ensures) (both (at-add .add .ensures) (both (at-add2 .add2 .ensures) (both (at-add-mark .add-mark .ensures .0)
     (c .before .before .add3 .ensures))))
 
-pub add-rounded-line-spec : {M : Type 1} → statement M
-add-rounded-line-spec =
+pub add-brought-line-spec : {M : Type 1} → statement M
+add-brought-line-spec =
     tie.close
     (tie.spec
     add-digits-requires
     (λ c. search needs)
     add-requires
     add-requires-2
-    add-rule-requires
+    add-mark-requires
     (λ c. search needs)
     add-requires-3
     (λ c. search needs)
