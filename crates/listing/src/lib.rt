@@ -30,7 +30,7 @@ pub fn add_field(out: &mut [u8], place: usize, n: u64) -> usize
 }
 
 // A blank and two hex digits for each byte of the data.
-fn add_data(out: &mut [u8], place: usize, bytes: &[u8]) -> usize
+pub fn add_data(out: &mut [u8], place: usize, bytes: &[u8]) -> usize
     requires { ⌜ place + length (dataText (now bytes)) ≤ length (now out) ⌝ }
     ensures { λ r. ⌜ Adds (dataText (now (bytes .entry))) (now (out .entry)) (now (out .exit)) place r ⌝ }
 {
