@@ -1,6 +1,7 @@
 """What ./word must tell, worked out with exact fractions of whole numbers from document 01's words, against what it tells.
 
-decimals.py COUNT PROGRAM..: COUNT drawn words in short form, as many in exact form, as many drawn texts, under each rule.
+decimals.py COUNT PROGRAM..: COUNT drawn words in short form, as many in exact form, as many drawn texts, under each rule,
+and as many sums as the figures of sheets give them, a sign and 48 hex digits of the magnitude times 2^88.
 """
 import random
 import subprocess
@@ -48,6 +49,16 @@ def drawn_text():
     return f'{"-" if draw.random() < 0.5 else ""}{whole}.{fraction:0{places}d}'
 
 
+def drawn_sum():
+    return f'{draw.choice("+-")}{draw.getrandbits(draw.randrange(193)) << draw.choice((0, 0, 30, 88)) & (1 << 192) - 1:048X}'
+
+
+def sum_line(text):
+    size = int(text[1:], 16)
+    places = f'{(size % 2 ** 88) * 5 ** 88:088d}'.rstrip('0')
+    return f'{"-" if text[0] == "-" and size else ""}{size >> 88}.{places or "0"}'
+
+
 cases = differ = 0
 
 
@@ -80,5 +91,7 @@ for rule in ('cut', 'nearest'):
     texts = [t for t in (drawn_text() for _ in range(count)) if len(t) <= 64]
     wanted = [text_line(rule, t) for t in texts]
     compare(rule, 'short', texts, wanted)
+sums = [drawn_sum() for _ in range(count)]
+compare('cut', 'sum', sums, [sum_line(t) for t in sums])
 print(f'{cases} cases, {differ} differ')
 sys.exit(1 if differ else 0)
