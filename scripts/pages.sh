@@ -93,7 +93,7 @@ hash_of() {
 page_file() {
     web=$top/web
     page_data >"$work/data" &&
-        cat "$web/sha256.js" "$web/programs.js" "$web/texts.js" "$web/runs.js" >"$work/machine" &&
+        cat "$web/sha256.js" "$web/programs.js" "$web/texts.js" "$web/formula.js" "$web/runs.js" >"$work/machine" &&
         cat "$web/screen.js" "$web/rows.js" "$web/tabs.js" "$web/start.js" >"$work/screen" &&
         cat "$web/page.css" >"$work/style" || return 1
     ! grep -i -n -e '</s' -e '<!--' "$work/data" "$work/machine" "$work/screen" "$work/style" >&2 || return 1

@@ -108,40 +108,36 @@ const shown = async (input, by, name, says, wanted) => {
   return { said: r.said, file: input, name, agree: r.agree };
 };
 
-// The formula's text with each decimal as a word, and what was not exact.
-const withWords = async text => {
-  const decimals = text.match(/#[0-9A-Fa-f]{8}|[0-9][0-9.]*/g) || [], notes = [];
-  const list = decimals.filter(part => part[0] !== '#'), got = new Map();
-  for (const part of list) {
-    const { word, why } = await wordOf(part, 'f');
-    if (!word) throw Error(`${part}: ${why}`);
-    if (why) notes.push(`${part} ${why}`);
-    got.set(part, `#${word}`);
+// The formula's text with each decimal as a word, and what was not exact; or why there is none.
+const plainFormula = async (text, words) => {
+  const reader = new FormulaReader(text, words), fault = reader.fault(), got = new Map(), notes = [];
+  if (fault) return { why: `refused ${fault.number}: ${fault.reason}` };
+  for (const { at, text: decimal } of reader.decimals) {
+    const { word, why } = await wordOf(decimal, 'f');
+    if (!word) return { why: `character ${at + 1}, ${decimal}: ${why}` };
+    if (why) notes.push(`${decimal} is ${word}, ${why}`);
+    got.set(decimal, word);
   }
-  return { text: text.replace(/#[0-9A-Fa-f]{8}|[0-9][0-9.]*/g, part => got.get(part) || part), notes };
+  return { text: reader.withWords(decimal => got.get(decimal)), notes };
 };
 
 const runFormula = async wanted => {
-  const text = $('formula').value, used = letters.filter((l, i) => text.includes(LETTERS[i]));
-  let plain;
-  try {
-    plain = await withWords(text);
-  } catch (error) {
-    sentence(`Formula: ${error.message}.`, true);
+  const text = $('formula').value, words = letters.map(l => l.word() || '00000000');
+  const { why, text: plain, notes } = await plainFormula(text, words);
+  const missing = Array.from(LETTERS).filter((c, i) => !letters[i].word() && text.includes(c));
+  const lacks = `${missing.join(', ')} ${missing.length > 1 ? 'have' : 'has'} no word`;
+  if (!wanted()) return null;
+  if (why || missing.length) {
+    sentence(`Formula: ${why || lacks}.`, true);
     return null;
   }
-  const missing = used.filter(l => !l.word()).map(l => LETTERS[letters.indexOf(l)]);
-  if (missing.length) {
-    sentence(`Formula: ${missing.join(', ')} ${missing.length > 1 ? 'have' : 'has'} no word.`, true);
-    return null;
-  }
-  const made = await runs.formula(letters.map(l => parseInt(l.word() || '0', 16)), texts.encoded(plain.text));
+  const made = await runs.formula(words.map(word => parseInt(word, 16)), texts.encoded(plain));
   if (!wanted()) return null;
   if (made.refusal) {
     sentence(`Formula: refused ${made.refusal}: ${WHY[made.refusal]}.`, true);
     return null;
   }
-  return shown(made.file, 'list', 'formula', r => valueOf(r, plain.notes), wanted);
+  return shown(made.file, 'list', 'formula', r => valueOf(r, notes), wanted);
 };
 
 // The value of a formula is what its file leaves on top.

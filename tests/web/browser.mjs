@@ -189,8 +189,9 @@ const formulas = async () => {
   is('its run', await text('said'), latin(native(top, 'buslist', made('7DCCCCCC', 'a*#02A00000'))));
   await picture('formula');
   await set('word-a', '01400000');
-  for (const [formula, why] of [['a+', `refused 30: ${WHY[30]}`], ['a', `refused 31: ${WHY[31]}`], ['b+(b+(b+(b+b)))', `refused 32: ${WHY[32]}`], ['2', '2: character 2: a point is wanted, as in 2.0'],
-    ['d', 'd has no word'], ['', `refused 30: ${WHY[30]}`]]) {
+  for (const [formula, why] of [['a+', 'refused 30: character 3, the end: a letter a to h, a decimal'], ['b*a', 'refused 31: character 3, "a": its word 01400000'],
+    ['b+(b+(b+(b+b)))', 'refused 32: character 2, "+": this operation needs 5 words'], ['b*2', 'refused 30: character 4, the end: a point is wanted here, as in 2.0'],
+    ['d', 'd has no word'], ['', 'refused 30: character 1, the end'], ['b*99999999999999999999.0', 'character 3, 99999999999999999999.0: character 20: more digits']]) {
     await set('formula', formula);
     has(`formula ${formula}`, await text('sentence'), why);
     is('nothing else is shown', await text('said') + await text('rows'), '');

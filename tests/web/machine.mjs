@@ -6,7 +6,7 @@ import { join } from 'node:path';
 import { counter, drawnFile, drawnFormula, draws, examples, machine, native } from './parts.mjs';
 
 const [page, top] = process.argv.slice(2), { count, is } = counter(), draw = draws(9511);
-const parts = await machine(page), { runs, texts, sha256, MODULES, CODES, WHY } = parts;
+const parts = await machine(page), { runs, texts, sha256, FormulaReader, MODULES, CODES, WHY } = parts;
 const codes = Object.keys(CODES).map(Number), PROGRAM = { list: 'buslist', sheets: 'sheetlist' };
 const SETTINGS = [{}, { nearest: true }, { older: true }, { older: true, nearest: true }];
 const words = ({ older, nearest }) => [...(older ? ['--am9511'] : []), ...(nearest ? ['--nearest'] : [])];
@@ -56,6 +56,19 @@ for (const text of [...odd, ...Array.from({ length: 150 }, () => drawnFormula(dr
     latin(native(top, 'formulas', Buffer.concat([input, Buffer.from(text)]))));
 }
 is('formulas of each refusal', [...refusals].sort().join(' '), '0 30 31 32');
+
+// where a formula is wrong: the refusal and the place are those of scripts/formula.awk, and the refusal the program's
+const broken = () => {
+  const text = drawnFormula(draw), at = draw(text.length + 1);
+  return draw(3) ? text.slice(0, at) + ['', ' ', 'i', ')', '(', '-', '#', '+*', '#0'][draw(9)] + text.slice(at + draw(2)) : text;
+};
+for (const text of [...odd, ...Array.from({ length: 150 }, broken)]) {
+  const letters = Array.from({ length: 8 }, () => draw(12) ? '01800000' : '01400000'), reader = new FormulaReader(text, letters), fault = reader.fault();
+  const said = spawnSync('awk', ['-f', join(top, 'scripts/formula.awk')], { env: { ...process.env, LC_ALL: 'C', TEXT: text, WORDS: letters.join(' ') } });
+  is(`where ${text} is wrong`, fault ? `${fault.number} ${fault.reason.split(',')[0]}` : '', latin(said.stdout).split(',')[0].trim());
+  const got = await runs.formula(letters.map(word => parseInt(word, 16)), texts.encoded(text));
+  is(`the refusal of ${text}`, String(fault ? fault.number : 0), String(got.refusal));
+}
 
 const digits = n => Array.from({ length: n }, () => '0123456789ABCDEF'[draw(16)]).join('');
 const calls = [[], ['6F'], ['6F', 'FFF9', '0002'], ['6F', 'fff9', '0002'], ['6F', 'FFF9', '0002', '--nearest', 'x'], ['zz', 'FFF9', '0002'],
