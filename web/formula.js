@@ -1,5 +1,5 @@
-// A formula as people write it, with decimals: where it is wrong, by the rules of scripts/formula.awk, and where its decimals
-// stand. The program judges for itself; this only says where.
+// A formula as people write it, with decimals: where it is wrong, by the rules of scripts/formula.awk, and where its
+// decimals stand. The program judges for itself; this only says where.
 class FormulaReader {
   // `words` has the words of a to h, eight hex digits each.
   constructor(text, words) {
@@ -13,8 +13,8 @@ class FormulaReader {
     if (!this.bad && this.at < this.text.length) this.wants('+ - * / or the end is wanted here');
     const long = this.withWords(() => '00000000').length;
     if (!this.bad && long > 256) {
-      this.wrong(30, this.text.length - 1, `the last: with # and eight digits for each decimal there are ${long} characters, ` +
-        'and a formula has at most 256');
+      this.wrong(30, this.text.length - 1, `the last: with # and eight digits for each decimal there are ${long} ` +
+        'characters, and a formula has at most 256');
     }
   }
 
@@ -38,7 +38,10 @@ class FormulaReader {
 
   wrong(number, at, reason) { this.told[number] = this.told[number] || `character ${at + 1}, ${reason}`; }
 
-  shown() { return this.here() === '' ? 'the end' : /[!-~]/.test(this.here()) ? `"${this.here()}"` : 'a byte that is no text'; }
+  shown() {
+    if (this.here() === '') return 'the end';
+    return /[!-~]/.test(this.here()) ? `"${this.here()}"` : 'a byte that is no text';
+  }
 
   wants(what) {
     this.wrong(30, this.at, this.here() === ' ' ? 'a blank: a formula has none' : `${this.shown()}: ${what}`);
@@ -96,7 +99,9 @@ class FormulaReader {
 
   constant() {
     const open = this.at++;
-    for (; this.at <= open + 8; this.at++) if (!/[0-9A-F]/.test(this.here())) return this.wants('one of 0-9A-F is wanted here');
+    for (; this.at <= open + 8; this.at++) {
+      if (!/[0-9A-F]/.test(this.here())) return this.wants('one of 0-9A-F is wanted here');
+    }
     const word = this.text.slice(open + 1, this.at);
     return this.proper(word, open, `"#${word}" is not proper`);
   }

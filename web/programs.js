@@ -8,7 +8,9 @@ const programs = (() => {
     for (const name in MODULES) {
       const bytes = decoded(MODULES[name].bytes);
       if (sha256(bytes) !== MODULES[name].sum) throw Error(`the program ${name} in this file is not as it was built`);
-      compiled[name] = await WebAssembly.compile(bytes);
+      compiled[name] = await WebAssembly.compile(bytes).catch(() => {
+        throw Error('this browser is too old, or set to run no WebAssembly');
+      });
     }
   };
 

@@ -45,9 +45,9 @@ const memory = state => {
 
 const recordRow = (r, words, i, decimals) => {
   const row = r.rows[i], { as, stack, half, popped } = words[i], before = i ? words[i - 1].stack : [0, 0, 0, 0];
-  const record = cell('record', texts.record(row.kind, row.payload, as));
+  const record = cell('record', texts.record(row.kind, row.payload));
   if (row.refusal) record.append(make('span', { className: 'why' }, `✗ refused ${row.refusal}: ${WHY[row.refusal]}`));
-  else if (half) record.append(small('half a word pending: bytes as they stand'));
+  else if (half) record.append(small('half a word: bytes as they stand'));
   const line = cell('proved', r.lines[i]);
   if (popped !== null) line.append(small(`read ${readAs(popped, as, decimals)}`));
   return make('tr', { className: row.refusal ? 'bad' : '' }, cell('number', row.at), record, line,
@@ -62,8 +62,8 @@ const endRow = r => {
   const end = cell('proved', r.lines[r.end]), number = cell('number', r.taken);
   if (!r.refusal) return make('tr', {}, number, cell(''), end, make('td', { colSpan: 6 }, 'the whole file'));
   const why = make('span', { className: 'why' }, `✗ stopped, ${r.refusal}: ${WHY[r.refusal]}`);
-  const record = cell('record', texts.hexes(rest) + more, why);
-  return make('tr', { className: 'bad' }, number, record, end, make('td', { colSpan: 6 }));
+  const record = cell('record', texts.hexes(rest) + more);
+  return make('tr', { className: 'bad' }, number, record, end, make('td', { colSpan: 6 }, why));
 };
 
 const RECORD_HEAD = ['byte', 'record', 'program\'s line (proved)', 'A (top)', 'B', 'C', 'D',

@@ -11,8 +11,8 @@ const cell = (className, ...inside) => make('td', { className }, ...inside);
 const small = text => make('small', {}, text);
 const head = names => make('thead', {}, make('tr', {}, ...names.map(name => make('th', { scope: 'col' }, name))));
 
-// A table, or several of `part` rows each, of which the browser lays out those in sight: a long file does not hold it up.
-// `wanted` says whether the rows still are.
+// A table, or several of `part` rows each, of which the browser lays out those in sight, so that a long file does not
+// hold it up. `wanted` says whether the rows still are.
 const table = async (to, className, names, rows, wanted, part = rows.length) => {
   to.replaceChildren();
   for (let at = 0; at < rows.length && wanted(); at += part) {
@@ -30,7 +30,7 @@ const sentence = (text, bad) => {
 
 // The lamps of a state in a row of letters of one width: those that are on stand out, those of errors in another shape.
 const LAMPS = [...texts.BITS.map(([name, bit, title]) => [name, state => state[17] & bit, title, bit & 0x1E]),
-  ['SV', state => state[18], 'service line'], ['½', state => state[16], 'half a word pending']];
+  ['SV', state => state[18], 'service line'], ['HW', state => state[16], 'half a word pending']];
 const lit = (name, title, error) => make('b', { className: error ? 'lamp error' : 'lamp', title }, name);
 const lamps = state => {
   const row = cell('lamps', `${texts.hex(state[17], 2)} `), on = [];

@@ -77,6 +77,7 @@ const start = async () => {
   $('operands').append(...operands.map(o => o.element));
   await Promise.all([...letters, ...operands].map(l => l.fromWord()));
   listen();
+  for (const tab of document.querySelectorAll('[role=tab]')) tab.disabled = false;
   $('inputs').hidden = false;
   show('list');
 };

@@ -70,15 +70,16 @@ const operands = ['B', 'A'].map((name, i) => pair(name, stepKind, ['FFF9', '0002
 
 const plural = (n, what) => `${n.toLocaleString('en')} ${what}${n === 1 ? '' : 's'}`;
 const ending = r => {
-  const refused = r.rows.filter(row => row.refusal).length;
-  const were = refused ? `${plural(refused, 'record')} refused` : 'no record refused';
+  const refused = r.rows.filter(row => row.refusal).length, done = plural(r.rows.length, 'record');
+  const were = refused ? `${refused} of them refused` : 'none refused';
+  if (!r.input.length) return `${source.name} holds no bytes.`;
   if (r.refusal) {
-    return `${source.name}: stopped at byte ${r.taken} with ${r.refusal}: ${WHY[r.refusal]}. ` +
-      `${plural(r.rows.length, 'record')} done before it, ${were}. ` +
-      (source.form === 'bytes' && r.refusal === 7 && !r.taken ? texts.mistaken(r.input) : '');
+    const hint = source.form === 'bytes' && r.refusal === 7 && !r.taken ? texts.mistaken(r.input) : '';
+    const before = r.rows.length ? `${done} done before it, ${were}.` : 'No record was done.';
+    return `${source.name}: stopped at byte ${r.taken} with ${r.refusal}: ${WHY[r.refusal]}. ${before} ${hint}`;
   }
   const state = r.rows.length ? r.rows[r.rows.length - 1].state : new Uint8Array(21), errors = texts.said(state[19]);
-  return `${source.name}: run to its end, ${plural(r.rows.length, 'record')} in ${plural(r.taken, 'byte')}; ${were}` +
+  return `${source.name}: run to its end, ${done} in ${plural(r.taken, 'byte')}; ${were}` +
     (errors ? `; errors remembered: ${errors}, the first by ${texts.code(state[20])}.` : '.');
 };
 
@@ -101,7 +102,7 @@ const shown = async (input, by, name, says, wanted) => {
   const { nearest } = settings(), r = await runs.listing(by, input, settings());
   if (!wanted()) return null;
   const told = await says(r);
-  if (r.agree) sentence(told, r.refusal !== 0 || r.rows.some(row => row.refusal));
+  if (r.agree) sentence(told, r.refusal !== 0 || !r.rows.length || r.rows.some(row => row.refusal));
   else sentence('The states below are not those of the listing. Do not use this page, and tell its makers.', true);
   if (by === 'sheets') await sheetTable(r, nearest, wanted);
   await recordTable(r, nearest, wanted);
@@ -232,6 +233,7 @@ const finish = found => {
 const take = (name, raw, form) => {
   source = { name, raw, form };
   $('form').value = form;
+  $('example').value = EXAMPLES.some(example => example.name === name) ? name : '';
   return run();
 };
 const takeFile = async (file, form) => {

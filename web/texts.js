@@ -69,24 +69,30 @@ const texts = (() => {
     return text && (mark || a < 128) ? 'If that was hex text, choose so beside the file.' : '';
   };
 
-  const NAMES = { 2: 'pop', 4: 'status', 5: 'reset', 6: 'acknowledge', 7: 'recall', 8: 'forget', 256: 'open',
+  const NAMES = { 1: 'push', 2: 'pop', 4: 'status', 5: 'reset', 6: 'acknowledge', 7: 'recall', 8: 'forget', 256: 'open',
     257: 'keep', 258: 'close' };
-  const code = byte => (CODES[byte & 127] || `command ${hex(byte & 127, 2)}`) + (byte & 128 ? ' sr' : '');
-
-  // The bytes of a push as words where they fill some, of 16 bits where these are read so; a word's low byte is first.
-  const pushed = (bytes, as) => {
-    const size = bytes.length % 4 === 0 && as !== 's' ? 4 : bytes.length % 2 === 0 ? 2 : 1, words = [];
-    const word = at => hexes(bytes.slice(at, at + size).reverse()).replace(/ /g, '');
-    for (let at = 0; at < bytes.length; at += size) words.push(word(at));
-    return `push ${words.join(' ')}`;
+  // the derived functions, which are not carried, from code 02 on
+  const DERIVED = ['SIN', 'COS', 'TAN', 'ASIN', 'ACOS', 'ATAN', 'LOG', 'LN', 'EXP', 'PWR'];
+  const code = byte => {
+    const name = CODES[byte & 127] || DERIVED[(byte & 127) - 2];
+    return name ? name + (byte & 128 ? ' sr' : '') : `command ${hex(byte, 2)}`;
   };
 
-  // A record in words; `as` says how words are read.
-  const record = (kind, payload, as) => {
-    if (kind === 1) return pushed(payload, as);
+  // The bytes of a push as words of four, then one of two, then one; a word's low byte was pushed first.
+  const pushed = bytes => {
+    const words = [];
+    for (let at = 0, size; at < bytes.length; at += size) {
+      size = bytes.length - at >= 4 ? 4 : bytes.length - at >= 2 ? 2 : 1;
+      words.push(hexes(bytes.slice(at, at + size).reverse()).replace(/ /g, ''));
+    }
+    return words.join(' ');
+  };
+
+  // A record in words.
+  const record = (kind, payload) => {
     if (kind === 3) return code(payload[0]);
-    if (kind === 256) return `open ${new DataView(payload.buffer, payload.byteOffset).getUint32(0, true)}`;
-    return NAMES[kind] + (payload.length ? ` ${payload[0]}` : '');
+    const number = payload.reduceRight((sum, byte) => sum * 256 + byte, 0);
+    return [NAMES[kind], ...(payload.length ? [kind === 1 ? pushed(payload) : number] : [])].join(' ');
   };
 
   // The bits of a status: a short name for a lamp, the bit, and its name in words.

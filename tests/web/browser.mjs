@@ -81,7 +81,7 @@ const pasted = async () => {
   await js("document.getElementById('text').focus()");
   await after(() => tell('Input.insertText', { text: readFileSync(join(top, 'examples/errors.hex'), 'latin1') }));
   is('errors.hex pasted', await text('said'), readFileSync(join(top, 'examples/errors.txt'), 'latin1'));
-  has('its sentence', await text('sentence'), '✗ pasted text: run to its end, 31 records in 156 bytes; 2 records refused');
+  has('its sentence', await text('sentence'), '✗ pasted text: run to its end, 31 records in 156 bytes; 2 of them refused');
   await picture('listing_errors');
   for (const [bad, why] of [['06 00\n0x', 'line 2: "0x" has no digits behind it'], ['0', 'line 1: "0" is half a byte'], ['GG', 'line 1: "G" is no hex digit'],
     [':10', 'line 1: this is Intel HEX']]) {
@@ -89,6 +89,8 @@ const pasted = async () => {
     has('hex text', await text('sentence'), why);
     is('nothing else is shown', await text('said') + await text('rows'), '');
   }
+  await choose(file('empty.bin', ''));
+  has('an empty file', await text('sentence'), '✗ empty.bin holds no bytes');
   await choose(file('text.bin', '06 00 01 00\n'));
   has('text taken as bytes', await text('sentence'), 'If that was hex text, choose so');
   await set('form', 'hex', 'change');
