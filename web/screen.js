@@ -27,6 +27,11 @@ const sentence = (text, bad) => {
   $('sentence').textContent = (bad ? '✗ ' : '✓ ') + text;
   $('sentence').className = bad ? 'bad' : '';
 };
+// The same before there is anything to run.
+const invitation = text => {
+  $('sentence').textContent = text;
+  $('sentence').className = '';
+};
 
 // The lamps of a state in a row of letters of one width: those that are on stand out, those of errors in another shape.
 const LAMPS = [...texts.BITS.map(([name, bit, title]) => [name, state => state[17] & bit, title, bit & 0x1E]),

@@ -86,8 +86,11 @@ const ending = r => {
 // ---- the jobs: each says its sentence and gives the program's text, and the record file where there is one
 
 const runFile = async wanted => {
-  if (!source) return null;
   let input;
+  if (!source) {
+    invitation('Drop a record file on this page, choose one, paste hex text, or take an example.');
+    return null;
+  }
   try {
     input = source.form === 'hex' ? texts.hexBytes(source.raw) : source.raw.subarray(0, texts.MOST);
   } catch (error) {
@@ -169,7 +172,10 @@ const runSteps = async wanted => {
 
 const runWords = async wanted => {
   const given = $('numbers').value.split(/\s+/).filter(text => text);
-  if (!given.length) return null;
+  if (!given.length) {
+    invitation('Write decimals or words above, parted by blanks or lines.');
+    return null;
+  }
   const lines = await runs.told(given, { nearest: settings().nearest, exact: $('exact').checked });
   if (!wanted()) return null;
   const bad = lines.filter(line => /^(refused|wrong)/.test(line)).length;
@@ -204,10 +210,8 @@ const originTable = found => {
 const run = async () => {
   const mine = ++turn, wanted = () => mine === turn;
   clear();
-  $('sentence').hidden = false;
   delete document.body.dataset.done;
   try {
-    if ((job === 'list' || job === 'sheets') && !source) $('sentence').hidden = true;
     const found = await JOBS[job](wanted);
     if (!wanted()) return;
     if (found) finish(found);
@@ -243,7 +247,6 @@ const takeFile = async (file, form) => {
     source = null;
     await run();
     sentence(`${file.name}: over 4 MB, too long for the hex text of a run.`, true);
-    $('sentence').hidden = false;
     return;
   }
   const raw = new Uint8Array(await file.slice(0, as === 'hex' ? HEX_TEXT_MOST : texts.MOST).arrayBuffer());

@@ -89,6 +89,10 @@ const pasted = async () => {
     has('hex text', await text('sentence'), why);
     is('nothing else is shown', await text('said') + await text('rows'), '');
   }
+  await choose(file('long.hex', Buffer.alloc(4 * 1024 * 1024 + 1, '# ')));
+  await until("document.getElementById('sentence').textContent.includes('too long')", 'a long hex text');
+  await set('text', '');
+  has('nothing to run', await text('sentence'), 'Drop a record file on this page');
   await choose(file('empty.bin', ''));
   has('an empty file', await text('sentence'), '✗ empty.bin holds no bytes');
   await choose(file('text.bin', '06 00 01 00\n'));
