@@ -1,5 +1,15 @@
--- The letters of names, by their ASCII numbers, so that a name below is written by its letters. Definitions only. Assumes nothing.
+-- The letters of names, by their ASCII numbers, so that a name is written by its letters; when two texts are the same. Definitions only. Assumes nothing.
 use Prim.Native.Nat.{ℕ}
+use mathlib.Core.Bool.{Bool, true, false, cond}
+use mathlib.Core.List.{List, [], _∷_}
+use lib.Dec.{eqb}
+
+-- letter by letter
+abbrev pub same : List ℕ → List ℕ → Bool
+same [] [] = true
+same [] (y ∷ m) = false
+same (x ∷ l) [] = false
+same (x ∷ l) (y ∷ m) = cond (eqb x y) (same l m) false
 
 abbrev pub A : ℕ
 A = 65

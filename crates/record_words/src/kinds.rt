@@ -3,7 +3,8 @@ ghost use mathlib.Core.Path.{_≡_};
 ghost use Prim.Native.Nat.{_+_, _≤_};
 ghost use lib.ListN.{length};
 ghost use Rattle.listing.specs.Text.{Adds};
-ghost use Rattle.record_words.specs.Kinds.{kindOf, numberOf, formOf, kindName, NamePlace};
+ghost use Rattle.record_words.specs.Letters.{same};
+ghost use Rattle.record_words.specs.Kinds.{kindOf, formOf, kindName, NamePlace};
 use listing::text::add;
 
 // 01's kinds 1 to 6, 02's two of the error memory (7, 8) and its three of module sheets (256 to 258).
@@ -109,4 +110,14 @@ pub fn add_kind(out: &mut [u8], place: usize, kind: Kind) -> usize
     let from = s.from;
     let to = s.to;
     add(out, place, &NAMES[from..to])
+}
+
+// Whether a text is the name of a kind.
+pub fn is_kind(kind: Kind, text: &[u8]) -> bool
+    ensures { λ r. ⌜ r ≡ same (kindName kind) (now (text .entry)) ⌝ }
+{
+    let s = name_place(kind);
+    let from = s.from;
+    let to = s.to;
+    check::same(text, &NAMES[from..to])
 }

@@ -1,10 +1,8 @@
 // The names of commands: those of Figure 8 of document 001, one table by code.
 ghost use mathlib.Core.Path.{_≡_};
 ghost use Prim.Native.Nat.{_%_, _≤_, _<_};
-ghost use lib.ListN.{length, take};
-ghost use Rattle.listing.specs.Text.{Adds};
+ghost use Rattle.record_words.specs.Letters.{same};
 ghost use Rattle.record_words.specs.Names.{nameOf, keyOf, lettersIn, Named};
-use listing::text::add;
 use little::four_at;
 use little::put_word;
 
@@ -76,4 +74,14 @@ pub fn name_of(code: u8) -> Name
         text,
         size: letters(key),
     }
+}
+
+// Whether a text is the name of a code, sr not counted.
+pub fn is_name(code: u8, text: &[u8]) -> bool
+    ensures { λ r. ⌜ r ≡ same (nameOf (code % 128)) (now (text .entry)) ⌝ }
+{
+    let name = name_of(code);
+    let letters = name.text;
+    let size = name.size;
+    check::same(text, &letters[..size])
 }
