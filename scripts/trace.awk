@@ -14,21 +14,21 @@ BEGIN {
 function hex(text,    n, i) { for (i = 1; i <= length(text); i++) n = 16 * n + index("0123456789ABCDEF", substr(text, i, 1)) - 1; return n }
 function signed(text,    n, all) { n = hex(text); all = 16 ^ length(text); return n < all / 2 ? n : n - all }
 
-# the words of the record at byte `at`, whose kind and refusal the listing has
-function record_words(    size, said, code, step, i) {
+# the words of the record at byte `at`, whose kind the listing has, as crate record_words tells them: the bytes of a push as
+# words of four, then one of two, then one, low byte first
+function record_words(    size, said, code, step, i, j) {
     size = hex(byte[at]) + 256 * hex(byte[at + 1]) - 2
+    code = byte[at + 4]
     said = kind[$2]
     if ($2 == 1) {
-        step = size % 4 == 0 ? 4 : size % 2 == 0 ? 2 : 1
-        for (i = 0; i < size; i++) {
-            if (i % step == 0) said = said " "
-            said = said byte[at + 4 + i - i % step + step - 1 - i % step]
+        for (i = 0; i < size; i += step) {
+            step = size - i >= 4 ? 4 : size - i >= 2 ? 2 : 1
+            said = said " "
+            for (j = step - 1; j >= 0; j--) said = said byte[at + 4 + i + j]
         }
-    } else if ($2 == 2) said = said " " hex(byte[at + 4])
-    else if ($2 == 3) {
-        code = sprintf("%02X", hex(byte[at + 4]) % 128)
-        said = (code in name ? name[code] : "command " code) (hex(byte[at + 4]) < 128 ? "" : " sr")
-    }
+    } else if ($2 == 2) said = said " " hex(code)
+    else if ($2 == 3 && sprintf("%02X", hex(code) % 128) in name) said = name[sprintf("%02X", hex(code) % 128)] (hex(code) < 128 ? "" : " sr")
+    else if ($2 == 3) said = said " " code
     at += size + 4
     return said
 }

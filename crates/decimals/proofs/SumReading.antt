@@ -33,7 +33,11 @@ written l k v h =
 module _ (digits bytes : List ℕ) (left i : ℕ) (f : Filling digits bytes left i) (more : 0 < left) (all : length digits ≡ 48) where
   pub fills : (high low : ℕ) → high ≡ digitValue (getD digits i 0) → low ≡ digitValue (getD digits (i + 1) 0) → high < 16 → low < 16
       → Filling digits (set bytes (left - 1) (high * 16 + low)) (left - 1) (i + 2)
-  fills high low a b h l = record { leads = number ∙ f .leads; places = omega (arith, f .places); long = length-set bytes (left - 1) (high * 16 + low) ∙ f .long }
+  fills high low a b h l = record {
+    leads = number ∙ f .leads;
+    places = omega (arith, f .places);
+    long = length-set bytes (left - 1) (high * 16 + low) ∙ f .long;
+  }
     where
       n : ℕ
       n = bytesAt (drop left bytes)
@@ -97,6 +101,7 @@ module _ (neg : Bool) (digits bytes : List ℕ) where
   unread true h e = let z : _≡_ {A = ℕ} 0 1 = cc in absurd (omega arith)
   unread false h e = rw h
 
-  pub read : (r : Bool) → Bytes·Of digits r bytes → not r ≡ false → (size : ℕ) → size ≡ bytesAt bytes → exactText neg size ++ (10 ∷ []) ≡ sizeLine neg (hexOf digits)
+  pub read : (r : Bool) → Bytes·Of digits r bytes → not r ≡ false → (size : ℕ) → size ≡ bytesAt bytes
+      → exactText neg size ++ (10 ∷ []) ≡ sizeLine neg (hexOf digits)
   read true h e size s = rw (h, s)
   read false h e size s = let z : _≡_ {A = ℕ} 0 1 = cc in absurd (omega arith)

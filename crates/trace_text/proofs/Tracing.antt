@@ -18,7 +18,9 @@ use Rattle.trace_text.specs.Trace.{stateText, lineRoom, callFrom, afterT
 
 -- a line of a state of 21 bytes or fewer has room
 pub state-length : (number : ℕ) (state : List ℕ) → length (stateText number state) ≡ length (decimal number) + 3 * length state + 1
-state-length number state = omega (arith, length-append (decimal number) (dataText state ++ (10 ∷ [])), length-append (dataText state) (10 ∷ []), data-length state)
+state-length number state =
+    let rest = length-append (dataText state) (10 ∷ []) in
+    omega (arith, length-append (decimal number) (dataText state ++ (10 ∷ [])), rest, data-length state)
 
 pub state-short : (number : ℕ) (state : List ℕ) → length state ≤ 21 → length (stateText number state) ≤ lineRoom
 state-short number state h = omega (arith, state-length number state, at-most 20 number)
@@ -28,11 +30,12 @@ pub told-as : {x y before after : List ℕ} {place new : ℕ} → x ≡ y → Ad
 told-as {x} {y} {before} {after} {place} {new} e h = rw e h
 
 -- the line of a run that is stopped, and of one that is not
-pub stopped : (mode rule number : ℕ) (file : List ℕ) {refusal : ℕ} → refusal ≡ callFrom mode rule file .result → (refusal ≡ 0 → ⊥) → afterText mode rule number file ≡ []
+pub stopped : (mode rule number : ℕ) (file : List ℕ) {refusal : ℕ} → refusal ≡ callFrom mode rule file .result → (refusal ≡ 0 → ⊥)
+    → afterText mode rule number file ≡ []
 stopped mode rule number file e h = rw (ne-eqb (callFrom mode rule file .result) 0 (λ z. h (e ∙ z)))
 
-pub taken : (mode rule number : ℕ) (file : List ℕ) {refusal : ℕ} {state : List ℕ} → refusal ≡ callFrom mode rule file .result → state ≡ callFrom mode rule file .state
-    → refusal ≡ 0 → stateText number state ≡ afterText mode rule number file
+pub taken : (mode rule number : ℕ) (file : List ℕ) {refusal : ℕ} {state : List ℕ} → refusal ≡ callFrom mode rule file .result
+    → state ≡ callFrom mode rule file .state → refusal ≡ 0 → stateText number state ≡ afterText mode rule number file
 taken mode rule number file e f h = rw (f, eq-eqb (callFrom mode rule file .result) 0 (sym e ∙ h))
 
 -- where a record ends, by its length as the code reads it
@@ -45,7 +48,8 @@ unfolding linesFrom
 none-left zero mode rule input number at h = refl
 none-left (suc f) mode rule input number at h = rw (lt-leb (at + 2) (length input) h)
 
-pub cut-off : (f mode rule : ℕ) (input : List ℕ) (number at : ℕ) → at + 2 ≤ length input → length input < endAt input at → linesFrom f mode rule input number at ≡ []
+pub cut-off : (f mode rule : ℕ) (input : List ℕ) (number at : ℕ) → at + 2 ≤ length input → length input < endAt input at
+    → linesFrom f mode rule input number at ≡ []
 unfolding linesFrom
 cut-off zero mode rule input number at h k = refl
 cut-off (suc f) mode rule input number at h k = rw (le-leb (at + 2) (length input) h, lt-leb (endAt input at) (length input) k)

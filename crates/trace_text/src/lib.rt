@@ -33,7 +33,8 @@ fn add_state(out: &mut [u8], place: usize, number: u64, state: &[u8]) -> usize
 // The line of the record that a file ends with, or nothing where the file's run is stopped.
 fn add_after(out: &mut [u8], place: usize, mode: u32, rule: u32, number: u64, file: &[u8]) -> usize
     requires { ⌜ place + lineRoom ≤ length (now out) ⌝ }
-    ensures { λ r. ⌜ Adds (afterText mode rule number (now (file .entry))) (now (out .entry)) (now (out .exit)) place r ⌝ }
+    ensures { λ r. ⌜ Adds (afterText mode rule number (now (file .entry))) (now (out .entry)) (now (out .exit))
+        place r ⌝ }
     ensures { λ r. ⌜ r ≤ place + lineRoom ⌝ }
 {
     let mut state = [0u8; LONG_STATE_BYTES];
@@ -89,7 +90,8 @@ pub fn told(
     text: &mut [u8; TRACE_ROOM],
 ) -> usize
     ensures { λ r. ⌜ Counts r (now (text .exit)) ⌝ }
-    ensures { λ r. ⌜ take r (now (text .exit)) ≡ toldOf words (now (first .entry)) (now (second .entry)) (now (input .entry)) ⌝ }
+    ensures { λ r. ⌜ take r (now (text .exit)) ≡ toldOf words (now (first .entry)) (now (second .entry))
+        (now (input .entry)) ⌝ }
 {
     let asked = options::asked_of(words, first, second);
     match asked {

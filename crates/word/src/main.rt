@@ -1,6 +1,6 @@
 // The program behind ./word: its arguments are a rule, a form and texts, and it writes the line that `decimals` tells
-// for each of them; without a text it reads texts from standard input, one to a line. `end` is the last line. The form is
-// `short` or `exact` for decimals and words, `sum` for sums as the figures of sheets give them.
+// for each of them; without a text it reads texts from standard input, one to a line. `end` is the last line.
+// The form is `short` or `exact` for decimals and words, `sum` for sums as the figures of sheets give them.
 use libc::STDIN_FILENO;
 use libc::STDOUT_FILENO;
 use terms::Rule;

@@ -44,6 +44,13 @@ add-after-requires c κs =
     let start = c .before .before .before .before .before .before .before .before .before .before in
     omega (arith, l .inv .room, l .inv .same, start .pre .0, start .pre .1, c .before .before .before .before .before .before .loop-test .taken)
 
+add-number : tie.Need-add-number Inv-loop μ-loop
+add-number c =
+    let k = c .before .before .before .before .before in
+    let at-loop = k .before .before .before .before .before in
+    let l = at-loop .loop in
+    omega (arith, l .inv .few, l .inv .in-it, at-loop .before .before .before .pre .0)
+
 loop-less : tie.Need-loop-less Inv-loop μ-loop
 loop-less c =
     let k = c .before .before .before .before .before in
@@ -91,7 +98,7 @@ add-lines-spec =
     returns
     slice-aggregate-add-after
     add-after-requires
-    (λ c. let l = c .before .before .before .before .before .before .before .before .before .before in omega (arith, l .loop .inv .few, l .loop .inv .in-it, l .before .before .before .pre .0))
+    add-number
     loop-less
     loop-again
     (λ c. c .before .loop .inv .same)

@@ -24,7 +24,9 @@ add-requires c κs =
     let at-decimal = at-data .before .before .before .before in
     let start = at-decimal .before .before .before .before in
     let a = start .args in
-    omega (arith, start .pre .0, start .pre .1, at-decimal .add-decimal .ensures .moved, at-data .add-data .ensures .moved, at-most 20 (a .number), data-length (now (a .state)))
+    let decimal = at-decimal .add-decimal .ensures in
+    let bytes = at-data .add-data .ensures in
+    omega (arith, start .pre .0, start .pre .1, decimal .moved, bytes .moved, at-most 20 (a .number), data-length (now (a .state)))
 
 returns : tie.Need-returns
 returns c =

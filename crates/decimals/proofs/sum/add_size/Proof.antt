@@ -13,7 +13,8 @@ returns c =
     let at-test = at-add .before .before .before in
     let at-read = at-test .before in
     let a = at-read .before .before .before .before .args in
-    told-as (unread (a .neg) (now (a .digits)) (at-read .read-bytes .last .1 .0) (at-read .read-bytes .result) (at-read .read-bytes .ensures) (at-test .if1 .taken)) (at-add .add .ensures)
+    let found = at-read .read-bytes in
+    told-as (unread (a .neg) (now (a .digits)) (found .last .1 .0) (found .result) (found .ensures) (at-test .if1 .taken)) (at-add .add .ensures)
 
 returns-2 : tie.Need-returns-2
 returns-2 c =
@@ -23,7 +24,9 @@ returns-2 c =
     let at-test = at-bytes .before .before in
     let at-read = at-test .before in
     let a = at-read .before .before .before .before .args in
-    told-as (read (a .neg) (now (a .digits)) (at-read .read-bytes .last .1 .0) (at-read .read-bytes .result) (at-read .read-bytes .ensures) (at-test .if1 .left) _ (at-bytes .of-bytes .ensures .0))
+    let found = at-read .read-bytes in
+    let size = at-bytes .of-bytes .ensures .0 in
+    told-as (read (a .neg) (now (a .digits)) (found .last .1 .0) (found .result) (found .ensures) (at-test .if1 .left) _ size)
     (both (at-exact .add-exact .ensures .0) (at-add .add2 .ensures))
 
 pub add-size-spec : {M : Type 1} → statement M

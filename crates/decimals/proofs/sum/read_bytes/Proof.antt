@@ -26,8 +26,17 @@ returns-2 : tie.Need-returns-2 Inv-loop μ-loop
 returns-2 c =
     let l = c .before .before .before .before .before .before .before .loop in
     let start = c .before .before .before .before .before .before .before .before .before in
-    low-none (now (start .args .digits)) (l .bytes) (l .left) (l .i) (l .inv) (c .before .before .before .before .before .before .loop-test .taken) (start .pre .0)
-    _ _ (c .before .before .before .before .digit-value .ensures .0) (omega (arith, c .before .if1 .left)) (c .before .before .digit-value2 .ensures .0) (c .if2 .taken)
+    let at-low = c .before .before in
+    let high = at-low .before .before .digit-value .ensures .0 in
+    let more = at-low .before .before .before .before .loop-test .taken in
+    low-none (now (start .args .digits)) (l .bytes) (l .left) (l .i) (l .inv) more (start .pre .0)
+    _ _ high (omega (arith, c .before .if1 .left)) (at-low .digit-value2 .ensures .0) (c .if2 .taken)
+
+element-write-bytes : tie.Need-element-write-bytes Inv-loop μ-loop
+element-write-bytes c =
+    let at-test = c .before .before .before .before .before .before in
+    let l = at-test .before .loop in
+    omega (arith, l .inv .places, l .inv .long, at-test .loop-test .taken)
 
 loop-again : tie.Need-loop-again Inv-loop μ-loop
 loop-again c =
@@ -53,14 +62,14 @@ read-bytes-spec =
     (λ c. let l = c .before .before .loop in omega (arith, l .inv .places, c .before .before .before .before .pre .0, c .before .loop-test .taken))
     (λ c κs. search needs)
     (λ c. omega (arith, c .before .before .before .loop .inv .places))
-    (λ c. let l = c .before .before .before .before .loop in omega (arith, l .inv .places, c .before .before .before .before .before .before .pre .0, c .before .before .before .loop-test .taken))
+    (λ c. let at-test = c .before .before .before in omega (arith, at-test .before .loop .inv .places, at-test .before .before .before .pre .0, at-test .loop-test .taken))
     (λ c κs. search needs)
     returns
     returns-2
     (λ c. search needs)
     (λ c. search needs)
     (λ c. search needs)
-    (λ c. let l = c .before .before .before .before .before .before .before .loop in omega (arith, l .inv .places, l .inv .long, c .before .before .before .before .before .before .loop-test .taken))
+    element-write-bytes
     (λ c. omega (arith, c .before .before .before .before .before .before .before .loop .inv .places))
     (λ c. search needs)
     loop-again
