@@ -4,12 +4,13 @@ import { mkdtempSync, rmSync, writeFileSync } from 'node:fs';
 import { tmpdir } from 'node:os';
 import { join } from 'node:path';
 
-const FLAGS = ['--headless=new', '--no-sandbox', '--disable-gpu', '--no-first-run', '--remote-debugging-pipe', 'about:blank'];
+const FLAGS = ['--headless=new', '--no-sandbox', '--disable-gpu', '--no-first-run', '--remote-debugging-pipe'];
+const STDIO = ['ignore', 'ignore', 'ignore', 'pipe', 'pipe'];
 
 // Starts the browser: `tell` sends a command of its protocol to the page, `events` are those that came.
 export const chromium = async () => {
   const folder = mkdtempSync(join(tmpdir(), 'pundaliket-')), waiting = new Map(), events = [];
-  const browser = spawn('chromium', [`--user-data-dir=${folder}`, ...FLAGS], { stdio: ['ignore', 'ignore', 'ignore', 'pipe', 'pipe'] });
+  const browser = spawn('chromium', [...FLAGS, `--user-data-dir=${folder}`, 'about:blank'], { stdio: STDIO });
   let last = 0, rest = '';
   browser.stdio[4].on('data', data => {
     const parts = (rest + data).split('\0');
@@ -20,7 +21,7 @@ export const chromium = async () => {
     }
   });
   const send = (method, params = {}, sessionId = undefined) => new Promise((done, failed) => {
-    waiting.set(++last, answer => answer.error ? failed(Error(`${method}: ${answer.error.message}`)) : done(answer.result));
+    waiting.set(++last, ({ error, result }) => error ? failed(Error(`${method}: ${error.message}`)) : done(result));
     browser.stdio[3].write(JSON.stringify({ id: last, method, params, sessionId }) + '\0');
   });
   const { targetId } = await send('Target.createTarget', { url: 'about:blank' });
@@ -40,7 +41,8 @@ export const chromium = async () => {
 // What is done with the page: scripts run in it, files given to it, pictures taken of it.
 const acts = tell => {
   const js = async expression => {
-    const { result, exceptionDetails } = await tell('Runtime.evaluate', { expression, awaitPromise: true, returnByValue: true });
+    const how = { awaitPromise: true, returnByValue: true };
+    const { result, exceptionDetails } = await tell('Runtime.evaluate', { expression, ...how });
     if (exceptionDetails) throw Error(`${expression.slice(0, 80)}: ${exceptionDetails.exception.description}`);
     return result.value;
   };
@@ -66,7 +68,8 @@ const acts = tell => {
     writeFileSync(path, Buffer.from(data, 'base64'));
   };
   const choose = async (selector, path) => {
-    const { root } = await tell('DOM.getDocument'), { nodeId } = await tell('DOM.querySelector', { nodeId: root.nodeId, selector });
+    const { root } = await tell('DOM.getDocument');
+    const { nodeId } = await tell('DOM.querySelector', { nodeId: root.nodeId, selector });
     await tell('DOM.setFileInputFiles', { nodeId, files: [path] });
   };
   return { js, until, size, open, picture, paper, choose };

@@ -1,5 +1,5 @@
-// node machine.mjs PAGE.html TOP: the page's own scripts and modules, without a screen, against the native programs and the
-// scripts of the commands. START is a command that starts a native program. Ends with 0 only if nothing differs.
+// node machine.mjs PAGE.html TOP: the page's own scripts and modules, without a screen, against the native programs and
+// the scripts of the commands. START is a command that starts a native program. Ends with 0 only if nothing differs.
 import { createHash } from 'node:crypto';
 import { spawnSync } from 'node:child_process';
 import { join } from 'node:path';
@@ -10,9 +10,10 @@ const parts = await machine(page), { runs, texts, sha256, FormulaReader, MODULES
 const codes = Object.keys(CODES).map(Number), PROGRAM = { list: 'buslist', sheets: 'sheetlist' };
 const SETTINGS = [{}, { nearest: true }, { older: true }, { older: true, nearest: true }];
 const words = ({ older, nearest }) => [...(older ? ['--am9511'] : []), ...(nearest ? ['--nearest'] : [])];
+const many = (n, make) => Array.from({ length: n }, make);
 const latin = bytes => Buffer.from(bytes).toString('latin1');
 
-// ---- listings, and the state behind a record: what the native program pops, and tells of status and error memory, behind it
+// ---- listings, and the state behind a record: what the native program pops behind it, and tells of status and errors
 
 const ASKED = [3, 0, 2, 0, 16, 2, 0, 4, 0, 2, 0, 7, 0];
 const stateBehind = (job, input, settings) => {
@@ -28,9 +29,9 @@ const listed = async (job, what, input, settings, every) => {
   is(`${job} ${what}: rows and lines`, String(r.agree), 'true');
   for (const [i, row] of r.rows.entries()) {
     const behind = row.at + row.record.length;
-    if (i % every === every - 1 && behind + ASKED.length <= 12288) {
-      is(`${job} ${what}: the state behind record ${i + 1}`, stateOf(row.state), stateBehind(job, input.subarray(0, behind), settings));
-    }
+    if (i % every !== every - 1 || behind + ASKED.length > 12288) continue;
+    const must = stateBehind(job, input.subarray(0, behind), settings);
+    is(`${job} ${what}: the state behind record ${i + 1}`, stateOf(row.state), must);
   }
 };
 for (const { name, hex } of examples(top)) {
@@ -38,17 +39,21 @@ for (const { name, hex } of examples(top)) {
   for (const settings of SETTINGS) await listed(job, name, input, settings, settings === SETTINGS[0] ? 2 : 16);
   await listed(job === 'list' ? 'sheets' : 'list', name, input, {}, 64);
 }
-for (let i = 0; i < 160; i++) await listed(i % 2 ? 'list' : 'sheets', `drawn ${i}`, drawnFile(draw, codes), SETTINGS[i >> 1 & 3], 40);
+for (let i = 0; i < 160; i++) {
+  await listed(i % 2 ? 'list' : 'sheets', `drawn ${i}`, drawnFile(draw, codes), SETTINGS[i >> 1 & 3], 40);
+}
 const long = Uint8Array.from({ length: 12289 }, (_, i) => [2, 0, 4, 0][i % 4]);
-for (const n of [0, 12288, 12289]) for (const job of ['list', 'sheets']) await listed(job, `${n} bytes`, long.subarray(0, n), {}, 4000);
+for (const n of [0, 12288, 12289]) {
+  for (const job of ['list', 'sheets']) await listed(job, `${n} bytes`, long.subarray(0, n), {}, 4000);
+}
 
 // ---- formulas, steps, decimals
 
 const odd = ['', 'a', '(a-b)/c*#01800000', 'a+(b+(c+(d+e)))', 'a'.repeat(300), `${'('.repeat(17)}a${')'.repeat(17)}`,
   `${'a+a*('.repeat(16)}#01800000${')'.repeat(16)}`, 'é', 'a b'];
 const refusals = new Set();
-for (const text of [...odd, ...Array.from({ length: 150 }, () => drawnFormula(draw))]) {
-  const letters = Array.from({ length: 8 }, () => draw(20) ? draw(256) * 2 ** 24 + 0x800000 + draw(0x800000) : 0x01400000);
+for (const text of [...odd, ...many(150, () => drawnFormula(draw))]) {
+  const letters = many(8, () => draw(20) ? draw(256) * 2 ** 24 + 0x800000 + draw(0x800000) : 0x01400000);
   const input = Buffer.alloc(32), got = await runs.formula(letters, texts.encoded(text));
   letters.forEach((word, i) => input.writeUInt32BE(word, 4 * i));
   refusals.add(got.refusal);
@@ -59,57 +64,70 @@ is('formulas of each refusal', [...refusals].sort().join(' '), '0 30 31 32');
 
 // where a formula is wrong: the refusal and the place are those of scripts/formula.awk, and the refusal the program's
 const broken = () => {
-  const text = drawnFormula(draw), at = draw(text.length + 1);
-  return draw(3) ? text.slice(0, at) + ['', ' ', 'i', ')', '(', '-', '#', '+*', '#0'][draw(9)] + text.slice(at + draw(2)) : text;
+  const text = drawnFormula(draw), at = draw(text.length + 1), pieces = ['', ' ', 'i', ')', '(', '-', '#', '+*', '#0'];
+  return draw(3) ? text.slice(0, at) + pieces[draw(9)] + text.slice(at + (text[at] === '#' ? 0 : draw(2))) : text;
 };
-for (const text of [...odd, ...Array.from({ length: 150 }, broken)]) {
-  const letters = Array.from({ length: 8 }, () => draw(12) ? '01800000' : '01400000'), reader = new FormulaReader(text, letters), fault = reader.fault();
-  const said = spawnSync('awk', ['-f', join(top, 'scripts/formula.awk')], { env: { ...process.env, LC_ALL: 'C', TEXT: text, WORDS: letters.join(' ') } });
-  is(`where ${text} is wrong`, fault ? `${fault.number} ${fault.reason.split(',')[0]}` : '', latin(said.stdout).split(',')[0].trim());
+const place = line => line.split(',')[0].trim();
+for (const text of [...odd, ...many(150, broken)]) {
+  const letters = many(8, () => draw(12) ? '01800000' : '01400000'), fault = new FormulaReader(text, letters).fault();
+  const env = { ...process.env, LC_ALL: 'C', TEXT: text, WORDS: letters.join(' ') };
+  const said = latin(spawnSync('awk', ['-f', join(top, 'scripts/formula.awk')], { env }).stdout);
+  is(`where ${text} is wrong`, fault ? `${fault.number} ${place(fault.reason)}` : '', place(said));
   const got = await runs.formula(letters.map(word => parseInt(word, 16)), texts.encoded(text));
   is(`the refusal of ${text}`, String(fault ? fault.number : 0), String(got.refusal));
 }
 
-const digits = n => Array.from({ length: n }, () => '0123456789ABCDEF'[draw(16)]).join('');
-const calls = [[], ['6F'], ['6F', 'FFF9', '0002'], ['6F', 'fff9', '0002'], ['6F', 'FFF9', '0002', '--nearest', 'x'], ['zz', 'FFF9', '0002'],
-  ['6F', '12345678901234567', '0002'], ['12', '01400000', '01800000'], ['6F', '', '']];
+const digits = n => many(n, () => '0123456789ABCDEF'[draw(16)]).join('');
+const calls = [[], ['6F'], ['6F', 'FFF9', '0002'], ['6F', 'fff9', '0002'], ['6F', 'FFF9', '0002', '--nearest', 'x'],
+  ['zz', 'FFF9', '0002'], ['6F', '12345678901234567', '0002'], ['12', '01400000', '01800000'], ['6F', '', '']];
 for (const code of ['6E', '76', '6F']) for (let i = 0; i < 12; i++) calls.push([code, digits(4), digits(4)]);
-for (const code of ['2E', '36', '2F', '12', '13']) for (let i = 0; i < 20; i++) calls.push([code, digits(8), digits(8), ...(i % 2 ? ['--nearest'] : [])]);
+for (const code of ['2E', '36', '2F', '12', '13']) {
+  for (let i = 0; i < 20; i++) calls.push([code, digits(8), digits(8), ...(i % 2 ? ['--nearest'] : [])]);
+}
 for (const call of calls) is(`steps ${call}`, await runs.steps(call), latin(native(top, 'steps', '', call)));
 
-const numbers = ['2.5', '0.1', '-0.001', '2', '2.', '.5', '-.5', '+2.5', '2.5.1', '2.5e', '123ABCD', '12345678901234567890.0', '9'.repeat(100),
-  '9223372036854775808.0', '0.00000000000000000002', `0.${'0'.repeat(27)}1`, '02a00000', '00400000', '3FFFFFFF', '40800000',
-  ...Array.from({ length: 1500 }, () => digits(8)), ...Array.from({ length: 500 }, () => `${draw(2) ? '-' : ''}${draw(10 ** draw(10))}.${draw(10 ** draw(10))}`)];
+const decimal = () => `${draw(2) ? '-' : ''}${draw(10 ** draw(10))}.${draw(10 ** draw(10))}`;
+const numbers = ['2.5', '0.1', '-0.001', '2', '2.', '.5', '-.5', '+2.5', '2.5.1', '2.5e', '123ABCD',
+  '12345678901234567890.0', '9'.repeat(100), '9223372036854775808.0', '0.00000000000000000002', `0.${'0'.repeat(27)}1`,
+  '02a00000', '00400000', '3FFFFFFF', '40800000', ...many(1500, () => digits(8)), ...many(500, decimal)];
+const lines = (list, rule, form) => {
+  const input = list.map(text => `${text}\n`).join('');
+  return latin(native(top, 'word', input, [rule, form])).split('\n').slice(0, -2);
+};
 for (const nearest of [false, true]) for (const exact of [false, true]) {
-  const must = [0, 1, 2].map(k => numbers.slice(700 * k, 700 * k + 700).map(text => `${text}\n`).join('')).map(part =>
-    latin(native(top, 'word', part, [nearest ? 'nearest' : 'cut', exact ? 'exact' : 'short'])).split('\n').slice(0, -2)).flat();
+  const rule = nearest ? 'nearest' : 'cut', form = exact ? 'exact' : 'short';
   const got = await runs.told(numbers, { nearest, exact });
+  const must = [0, 700, 1400].flatMap(from => lines(numbers.slice(from, from + 700), rule, form));
   numbers.forEach((text, i) => is(`word ${text}`, got[i], must[i]));
 }
-const wrong = numbers.slice(0, 16), lines = await runs.told(wrong, {});
-for (const [i, text] of wrong.entries()) {
-  if (!/^(refused|wrong)/.test(lines[i])) continue;
+for (const text of numbers.slice(0, 16)) {
+  const [line] = await runs.told([text], {});
+  if (!/^(refused|wrong)/.test(line)) continue;
   const said = spawnSync(join(top, 'word'), ['--', text]).stderr.toString();
-  is(`why ${text} has no word`, String(said.includes(texts.noWord(lines[i], text))), 'true');
+  is(`why ${text} has no word`, String(said.includes(texts.noWord(line, text))), 'true');
 }
 
-// ---- what no program tells: hex text against scripts/hex.awk, an exact sum multiplied back, SHA-256, reasons for every refusal
+// ---- what no program tells: hex text against scripts/hex.awk, a sum multiplied back, SHA-256, reasons for refusals
 
-const pieces = ['00', '1f', 'A', ' ', '\t', '\n', '\r', '\r\n', '#', 'g', '# c\n', 'FF', '0x01', '0X', 'x', ',', ':', 'S', '02 ', '03\n', '\0'];
-const hexTexts = ['', '0', '0 0', '00\r\n01\r02\n03', '# only', '\ufeff0102', 'zz', '00 0x', '0x0102,03', '0x0x01', '00x01', ':10', 'S1', '00\n:', 'é',
-  '01'.repeat(12289) + 'zz', '01'.repeat(13000), ...Array.from({ length: 120 }, () => Array.from({ length: 1 + draw(9) }, () => pieces[draw(pieces.length)]).join(''))]
-  .map(text => Buffer.from(text)).concat([[0xFF, 0xFE, 0x30, 0], [0xFE, 0xFF, 0, 0x30], [0x30, 0x31, 0xEF, 0xBB, 0xBF]].map(bytes => Buffer.from(bytes)));
-for (const text of hexTexts) {
-  const command = `od -A n -v -t x1 | LC_ALL=C awk -v most=12289 -f '${top}/scripts/hex.awk'`, said = spawnSync('sh', ['-c', command], { input: text });
-  const escapes = latin(said.stdout), must = said.status ? escapes.split('\n').slice(-2)[0] :
-    Buffer.from((escapes.match(/\\\d{3}/g) || []).map(octal => parseInt(octal.slice(1), 8)));
+const pieces = ['00', '1f', 'A', ' ', '\t', '\n', '\r', '\r\n', '#', 'g', '# c\n', 'FF', '0x01', '0X', 'x', ',', ':',
+  'S', '02 ', '03\n', '\0'];
+const hexTexts = ['', '0', '0 0', '00\r\n01\r02\n03', '# only', '\ufeff0102', 'zz', '00 0x', '0x0102,03', '0x0x01',
+  '00x01', ':10', 'S1', '00\n:', 'é', '01'.repeat(12289) + 'zz', '01'.repeat(13000), [0xFF, 0xFE, 0x30, 0],
+  [0xFE, 0xFF, 0, 0x30], [0x30, 0x31, 0xEF, 0xBB, 0xBF],
+  ...many(120, () => many(1 + draw(9), () => pieces[draw(pieces.length)]).join(''))];
+for (const text of hexTexts.map(given => Buffer.from(given))) {
+  const command = `od -A n -v -t x1 | LC_ALL=C awk -v most=12289 -f '${top}/scripts/hex.awk'`;
+  const said = spawnSync('sh', ['-c', command], { input: text }), escapes = latin(said.stdout);
+  const bytes = (escapes.match(/\\\d{3}/g) || []).map(octal => parseInt(octal.slice(1), 8));
+  const must = said.status ? escapes.split('\n').slice(-2)[0] : Buffer.from(bytes);
   let got;
   try { got = texts.hexBytes(text); } catch (error) { got = error.message; }
   is(`hex text ${JSON.stringify(latin(text).slice(0, 40))}`, got, must);
 }
 for (let i = 0; i < 200; i++) {
   const figure = '+-'[draw(2)] + digits(48), [, sign, whole, places] = /^(-?)(\d+)\.(\d+)$/.exec(texts.sum(figure));
-  is(`sum ${figure}`, `${sign || '+'}${(BigInt(whole + places) * 2n ** 88n / 10n ** BigInt(places.length)).toString(16).toUpperCase().padStart(48, '0')}`, figure);
+  const scaled = BigInt(whole + places) * 2n ** 88n / 10n ** BigInt(places.length);
+  is(`sum ${figure}`, `${sign || '+'}${scaled.toString(16).toUpperCase().padStart(48, '0')}`, figure);
   const bytes = Uint8Array.from({ length: i * 3 }, () => draw(256));
   is(`SHA-256 of ${i * 3} bytes`, sha256(bytes), createHash('sha256').update(bytes).digest('hex'));
 }

@@ -16,7 +16,8 @@ export const machine = async (path, change = data => data) => {
 
 // START and a folder of programs: what a native program writes.
 export const native = (top, name, input, words = []) => {
-  const { stdout, status, error } = spawnSync(process.env.START, [join(top, 'target/bin', name), ...words], { input, maxBuffer: 1 << 25 });
+  const program = join(top, 'target/bin', name), given = { input, maxBuffer: 1 << 25 };
+  const { stdout, status, error } = spawnSync(process.env.START, [program, ...words], given);
   if (error || status !== 0) throw Error(`${name} ended with ${error || status}`);
   return stdout;
 };
@@ -36,7 +37,7 @@ export const draws = seed => {
   return n => next() % n;
 };
 
-const record = (kind, payload) => [payload.length + 2 & 255, payload.length + 2 >> 8, kind & 255, kind >> 8, ...payload];
+const record = (kind, payload) => [payload.length + 2, 0, kind & 255, kind >> 8, ...payload];
 
 // A drawn file: mostly whole records that do something, one in ten with a byte lost.
 export const drawnFile = (draw, codes) => {
@@ -55,20 +56,23 @@ export const drawnFile = (draw, codes) => {
 
 // A drawn formula.
 export const drawnFormula = (draw, depth = 0) => {
-  const inner = () => drawnFormula(draw, depth + 1), digits = n => draw(2 ** (4 * n)).toString(16).toUpperCase().padStart(n, '0');
-  return [() => 'abcdefgh'[draw(8)], () => `#${digits(2)}${(128 + draw(128)).toString(16).toUpperCase()}${digits(4)}`, () => `-${inner()}`,
-    () => `(${inner()})`, () => inner() + '+-*/'[draw(4)] + inner(), () => inner() + '+-*/'[draw(4)] + inner()][draw(depth > 3 ? 2 : 6)]();
+  const two = least => (least + draw(256 - least)).toString(16).toUpperCase().padStart(2, '0');
+  const inner = () => drawnFormula(draw, depth + 1), joined = () => inner() + '+-*/'[draw(4)] + inner();
+  const constant = () => `#${two(0)}${two(128)}${two(0)}${two(0)}`;
+  const ways = [() => 'abcdefgh'[draw(8)], constant, () => `-${inner()}`, () => `(${inner()})`, joined, joined];
+  return ways[draw(depth > 3 ? 2 : 6)]();
 };
 
 // Counts what is compared, and names what differs.
 export const counter = () => {
   const count = { compared: 0, differ: 0 };
-  const is = (what, got, must) => {
+  const is = (what, got, wanted) => {
     count.compared++;
-    const [a, b] = [got, must].map(x => typeof x === 'string' ? x : Buffer.from(x).toString('latin1'));
+    const [a, b] = [got, wanted].map(x => typeof x === 'string' ? x : Buffer.from(x).toString('latin1'));
     if (a === b) return;
     count.differ++;
-    console.log(`differs: ${what}\n  is   ${JSON.stringify(a.slice(0, 200))}\n  must ${JSON.stringify(b.slice(0, 200))}`);
+    const [shown, must] = [a, b].map(x => JSON.stringify(x.slice(0, 200)));
+    console.log(`differs: ${what}\n  is   ${shown}\n  must ${must}`);
   };
   return { count, is };
 };
