@@ -31,17 +31,20 @@ module _ (rule : Rule) (s : State) (service : Bool) (k : Command) {a : Answer} w
   unfolding carried
   carried-improper p f e = e ∙ rw (p, f)
 
-  pub carried-done : {o : CommandOutcome} → s .pending ≡ false → properOperands k (s .stack) ≡ true → o ≡ outcomeOf rule k (s .stack) → a ≡ done 0 (settled s service o) → a ≡ carried rule s service k
+  pub carried-done : {o : CommandOutcome} → s .pending ≡ false → properOperands k (s .stack) ≡ true → o ≡ outcomeOf rule k (s .stack)
+      → a ≡ done 0 (settled s service o) → a ≡ carried rule s service k
   unfolding carried
   carried-done p f h e = e ∙ ap (λ (x : CommandOutcome). done 0 (settled s service x)) h ∙ rw (p, f)
 
 -- a command that is not busy is answered by its kind
-pub command-by : (rule : Rule) (s : State) (code : ℕ) {k l : Kind} {a : Answer} → s .status < 128 → k ≡ decoded (code % 128) → k ≡ l → a ≡ answerByKind rule s (sr code) l → a ≡ commandUnder rule s code
+pub command-by : (rule : Rule) (s : State) (code : ℕ) {k l : Kind} {a : Answer} → s .status < 128 → k ≡ decoded (code % 128) → k ≡ l
+    → a ≡ answerByKind rule s (sr code) l → a ≡ commandUnder rule s code
 unfolding commandUnder
 command-by rule s code h e f g = when-ready s (answerByKind rule s (sr code) (decoded (code % 128))) h (g ∙ ap (answerByKind rule s (sr code)) (sym f ∙ e))
 
 -- a known command is carried out with the service bit of its code
-pub known-by : (rule : Rule) (s : State) (code : ℕ) {k : Kind} {v : Bool} {command : Command} {a : Answer} → s .status < 128 → k ≡ decoded (code % 128) → k ≡ Known command → v ≡ sr code → a ≡ carried rule s v command → a ≡ commandUnder rule s code
+pub known-by : (rule : Rule) (s : State) (code : ℕ) {k : Kind} {v : Bool} {command : Command} {a : Answer} → s .status < 128 → k ≡ decoded (code % 128)
+    → k ≡ Known command → v ≡ sr code → a ≡ carried rule s v command → a ≡ commandUnder rule s code
 known-by rule s code {command = command} h e f v g = command-by rule s code h e f (g ∙ ap (λ (x : Bool). carried rule s x command) v)
 
 -- a busy state is handed back by every command

@@ -24,6 +24,7 @@ pub fix-error : (half a : ℕ) → (fix half a) .error < 16
 unfolding fix
 fix-error half a = go (leb half (wholePart a))
   where
-    go : (over : Bool) → (cond {A = Flagged} over (record { word = a; error = 1 }) (record { word = complement half (negative a) (wholePart a); error = 0 })) .error < 16
+    go : (over : Bool) → (cond {A = Flagged} over (record { word = a; error = 1 })
+        (record { word = complement half (negative a) (wholePart a); error = 0 })) .error < 16
     go true = lit< tt
     go false = lit< tt

@@ -85,10 +85,12 @@ module _ (s : State) (code : ℕ) (o : Obeyed) where
   pub as-refused : 256 ≤ o .answer → answerAs s code o ≡ refused (refusalOf (o .answer / 256)) s
   as-refused h = rw (le-ltb (o .answer) 256 h)
 
-  as-number : (n : ℕ) → o .answer ≡ n → answerAs s code o ≡ cond (ltb n 256) (done 0 (settled s (sr code) (left (bytesIn (o .stack)) n))) (refused (refusalOf (n / 256)) s)
+  as-number : (n : ℕ) → o .answer ≡ n → answerAs s code o ≡ cond (ltb n 256) (done 0 (settled s (sr code) (left (bytesIn (o .stack)) n)))
+      (refused (refusalOf (n / 256)) s)
   as-number n e = ap (λ (x : ℕ). cond (ltb x 256) (done 0 (settled s (sr code) (left (bytesIn (o .stack)) x))) (refused (refusalOf (x / 256)) s)) e
 
-  known-one : (rule : Rule) (command : Command) (stack : Stack) → s .stack ≡ bytesIn stack → s .pending ≡ false → Obeys rule command stack o → answerAs s code o ≡ carried rule s (sr code) command
+  known-one : (rule : Rule) (command : Command) (stack : Stack) → s .stack ≡ bytesIn stack → s .pending ≡ false → Obeys rule command stack o
+      → answerAs s code o ≡ carried rule s (sr code) command
   known-one rule command stack es ep w =
       ⊎-elim
       (λ (d : (properOperands command (bytesIn stack) ≡ true) × Settles (outcomeOf rule command (bytesIn stack)) o).
@@ -120,7 +122,8 @@ works-as w s o e = subst (λ (x : FixedOp). SettlesEither (fixedIn x w) s o) (sy
 pub moves-as : (w : Width) (s : Stack) (o : Obeyed) {k l : MoveOp} → k ≡ l → SettlesEither (moveIn l w) s o → SettlesEither (moveIn k w) s o
 moves-as w s o e = subst (λ (x : MoveOp). SettlesEither (moveIn x w) s o) (sym e)
 
-pub by-rule : (pending : Bool) (code : ℕ) (stack : Stack) {rule r : Rule} {o x : Obeyed} → rule ≡ r → o ≡ x → Commanded r pending code stack x → Commanded rule pending code stack o
+pub by-rule : (pending : Bool) (code : ℕ) (stack : Stack) {rule r : Rule} {o x : Obeyed} → rule ≡ r → o ≡ x → Commanded r pending code stack x
+    → Commanded rule pending code stack o
 by-rule pending code stack e f h = rw (e, f) h
 
 -- operands are asked for by no fixed-point operation and no move

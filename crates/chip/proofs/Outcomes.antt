@@ -128,7 +128,8 @@ module _ (s : List ℕ) (S : IsStack s) where
   outcome-fair rule (Chs w) p = changes-fair w (chs (halfOf w) (wordA w s)) (chs-few (halfOf w) (wordA w s))
   outcome-fair rule (Float op) p =
       floats-fair (floatOf rule op (wordB Double s) (wordA Double s))
-      (float-result rule op (wordB Double s) (wordA Double s) (record { fits = b-fits; is-proper = both-of (proper (wordB Double s)) (proper (wordA Double s)) p .0 }) .small)
+      (float-result rule op (wordB Double s) (wordA Double s)
+      (record { fits = b-fits; is-proper = both-of (proper (wordB Double s)) (proper (wordA Double s)) p .0 }) .small)
   outcome-fair rule Chsf p = fair Double (replaced 4 s (chsf (wordA Double s))) 0 false (replaced-stack s S 4 (one Double) (chsf (wordA Double s))) (lit< tt)
   outcome-fair rule (Flt Double) p = converts-fair (fltd rule (wordA Double s)) (fltd-result rule (wordA Double s) .small)
   outcome-fair rule (Flt Single) p = widens-fair (flts (wordA Single s)) (flts-result (wordA Single s) .small)
@@ -176,16 +177,20 @@ module _ (s : List ℕ) (S : IsStack s) where
   unfolding narrows
   narrows-hand r = go (eqb (r .error) 0)
     where
-      go : (x : Bool) → handedOut (cond x 2 4) ((cond {A = CommandOutcome} x (ends Single (narrowed s (r .word)) 0 false) (ends Double (converted s (r .word)) (r .error) false)) .stack) ≡ bytesOf (cond x 2 4) (r .word)
+      go : (x : Bool) → handedOut (cond x 2 4) ((cond {A = CommandOutcome} x (ends Single (narrowed s (r .word)) 0 false)
+          (ends Double (converted s (r .word)) (r .error) false)) .stack) ≡ bytesOf (cond x 2 4) (r .word)
       go true = pops-read 2 (r .word) (take 8 (drop 4 s) ++ zeros 6)
       go false = pops-read 4 (r .word) (take 8 (drop 4 s) ++ zeros 4)
 
-  roots-hand : (r : Flagged) → handedOut (length (cond (eqb (r .error) 0) (bytesOf 4 (r .word)) (take 4 s))) ((roots s r) .stack) ≡ cond (eqb (r .error) 0) (bytesOf 4 (r .word)) (take 4 s)
+  roots-hand : (r : Flagged) → handedOut (length (cond (eqb (r .error) 0) (bytesOf 4 (r .word)) (take 4 s))) ((roots s r) .stack) ≡ cond (eqb (r .error) 0)
+      (bytesOf 4 (r .word)) (take 4 s)
   unfolding roots
   roots-hand r = go (eqb (r .error) 0)
     where
       go : (x : Bool)
-          → handedOut (length (cond x (bytesOf 4 (r .word)) (take 4 s))) ((cond {A = CommandOutcome} x (ends Double (converted s (r .word)) 0 false) (ends Double s (r .error) false)) .stack) ≡ cond x (bytesOf 4 (r .word)) (take 4 s)
+          → handedOut (length (cond x (bytesOf 4 (r .word)) (take 4 s)))
+          ((cond {A = CommandOutcome} x (ends Double (converted s (r .word)) 0 false) (ends Double s (r .error) false)) .stack) ≡ cond x
+          (bytesOf 4 (r .word)) (take 4 s)
       go true = pops-read 4 (r .word) (take 8 (drop 4 s) ++ zeros 4)
       go false = let e = S .sixteen in rw (length-take-le 4 s (omega arith)) (pops-hand 4 s (omega arith))
 
@@ -217,6 +222,7 @@ module _ (s : List ℕ) (S : IsStack s) where
       let l : sizeOf w ≤ length (drop (sizeOf w) s) = simp length-drop (omega arith) in
       let m : sizeOf w ≤ length (rotated (sizeOf w) s) = simp (length-append, length-drop, length-take) (omega arith) in
       rw (b-bytes w) (pops-hand (sizeOf w) (rotated (sizeOf w) s) m ∙ take-append-le (sizeOf w) (drop (sizeOf w) s) (take (sizeOf w) s) l)
-  outcome-hands rule (Xch w) = rw (b-bytes w) (on-top (sizeOf w) (take (sizeOf w) (drop (sizeOf w) s)) (take (sizeOf w) s ++ drop (sizeOf w + sizeOf w) s) (b-bytes w))
+  outcome-hands rule (Xch w) =
+      rw (b-bytes w) (on-top (sizeOf w) (take (sizeOf w) (drop (sizeOf w) s)) (take (sizeOf w) s ++ drop (sizeOf w + sizeOf w) s) (b-bytes w))
   outcome-hands rule Pupi = pops-read 4 (piOf rule) (take 12 s)
   outcome-hands rule Sqrt = roots-hand (sqrt rule (wordA Double s))

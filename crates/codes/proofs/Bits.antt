@@ -86,7 +86,8 @@ float-moves n l h = agree (λ (k : ℕ). decoded (fixedCode Double k)) decoded 0
 pub conversion-is : (low : ℕ) → low < 4 → cond (eqb (low / 2) 1) (Known (Fix (widthOf (low % 2)))) (Known (Flt (widthOf (low % 2)))) ≡ decoded (0x1c + low)
 unfolding decoded
 conversion-is low h =
-    agree (λ (k : ℕ). cond (eqb (k / 2) 1) (Known (Fix (widthOf (k % 2)))) (Known (Flt (widthOf (k % 2))))) (λ (k : ℕ). decoded (0x1c + k)) 0 4 refl low (omega arith) h
+    agree (λ (k : ℕ). cond (eqb (k / 2) 1) (Known (Fix (widthOf (k % 2)))) (Known (Flt (widthOf (k % 2))))) (λ (k : ℕ). decoded (0x1c + k)) 0 4 refl low
+    (omega arith) h
 
 -- ---- bits 6 and 5
 -- bit 6 without bit 5 is no format

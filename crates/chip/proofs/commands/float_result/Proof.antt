@@ -1,8 +1,8 @@
--- `chip::words::float_result` meets its contract: each operation is that of its name. Assumes nothing.
+-- `chip::commands::float_result` meets its contract: each operation is that of its name. Assumes nothing.
 use Rattle.chip.proofs.Rows.{float-of}
 use borrow.Author.Needs.{needs}
-use Rattle.chip.proofs.words.float_result.Statement.{statement}
-use Rattle.chip.proofs.words.float_result.Tie as tie
+use Rattle.chip.proofs.commands.float_result.Statement.{statement}
+use Rattle.chip.proofs.commands.float_result.Tie as tie
 
 returns : tie.Need-returns
 returns c = float-of _ _ _ (search needs) (c .before .before .before .pre .0) (c .before .enum-told .given .1) (c .fadd .ensures)

@@ -1,7 +1,7 @@
--- `chip::status::top_bit` meets its contract: at either width the bound is half of the number of words. Assumes nothing.
+-- `chip::commands::top_bit` meets its contract: at either width the bound is half of the number of words. Assumes nothing.
 use borrow.Author.Needs.{needs}
-use Rattle.chip.proofs.status.top_bit.Statement.{statement}
-use Rattle.chip.proofs.status.top_bit.Tie as tie
+use Rattle.chip.proofs.commands.top_bit.Statement.{statement}
+use Rattle.chip.proofs.commands.top_bit.Tie as tie
 
 returns : tie.Need-returns
 returns c = rw (c .enum-told .given .1)
