@@ -78,8 +78,13 @@ lies Double r s = pushes-lay 3 r s (lit≤ tt)
 
 -- its bytes pushed low first lie on top, the rest moves down, and pending is as it was
 pub word-pushed : (w : Width) (r : ℕ) (s : State) → s .status < 128
-    → afterPushes s (lowFirst (sizeOf w) r) ≡ record { stack = bytesOf (sizeOf w) r ++ take (16 - sizeOf w)
-    (s .stack); pending = s .pending; status = s .status; service = s .service }
+    → afterPushes s (lowFirst (sizeOf w) r) ≡ record {
+      stack = bytesOf (sizeOf w) r ++ take (16 - sizeOf w)
+          (s .stack);
+      pending = s .pending;
+      status = s .status;
+      service = s .service;
+    }
 word-pushed w r s h =
     pushes-state (lowFirst (sizeOf w) r) s h
     ∙ ap₂ (λ (l : List ℕ) (p : Bool). record { stack = l; pending = p; status = s .status; service = s .service }) (lies w r (s .stack))
@@ -89,8 +94,13 @@ word-pushed w r s h =
 pub word-popped : (w : Width) (r : ℕ) (s : State) → s .status < 128 → bytesPopped (sizeOf w) (afterPushes s (lowFirst (sizeOf w) r)) ≡ bytesOf (sizeOf w) r
 word-popped w r s h =
     ap (bytesPopped (sizeOf w)) (word-pushed w r s h)
-    ∙ pops-bytes (sizeOf w) (record { stack = bytesOf (sizeOf w) r ++ take (16 - sizeOf w)
-    (s .stack); pending = s .pending; status = s .status; service = s .service }) h
+    ∙ pops-bytes (sizeOf w) (record {
+      stack = bytesOf (sizeOf w) r ++ take (16 - sizeOf w)
+          (s .stack);
+      pending = s .pending;
+      status = s .status;
+      service = s .service;
+    }) h
     ∙ pops-read (sizeOf w) r (take (16 - sizeOf w) (s .stack))
 
 -- ---- after an accepted command the pops hand out R's bytes

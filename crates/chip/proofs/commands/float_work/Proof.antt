@@ -28,9 +28,11 @@ returns-2 c =
     (c .refused2 .ensures)
 
 float-result-requires : tie.Need-float-result-requires
-float-result-requires c κs =
-    (sym (c .before .before .before .is-proper .ensures) ∙ not-false _ (c .before .before .if1 .left), sym (c .before .is-proper2 .ensures)
-    ∙ not-false _ (c .if2 .left))
+float-result-requires c κs = (
+  sym (c .before .before .before .is-proper .ensures) ∙ not-false _ (c .before .before .if1 .left),
+  sym (c .before .is-proper2 .ensures)
+      ∙ not-false _ (c .if2 .left),
+)
 
 returns-3 : tie.Need-returns-3
 returns-3 c =
@@ -40,9 +42,11 @@ returns-3 c =
     done-by (a .rule) (Float (a .op)) (a .s) (c .settled .result)
     (both _ _ (sym (c .before .before .before .before .before .before .is-proper .ensures ∙ ap proper eb)
     ∙ not-false _ (c .before .before .before .before .before .if1 .left))
-    (sym (c .before .before .before .before .is-proper2 .ensures ∙ ap proper ea) ∙ not-false _ (c .before .before .before .if2 .left)))
-    (c .settled .ensures .0 ∙ float-row (a .rule) (a .op) (bytesIn (a .s)) eb ea (c .before .before .float-result .ensures .0)
-    (c .before .over-zero .ensures) refl, c .settled .ensures .1)
+    (sym (c .before .before .before .before .is-proper2 .ensures ∙ ap proper ea) ∙ not-false _ (c .before .before .before .if2 .left))) (
+      c .settled .ensures .0 ∙ float-row (a .rule) (a .op) (bytesIn (a .s)) eb ea (c .before .before .float-result .ensures .0)
+          (c .before .over-zero .ensures) refl,
+      c .settled .ensures .1,
+    )
 
 pub float-work-spec : {M : Type 1} → statement M
 float-work-spec =

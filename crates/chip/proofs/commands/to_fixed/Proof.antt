@@ -44,9 +44,11 @@ returns-3 c =
     let word = at-word .tos .ensures .0 in
     let e = at-test .before .is-proper .ensures ∙ ap proper word in
     let row = fixd-row (bytesIn (a .s)) word (c .before .before .fixd .ensures) (c .before .convert .ensures) refl in
-    done-by (a .rule) (Fix (a .width)) (a .s) (c .settled .result) (sym e ∙ not-false _ (at-test .if1 .left))
-    (c .settled .ensures .0 ∙ row ∙ ap (λ (x : Width). outcomeOf (a .rule) (Fix x) (bytesIn (a .s)))
-    (sym (at-told .enum-told2 .given .1)), c .settled .ensures .1)
+    done-by (a .rule) (Fix (a .width)) (a .s) (c .settled .result) (sym e ∙ not-false _ (at-test .if1 .left)) (
+      c .settled .ensures .0 ∙ row ∙ ap (λ (x : Width). outcomeOf (a .rule) (Fix x) (bytesIn (a .s)))
+          (sym (at-told .enum-told2 .given .1)),
+      c .settled .ensures .1,
+    )
 
 pub to-fixed-spec : {M : Type 1} → statement M
 to-fixed-spec =
