@@ -17,7 +17,6 @@ use Rattle.codes.specs.Codes.{decoded}
 use Rattle.chip.specs.Status.{statusOf}
 use Rattle.chip.specs.Commands.{floats}
 use Rattle.chip.specs.State.{Answer}
-use Rattle.chip.specs.Event.{Event as ChipEvent}
 use Rattle.chip.specs.Event.{Push, Pop, Command, Status, Reset, Acknowledge}
 use Rattle.chip.specs.Step.{pushOf, carried, commandUnder}
 use Rattle.record_files.proofs.Append.{nothing}
@@ -41,11 +40,11 @@ use Rattle.promises.specs.Given.{Given, Chosen, settingsIn, runCall}
 use Rattle.promises.specs.RecordFiles.{IsRecord, push, pop, command, status, reset, acknowledge, recall, forget}
 use Rattle.promises.specs.Records.{joined, EachTaken, repliesOf, inTurn}
 use Rattle.promises.specs.Chains.{Step, Add, Subtract, Multiply, Divide, TakeFrom, Change, Constants, chainOf, runEvents}
-use Rattle.promises.specs.Cores.{Core, Meets, driven, returned, answersOf, allZero, onBus, busRun, wordLeft}
+use Rattle.promises.specs.Cores.{Core, Meets, driven, answersOf, allZero, onBus, busRun, wordLeft}
 use Rattle.promises.specs.ErrorMemory.{recordEvents, eventsIn}
 use Rattle.promises.specs.ChainFiles.{Carries, allAnswered, wordAtEnd, Demand3Records, ChainMet}
 use Rattle.promises.proofs.Measures.{ours-state, theirs-state}
-use Rattle.formula.proofs.Digits.{both}
+use Rattle.chip.proofs.Rows.{both-of}
 use Rattle.promises.proofs.Records.{in-turn, record-run}
 use Rattle.promises.proofs.Cores.{cores, sent, bus-told}
 use Rattle.promises.proofs.ErrorMemory.{records-are-events}
@@ -80,7 +79,7 @@ chain-silent sr (Change ∷ ks) = chain-silent _ ks
 -- the first of some answers is 0, and so are the others
 first-zero : (refusal byte : ℕ) (rest : Bool) → (eqb (256 * refusal + byte) 0 && rest) ≡ true → (refusal ≡ 0) × (rest ≡ true)
 first-zero refusal byte rest h =
-    let t = both (eqb (256 * refusal + byte) 0) rest h in
+    let t = both-of (eqb (256 * refusal + byte) 0) rest h in
     let z : 256 * refusal + byte ≡ 0 = eqb-true (256 * refusal + byte) 0 (t .0) in
     (omega arith, t .1)
 
