@@ -3,3 +3,4 @@ pub mod Parting
 pub mod Naming
 pub mod Valuing
 pub mod Taking
+pub mod ReadBack

@@ -3,3 +3,4 @@ pub mod Words
 pub mod Named
 pub mod Values
 pub mod Line
+pub mod Meaning
