@@ -21,8 +21,11 @@ make_module() {
 
 # keep_module VERB NAME: `rt VERB NAME` with the kit given by links, but for its clang. In clang's place stands a script
 # that keeps a copy of the module and then is clang. (The toolchain runs it in a folder of its own, with no environment.)
+# As root rt tries a program as nobody, who has to reach that kit.
 keep_module() {
     linked=$work/kit on=on/$(uname -m)
+    umask 022
+    chmod 711 "$work" || return 1
     rm -rf "$linked"
     mkdir -p "$linked/$on/toolchain/bin" "$top/target/module" || return 1
     for part in "$kit"/* "$kit/$on"/* "$kit/$on/toolchain"/* "$tools"/*; do

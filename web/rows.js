@@ -95,7 +95,7 @@ const sheetTable = async (r, nearest, wanted) => {
     rows.push(() => make('tr', { className: 'bad' }, cell(''), open, make('td', { colSpan: 4 }, why)));
   }
   await table($('sheets'), '', ['sheet', 'serial', 'slot 0', 'slot 1', 'slot 2', 'slot 3'], rows, wanted);
-  $('sheets').append(figureTable(figures));
+  if (wanted()) $('sheets').append(figureTable(figures));
 };
 
 const figureTable = figures => {

@@ -14,11 +14,12 @@ const head = names => make('thead', {}, make('tr', {}, ...names.map(name => make
 // A table, or several of `part` rows each, of which the browser lays out those in sight, so that a long file does not
 // hold it up. `wanted` says whether the rows still are.
 const table = async (to, className, names, rows, wanted, part = rows.length) => {
-  to.replaceChildren();
+  const parts = make('div');
+  if (wanted()) to.replaceChildren(parts);
   for (let at = 0; at < rows.length && wanted(); at += part) {
-    if (at % (4 * part) === 0 && at) await new Promise(next => setTimeout(next));
     const body = make('tbody', {}, ...rows.slice(at, at + part).map(row => row()));
-    to.append(make('div', { className: 'part' }, make('table', { className }, head(names), body)));
+    parts.append(make('div', { className: 'part' }, make('table', { className }, head(names), body)));
+    if (at % (4 * part) === 3 * part) await new Promise(next => setTimeout(next));
   }
 };
 

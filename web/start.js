@@ -39,8 +39,8 @@ const listen = () => {
     else takeText('pasted text', $('text').value);
   });
   $('example').addEventListener('change', event => takeExample(event.target.value));
-  $('code').addEventListener('change', () => Promise.all(operands.map(o => o.changed())).then(run));
-  $('rule').addEventListener('change', () => Promise.all([...letters, ...operands].map(l => l.fromWord())).then(run));
+  $('code').addEventListener('change', () => Promise.all(operands.map(o => o.rekind())).then(run));
+  $('rule').addEventListener('change', () => Promise.all([...letters, ...operands].map(l => l.renew())).then(run));
   for (const id of ['part', 'reading', 'exact']) $(id).addEventListener('change', run);
   for (const id of ['formula', 'numbers']) $(id).addEventListener('input', run);
   for (const type of ['dragenter', 'dragover', 'dragleave', 'drop']) {
@@ -75,7 +75,7 @@ const start = async () => {
   for (const { name } of EXAMPLES) $('example').append(make('option', { value: name }, name));
   $('letters').append(...letters.map(l => l.element));
   $('operands').append(...operands.map(o => o.element));
-  await Promise.all([...letters, ...operands].map(l => l.fromWord()));
+  await Promise.all([...letters, ...operands].map(l => l.renew()));
   listen();
   for (const tab of document.querySelectorAll('[role=tab]')) tab.disabled = false;
   $('inputs').hidden = false;

@@ -41,24 +41,28 @@ const pair = (name, kind, word) => {
   hex.setAttribute('aria-label', `${name}, word in hex digits`);
   decimal.setAttribute('aria-label', `${name}, decimal`);
   const good = () => new RegExp(`^[0-9A-Fa-f]{${digits()}}$`).test(hex.value.trim());
+  // the last change counts: what was found for an earlier one is dropped
+  let last = 0, written = hex;
   const fromWord = async () => {
+    const mine = ++last, text = good() ? await decimalOf(hex.value.trim(), kind()) : '';
+    if (mine !== last) return;
     why.textContent = hex.value.trim() && !good() ? `a word has ${digits()} hex digits` : '';
-    decimal.value = good() ? await decimalOf(hex.value.trim(), kind()) : '';
+    decimal.value = text;
   };
   const fromDecimal = async () => {
-    const text = decimal.value.trim().replace('≈', ''), got = text ? await wordOf(text, kind()) : { word: '' };
+    const mine = ++last, text = decimal.value.trim().replace('≈', ''), got = text ? await wordOf(text, kind()) : {};
+    if (mine !== last) return;
     hex.value = got.word || '';
     why.textContent = got.why || '';
   };
-  hex.addEventListener('input', () => fromWord().then(run));
-  decimal.addEventListener('input', () => fromDecimal().then(run));
+  const renew = () => written === hex ? fromWord() : fromDecimal();
+  for (const field of [hex, decimal]) field.addEventListener('input', () => { written = field; renew().then(run); });
   return {
     element: make('span', { className: 'pair' }, make('b', { className: 'mono' }, name), hex, decimal, why),
     word: () => good() ? hex.value.trim().toUpperCase() : '',
-    wrong: () => !good() && (hex.value.trim() !== '' || decimal.value.trim() !== ''),
-    fromWord,
+    renew,
     // where the kind of words changed, the decimal stays and its word is found anew
-    changed: async () => { if (decimal.value) await fromDecimal(); },
+    rekind: () => decimal.value ? fromDecimal() : fromWord(),
   };
 };
 const STEP_KIND = { 6: 's', 7: 's', 2: 'd', 3: 'd', 1: 'f' };
@@ -92,6 +96,7 @@ const runFile = async wanted => {
     return null;
   }
   try {
+    if (source.form === 'hex' && source.raw.length > HEX_TEXT_MOST) throw Error('over 4 MB: too long for a hex text');
     input = source.form === 'hex' ? texts.hexBytes(source.raw) : source.raw.subarray(0, texts.MOST);
   } catch (error) {
     sentence(`${source.name}, ${error.message}.`, true);
@@ -105,6 +110,7 @@ const shown = async (input, by, name, says, wanted) => {
   const { nearest } = settings(), r = await runs.listing(by, input, settings());
   if (!wanted()) return null;
   const told = await says(r);
+  if (!wanted()) return null;
   if (r.agree) sentence(told, r.refusal !== 0 || !r.rows.length || r.rows.some(row => row.refusal));
   else sentence('The states below are not those of the listing. Do not use this page, and tell its makers.', true);
   if (by === 'sheets') await sheetTable(r, nearest, wanted);
@@ -161,9 +167,10 @@ const runSteps = async wanted => {
   const said = await runs.steps([code, ...words, ...(settings().nearest ? ['--nearest'] : [])]);
   const lines = said.trim().split('\n'), answer = /^word (\w+) error \d status (\w\w)$/.exec(lines[lines.length - 1]);
   if (!answer && said !== 'refused 4\n') throw Error('what the program wrote is not whole');
+  const value = answer ? await decimalOf(answer[1], stepKind()) : '';
+  if (!wanted()) return null;
   if (answer) {
     const bits = texts.said(parseInt(answer[2], 16)), steps = plural(lines.length - 1, 'step');
-    const value = await decimalOf(answer[1], stepKind());
     sentence(`${name}: ${answer[1]}, that is ${value}, in ${steps}${bits ? `; status: ${bits}` : ''}.`);
   } else sentence(`${name}: refused 4: ${WHY[4]}.`, true);
   await stepTable(lines.slice(0, -1), /^(6F|2F|13)$/.test(code), wanted);
@@ -242,16 +249,11 @@ const take = (name, raw, form) => {
 };
 const takeFile = async (file, form) => {
   if (!file) return;
-  const as = form || (/\.hex$/i.test(file.name) ? 'hex' : 'bytes');
-  if (as === 'hex' && file.size > HEX_TEXT_MOST) {
-    source = null;
-    await run();
-    sentence(`${file.name}: over 4 MB, too long for the hex text of a run.`, true);
-    return;
-  }
-  const raw = new Uint8Array(await file.slice(0, as === 'hex' ? HEX_TEXT_MOST : texts.MOST).arrayBuffer());
-  $('text').value = as === 'hex' ? new TextDecoder().decode(raw) : texts.hexes(raw);
   chosen = file;
+  const as = form || (/\.hex$/i.test(file.name) ? 'hex' : 'bytes'), most = as === 'hex' ? HEX_TEXT_MOST : texts.MOST;
+  const raw = new Uint8Array(await file.slice(0, most + 1).arrayBuffer());
+  if (chosen !== file) return;
+  $('text').value = as === 'hex' ? new TextDecoder().decode(raw) : texts.hexes(raw);
   if (job !== 'sheets') show('list', 'later');
   await take(file.name, raw, as);
 };

@@ -296,6 +296,29 @@ const sizes = async () => {
   await tell('Emulation.setEmulatedVisionDeficiency', { type: 'none' });
 };
 
+// many changes at once: what stands there in the end is of the last one
+const hurried = async () => {
+  const typed = "e.value = v; e.dispatchEvent(new Event('input'));";
+  const type = (id, values) => js(`for (const v of ${quoted(values)}) { const e = ${element(id)}; ${typed} }`);
+  const look = 'if (document.body.dataset.done && seen === turn) done(0); else { seen = turn; setTimeout(look, 150); }';
+  const settled = () => js(`new Promise(done => { let seen = -1; const look = () => { ${look} }; look(); })`);
+  await tab('formula');
+  await set('word-a', '01800000');
+  await type('formula', Array.from({ length: 40 }, (_, i) => `a${'+a'.repeat(40 - i)}`));
+  await type('decimal-a', ['2.', '2.5', '0.1', '7.', '7.5', '1.25']);
+  await settled();
+  has('the last formula and letter', await text('sentence'), '✓ Formula: 02A00000, that is 2.5; its file has 3 records');
+  is('the rows of it', await js("String(document.querySelectorAll('#rows tbody tr').length)"), '4');
+  const bytes = quoted(Array.from({ length: 3000 }, () => record(4, [])).flat());
+  const eight = `for (let i = 0; i < 8; i++) take('many.bin', Uint8Array.from(${bytes}), 'bytes');`;
+  await js(`show('list', 'later'); ${eight} ${element('tab-steps')}.click()`);
+  await type('decimal-B', ['-7', '6', '5']);
+  await settled();
+  has('the last steps', await text('sentence'), '✓ SDIV: 0002, that is 2');
+  is('their text', await text('said'), latin(native(top, 'steps', '', ['6F', '0005', '0002'])));
+  is('their rows', await js("String(document.querySelectorAll('#rows tbody tr').length)"), '16');
+};
+
 // the longest files: how long the page's own thread works, whatever else the machine does
 const longest = async () => {
   await tell('Performance.enable', { timeDomain: 'threadTicks' });
@@ -365,8 +388,8 @@ await browser.size(1366, 768);
 await opened(page);
 await picture('opened');
 has('tried on opening', await text('tried'), `${EXAMPLES.length} examples and 5 programs, none differs`);
-const parts = [files, pasted, settings, refusals, downloads, printed, formulas, steps, words, keys, sizes, longest,
-  closed, wrong];
+const parts = [files, pasted, settings, refusals, downloads, printed, formulas, steps, words, keys, sizes, hurried,
+  longest, closed, wrong];
 for (const part of parts) {
   const before = count.compared;
   await part();
