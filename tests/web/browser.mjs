@@ -307,7 +307,7 @@ const hurried = async () => {
   await type('formula', Array.from({ length: 40 }, (_, i) => `a${'+a'.repeat(40 - i)}`));
   await type('decimal-a', ['2.', '2.5', '0.1', '7.', '7.5', '1.25']);
   await settled();
-  has('the last formula and letter', await text('sentence'), '✓ Formula: 02A00000, that is 2.5; its file has 3 records');
+  has('the last formula', await text('sentence'), '✓ Formula: 02A00000, that is 2.5; its file has 3 records');
   is('the rows of it', await js("String(document.querySelectorAll('#rows tbody tr').length)"), '4');
   const bytes = quoted(Array.from({ length: 3000 }, () => record(4, [])).flat());
   const eight = `for (let i = 0; i < 8; i++) take('many.bin', Uint8Array.from(${bytes}), 'bytes');`;
