@@ -6,7 +6,7 @@ use mathlib.Core.List.{List, _++_}
 use Prim.Native.Nat.{ℕ, _≤_, _<_}
 use native.Mathlib.Omega.{arith}
 use lib.Dec.{eqb}
-use lib.ListN.{length, take}
+use lib.ListN.{length, take, drop, length-append, length-drop}
 use lib.Seq.{length-take-le}
 use borrow.Author.Tests.{lt-ltb, le-ltb, lt-leb, le-leb, leb-true, eq-eqb, ne-eqb, eqb-true}
 use Rattle.terms.specs.declared.Refusal.{Refusal}
@@ -23,7 +23,7 @@ use Rattle.error_memory.specs.declared.Memory.{Memory}
 use Rattle.error_memory.specs.Event.{Event, Recall, Forget}
 use Rattle.error_memory.specs.Memory.{emptyMemory, Card, CardAnswer, cardWith, around, eventIn}
 use Rattle.error_memory.proofs.Good.{recalled, forgotten}
-use Rattle.record_files.specs.Run.{Runs}
+use Rattle.record_files.specs.Run.{Runs, Outcome as Ended}
 use Rattle.record_runs.specs.Record.{kindNamed}
 use Rattle.record_runs.specs.Run.{Outcome, runOf}
 use Rattle.state_bytes.specs.Bytes.{Sized, isState, stateOf, memoryIn, cardIn, memoryBytesOf, withMemory, laid, laidOut, doorOf, reportOf}
@@ -80,6 +80,13 @@ pub laid-sized : (l : List ℕ) (s : State) (m : Memory) {y : List ℕ} → Size
 laid-sized l s m {y} h n e = sized-as l y (ap length e ∙ laid-length (cardWith (given Am9511A Cut) s m) n (length l) h) h
 
 -- ---- the run
+-- the replies have as many bytes after a run as before it
+pub same-room : {S : Type 0} {o : Ended S} {refusal : ℕ} {s : S} {taken written : ℕ} {file room left : List ℕ}
+    → Runs o refusal s taken written file room left → length left ≡ length room
+same-room {o = o} {room = room} r =
+    ap length (r .left-is) ∙ length-append (o .written) (drop (length (o .written)) room)
+    ∙ omega (arith, length-drop (length (o .written)) room, r .written-is, r .fits)
+
 -- a run of the code, with its state and report laid out
 pub called : (size : ℕ) (o : Outcome) (refusal : ℕ) (c : Card) (taken written : ℕ) (input replies left state report : List ℕ)
     → Runs o refusal c taken written input replies left → state ≡ laidOut size c → report ≡ reportOf refusal taken written

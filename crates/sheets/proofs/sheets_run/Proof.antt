@@ -58,7 +58,7 @@ run-good-requires : tie.Need-run-good-requires
 run-good-requires c κs =
     let k = c .before .before .before .before .before .before .before .before .before .before .before in
     let a = k .before .before .before .before .before .before .before .before .before .args in
-    (goes-in k (c .before .before .before .before .before .before .before .before .before .before .if2 .left) .state-is, is-long (now (a .sheets)) (sym (c .before .before .before .before .before .before .before .before .is-sheets .ensures) ∙ not-false _ (c .before .before .before .before .before .before .before .if3 .left)), k .before .before .before .if1 .left)
+    (goes-in k (c .before .before .before .before .before .before .before .before .before .before .if2 .left) .state-is, is-long (now (a .sheets)) (sym (c .before .before .before .before .before .before .before .before .is-sheets .ensures) ∙ not-false _ (c .before .before .before .before .before .before .before .if3 .left)), k .before .before .before .if1 .left, c .before .before .before .before .before .before .if4 .left)
 
 returns-5 : tie.Need-returns-5
 returns-5 c =

@@ -44,7 +44,9 @@ returns-3 c =
     (turned-away InputTooLong _ (now (a .state)) (now (a .replies)) _ (t .0 ∙ n) (t .1 ∙ ap (λ (x : ℕ). reportOf x 0 0) n))
 
 run-good-requires : tie.Need-run-good-requires
-run-good-requires c κs = let k = c .before .before .before .before .before .before .before .before in (goes-in k (c .before .before .before .before .before .before .before .if2 .left) .state-is, k .before .before .before .if1 .left)
+run-good-requires c κs =
+    let k = c .before .before .before .before .before .before .before .before in
+    (goes-in k (c .before .before .before .before .before .before .before .if2 .left) .state-is, k .before .before .before .if1 .left, c .before .before .before .before .before .before .if3 .left)
 
 returns-4 : tie.Need-returns-4
 returns-4 c =
@@ -58,7 +60,9 @@ returns-4 c =
     ) (c .before .before .before .before .before .before .run-good .ensures)
 
 run-good-requires-2 : tie.Need-run-good-requires-2
-run-good-requires-2 c κs = let k = c .before .before .before .before .before .before .before .before in (goes-in k (c .before .before .before .before .before .before .before .if2 .left) .state-is, k .before .before .before .if1 .left)
+run-good-requires-2 c κs =
+    let k = c .before .before .before .before .before .before .before .before in
+    (goes-in k (c .before .before .before .before .before .before .before .if2 .left) .state-is, k .before .before .before .if1 .left, c .before .before .before .before .before .before .if3 .left)
 
 returns-5 : tie.Need-returns-5
 returns-5 c =
