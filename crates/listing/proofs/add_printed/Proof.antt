@@ -34,7 +34,10 @@ returns c =
     let w = c .before .before .before .wide in
     let l = c .before .before .add-listing in
     let k : length (now (a .replies)) ≡ 65536 = search needs in
-    let e = as-printed (now (a .replies)) (now (a .report)) (n .result) (written .result) (w .result) (taken .result) k (n .ensures .0) (written .ensures) (w .ensures) (taken .ensures) in
+    let replies = now (a .replies) in
+    let report = now (a .report) in
+    let e = as-printed replies report (n .result) (written .result) (w .result) (taken .result)
+    k (n .ensures .0) (written .ensures) (w .ensures) (taken .ensures) in
     (rw e at (l .ensures .0), omega (arith, l .ensures .1, length-take (n .result) (now (a .replies))))
 
 pub add-printed-spec : {M : Type 1} → statement M

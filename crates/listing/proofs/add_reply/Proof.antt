@@ -25,7 +25,8 @@ returns c =
     let a = s .args in
     let w = c .before .before .before .before .before .before .before .word-at in
     let k = c .before .before .before .before .before .before .own-kind in
-    rw (as-line (a .number) (now (a .rest)) (a .size) (k .result) (w .result) (s .pre .0 .is-size) (k .ensures) (w .ensures .0)) at (c .before .before .add-line .ensures)
+    let e = as-line (a .number) (now (a .rest)) (a .size) (k .result) (w .result) (s .pre .0 .is-size) (k .ensures) (w .ensures .0) in
+    rw e at (c .before .before .add-line .ensures)
 
 pub add-reply-spec : {M : Type 1} → statement M
 add-reply-spec =

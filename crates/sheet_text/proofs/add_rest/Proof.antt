@@ -11,19 +11,22 @@ add-sheets-requires : tie.Need-add-sheets-requires
 add-sheets-requires c κs = let s = c .before .before .before in (search needs, s .pre .0, omega (arith, s .pre .1))
 
 add-open-requires : tie.Need-add-open-requires
-add-open-requires c κs = (search needs, omega (arith, c .before .before .before .before .add-sheets .ensures .1, c .before .before .before .before .before .before .before .before .pre .1))
+add-open-requires c κs =
+    let closed = c .before .before .before .before in
+    (search needs, omega (arith, closed .add-sheets .ensures .1, closed .before .before .before .before .pre .1))
 
 add-figures-requires : tie.Need-add-figures-requires
 add-figures-requires c κs =
     let opened = c .before .before .before .before .before .before .before .before in
-    let closed = c .before .before .before .before .before .before .before .before .before .before .before .before .before in
-    (search needs, omega (arith, opened .add-open .ensures .1, closed .add-sheets .ensures .1, c .before .before .before .before .before .before .before .before .before .before .before .before .before .before .before .before .before .pre .1))
+    let closed = opened .before .before .before .before .before in
+    (search needs, omega (arith, opened .add-open .ensures .1, closed .add-sheets .ensures .1, closed .before .before .before .before .pre .1))
 
 returns : tie.Need-returns
 returns c =
-    let opened = c .before .before .before .before .before .before .before .before .before .before .before in
-    let closed = c .before .before .before .before .before .before .before .before .before .before .before .before .before .before .before .before in
-    rest-of (now (c .before .before .before .before .before .before .before .before .before .before .before .before .before .before .before .before .before .before .before .before .args .sheets)) (c .before .before .before .before .before .before .sheets-figures .ensures .out-is)
+    let told = c .before .before .before .before .before .before in
+    let opened = told .before .before .before .before .before in
+    let closed = opened .before .before .before .before .before in
+    rest-of (now (closed .before .before .before .before .args .sheets)) (told .sheets-figures .ensures .out-is)
     (both (closed .add-sheets .ensures .0) (both (opened .add-open .ensures .0) (c .before .before .add-figures .ensures)))
 
 pub add-rest-spec : {M : Type 1} → statement M

@@ -10,20 +10,29 @@ use Rattle.sheet_text.proofs.add_word.Tie as tie
 
 -- a byte has two digits
 digit-requires : tie.Need-digit-requires
-digit-requires c κs = omega (arith, c .shared-slice-known5 .given (c .before .before .before .before .before .before .args .at + 3))
+digit-requires c κs =
+    let read = c in
+    omega (arith, read .shared-slice-known5 .given (read .before .before .before .before .before .before .args .at + 3))
 
 digit-requires-3 : tie.Need-digit-requires-3
-digit-requires-3 c κs = omega (arith, c .before .before .shared-slice-known5 .given (c .before .before .before .before .before .before .before .before .args .at + 2))
+digit-requires-3 c κs =
+    let read = c .before .before in
+    omega (arith, read .shared-slice-known5 .given (read .before .before .before .before .before .before .args .at + 2))
 
 digit-requires-5 : tie.Need-digit-requires-5
-digit-requires-5 c κs = omega (arith, c .before .before .before .before .shared-slice-known5 .given (c .before .before .before .before .before .before .before .before .before .before .args .at + 1))
+digit-requires-5 c κs =
+    let read = c .before .before .before .before in
+    omega (arith, read .shared-slice-known5 .given (read .before .before .before .before .before .before .args .at + 1))
 
 digit-requires-7 : tie.Need-digit-requires-7
-digit-requires-7 c κs = omega (arith, c .before .before .before .before .before .before .shared-slice-known5 .given (c .before .before .before .before .before .before .before .before .before .before .before .before .args .at))
+digit-requires-7 c κs =
+    let read = c .before .before .before .before .before .before in
+    omega (arith, read .shared-slice-known5 .given (read .before .before .before .before .before .before .args .at))
 
 returns : tie.Need-returns
 returns c =
-    let a = c .before .before .before .before .before .before .before .before .before .before .before .before .before .before .before .before .before .before .before .args in
+    let read = c .before .before .before .before .before .before .before .before .before .before .before .before .before in
+    let a = read .before .before .before .before .before .before .args in
     let l = now (a .bytes) in
     spelled-out (getD l (a .at) 0) (getD l (a .at + 1) 0) (getD l (a .at + 2) 0) (getD l (a .at + 3) 0)
     (c .before .before .before .before .before .before .before .before .before .before .before .before .digit .ensures)

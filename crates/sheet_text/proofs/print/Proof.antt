@@ -17,7 +17,8 @@ add-rest-requires : tie.Need-add-rest-requires
 add-rest-requires c κs =
     let a = c .before .before .before .before .before .before .before .before .before .before .before .before .before .before .before .before .args in
     let r = c .before .before .before .before .before .before .before .before .before .before .sheets-run .ensures in
-    (subst (λ (l : List ℕ). closedIn l ≤ 64) (sym (r .sheets-is)) (call-fair (a .mode) (a .rule) (now (a .input)) .1), omega (arith, c .before .before .add-printed .ensures .1))
+    let few = call-fair (a .mode) (a .rule) (now (a .input)) .1 in
+    (subst (λ (l : List ℕ). closedIn l ≤ 64) (sym (r .sheets-is)) few, omega (arith, c .before .before .add-printed .ensures .1))
 
 returns : tie.Need-returns
 returns c =
