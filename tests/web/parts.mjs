@@ -4,10 +4,16 @@ import { spawnSync } from 'node:child_process';
 import { join } from 'node:path';
 import vm from 'node:vm';
 
+// Modules are compiled at once here: beside the main thread Node was seen to wait for ever on a busy machine.
+const atOnce = {
+  compile: async bytes => new WebAssembly.Module(bytes),
+  instantiate: async (module, imports) => new WebAssembly.Instance(module, imports),
+};
+
 // The page's scripts without a screen, as they stand in the file, run here.
 export const machine = async (path, change = data => data) => {
   const html = readFileSync(path, 'utf8'), part = id => new RegExp(`<script id="${id}">([^]*?)</script>`).exec(html)[1];
-  const world = vm.createContext({ WebAssembly, atob, TextEncoder });
+  const world = vm.createContext({ WebAssembly: atOnce, atob, TextEncoder });
   const names = 'programs, texts, runs, sha256, FormulaReader, MODULES, EXAMPLES, TRIALS, WHY, CODES';
   vm.runInContext(`${change(part('data'))}\n${part('machine')}\nglobalThis.parts = { ${names} };`, world);
   await world.parts.programs.load();
