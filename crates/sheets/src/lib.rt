@@ -62,6 +62,7 @@ fn run_good(
 }
 
 // A file of records run on a state and on sheets. Returns the refusal; 14, then 16, 17, 13, 9 before any record.
+// A call for each length of a state: the run stays a function of its own, as the core's does.
 #[no_mangle]
 pub extern "C" fn sheets_run(
     mode: u32,
@@ -89,15 +90,12 @@ pub extern "C" fn sheets_run(
     if terms::MOST_INPUT < input.len() {
         return turn_away(report, number(Refusal::InputTooLong));
     }
-    run_good(
-        mode_of(mode),
-        rule_of(rule),
-        state,
-        sheets,
-        input,
-        replies,
-        report,
-    )
+    let part = mode_of(mode);
+    let way = rule_of(rule);
+    if state.len() == terms::STATE_BYTES {
+        return run_good(part, way, state, sheets, input, replies, report);
+    }
+    run_good(part, way, state, sheets, input, replies, report)
 }
 
 // The shift's figures of a `sheets` slice, 53 bytes: lines, different serials, serials on more than one line, slot 0

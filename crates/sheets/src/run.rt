@@ -50,14 +50,15 @@ pub fn run_lines(
             },
             memory,
         };
-        place = t.place;
-        if t.refusal != 0 {
+        let refusal = t.refusal;
+        if refusal != 0 {
             return Pass {
                 card,
-                refusal: t.refusal,
+                refusal,
                 place,
             };
         }
+        place = t.place;
     }
     Pass {
         card,

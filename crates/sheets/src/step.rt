@@ -36,7 +36,7 @@ fn is_own(rest: &[u8], place: Place) -> bool
     requires { ⌜ Begins place (length (now rest)) ⌝ }
     ensures { λ r. ⌜ r ≡ isOwn (now (rest .entry)) ⌝ }
 {
-    if rest.len() < 4 {
+    if place.size < place.taken + 4 {
         return false;
     }
     let kind = word(rest[2], rest[3]);
@@ -63,7 +63,7 @@ fn pass_own(card: Card, sheets: &mut [u8], rest: &[u8], room: &mut [u8], place: 
     if word(rest[0], rest[1]) as usize != 2 + wanted {
         return stop(Refusal::BadLength, card, place);
     }
-    if room.len() < 5 {
+    if place.most < place.written + 5 {
         return stop(Refusal::NoRoom, card, place);
     }
     let end = 4 + wanted;
@@ -94,9 +94,6 @@ fn pass_core(
     let t = pass_record(card, mode, rule, rest, room, place);
     let refusal = t.refusal;
     if refusal != 0 {
-        return t;
-    }
-    if rest.len() < 4 {
         return t;
     }
     if word(rest[2], rest[3]) != 5 {

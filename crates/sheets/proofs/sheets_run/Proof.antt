@@ -56,20 +56,37 @@ returns-4 c =
 
 run-good-requires : tie.Need-run-good-requires
 run-good-requires c κs =
-    let k = c .before .before .before .before .before .before .before .before .before .before .before in
+    let k = c .before .before .before .before .before .before .before .before .before .before .before .before in
     let a = k .before .before .before .before .before .before .before .before .before .args in
-    (goes-in k (c .before .before .before .before .before .before .before .before .before .before .if2 .left) .state-is, is-long (now (a .sheets)) (sym (c .before .before .before .before .before .before .before .before .is-sheets .ensures) ∙ not-false _ (c .before .before .before .before .before .before .before .if3 .left)), k .before .before .before .if1 .left, c .before .before .before .before .before .before .if4 .left)
+    (goes-in k (c .before .before .before .before .before .before .before .before .before .before .before .if2 .left) .state-is, is-long (now (a .sheets)) (sym (c .before .before .before .before .before .before .before .before .before .is-sheets .ensures) ∙ not-false _ (c .before .before .before .before .before .before .before .before .if3 .left)), k .before .before .before .if1 .left, c .before .before .before .before .before .before .before .if4 .left)
 
 returns-5 : tie.Need-returns-5
 returns-5 c =
-    let k = c .before .before .before .before .before .before .before .before .before .before .before .before .before .before .before .before .before .before .before .before in
+    let k = c .before .before .before .before .before .before .before .before .before .before .before .before .before .before .before .before .before .before .before .before .before in
     let a = k .before .before .before .before .before .before .before .before .before .args in
-    let g = goes-in k (c .before .before .before .before .before .before .before .before .before .before .before .before .before .before .before .before .before .before .before .if2 .left) in
+    let g = goes-in k (c .before .before .before .before .before .before .before .before .before .before .before .before .before .before .before .before .before .before .before .before .if2 .left) in
     rw (
-      good (a .mode) (a .rule) (now (a .state)) (now (a .sheets)) (now (a .input)) (now (a .replies)) (now (a .report)) (k .before .before .before .if1 .left) (g .mode-is) (g .rule-is) (g .state-is) (sym (c .before .before .before .before .before .before .before .before .before .before .before .before .before .before .before .before .before .is-sheets .ensures) ∙ not-false _ (c .before .before .before .before .before .before .before .before .before .before .before .before .before .before .before .before .if3 .left)) (c .before .before .before .before .before .before .before .before .before .before .before .before .before .before .before .if4 .left),
-      ← c .before .before .before .before .before .before .before .before .before .before .before .before .before .before .mode-of .ensures,
-      ← c .before .before .before .before .before .before .before .before .before .before .before .before .before .rule-of .ensures,
+      good (a .mode) (a .rule) (now (a .state)) (now (a .sheets)) (now (a .input)) (now (a .replies)) (now (a .report)) (k .before .before .before .if1 .left) (g .mode-is) (g .rule-is) (g .state-is) (sym (c .before .before .before .before .before .before .before .before .before .before .before .before .before .before .before .before .before .before .is-sheets .ensures) ∙ not-false _ (c .before .before .before .before .before .before .before .before .before .before .before .before .before .before .before .before .before .if3 .left)) (c .before .before .before .before .before .before .before .before .before .before .before .before .before .before .before .before .if4 .left),
+      ← c .before .before .before .before .before .before .before .before .before .before .before .before .before .before .before .mode-of .ensures,
+      ← c .before .before .before .before .before .before .before .before .before .before .before .before .before .before .rule-of .ensures,
     ) (c .before .before .before .before .before .before .before .before .run-good .ensures)
+
+run-good-requires-2 : tie.Need-run-good-requires-2
+run-good-requires-2 c κs =
+    let k = c .before .before .before .before .before .before .before .before .before .before .before .before in
+    let a = k .before .before .before .before .before .before .before .before .before .args in
+    (goes-in k (c .before .before .before .before .before .before .before .before .before .before .before .if2 .left) .state-is, is-long (now (a .sheets)) (sym (c .before .before .before .before .before .before .before .before .before .is-sheets .ensures) ∙ not-false _ (c .before .before .before .before .before .before .before .before .if3 .left)), k .before .before .before .if1 .left, c .before .before .before .before .before .before .before .if4 .left)
+
+returns-6 : tie.Need-returns-6
+returns-6 c =
+    let k = c .before .before .before .before .before .before .before .before .before .before .before .before .before .before .before .before .before .before .before .before .before in
+    let a = k .before .before .before .before .before .before .before .before .before .args in
+    let g = goes-in k (c .before .before .before .before .before .before .before .before .before .before .before .before .before .before .before .before .before .before .before .before .if2 .left) in
+    rw (
+      good (a .mode) (a .rule) (now (a .state)) (now (a .sheets)) (now (a .input)) (now (a .replies)) (now (a .report)) (k .before .before .before .if1 .left) (g .mode-is) (g .rule-is) (g .state-is) (sym (c .before .before .before .before .before .before .before .before .before .before .before .before .before .before .before .before .before .before .is-sheets .ensures) ∙ not-false _ (c .before .before .before .before .before .before .before .before .before .before .before .before .before .before .before .before .before .if3 .left)) (c .before .before .before .before .before .before .before .before .before .before .before .before .before .before .before .before .if4 .left),
+      ← c .before .before .before .before .before .before .before .before .before .before .before .before .before .before .before .mode-of .ensures,
+      ← c .before .before .before .before .before .before .before .before .before .before .before .before .before .before .rule-of .ensures,
+    ) (c .before .before .before .before .before .before .before .before .run-good2 .ensures)
 
 pub sheets-run-spec : {M : Type 1} → statement M
 sheets-run-spec =
@@ -78,4 +95,5 @@ sheets-run-spec =
     (λ c. search needs) (λ c. search needs) returns-2 (λ c κs. search needs) (λ c κs. search needs) (λ c κs. search needs) (λ c. search needs)
     (λ c. search needs) (λ c. search needs) returns-3 (λ c κs. search needs) (λ c κs. search needs) (λ c. search needs) (λ c. search needs)
     (λ c. search needs) returns-4 (λ c κs. search needs) (λ c κs. search needs) run-good-requires (λ c. search needs) (λ c. search needs)
-    (λ c. search needs) (λ c. search needs) returns-5)
+    (λ c. search needs) (λ c. search needs) returns-5 run-good-requires-2 (λ c. search needs) (λ c. search needs) (λ c. search needs)
+    (λ c. search needs) returns-6)

@@ -14,7 +14,7 @@ use Rattle.record_files.proofs.Running.{Going, starts, goes-on, stops, ends, al
 use Rattle.record_runs.specs.declared.step.Place.{Place}
 use Rattle.record_runs.specs.Pass.{countedIn, Stands}
 use Rattle.record_runs.proofs.Writes.{all-rest, back}
-use Rattle.record_runs.proofs.Places.{standing, stays-there}
+use Rattle.record_runs.proofs.Places.{standing}
 use Rattle.sheet_bytes.specs.Ledger.{sheetsBytes}
 use Rattle.sheets.specs.Step.{Held, held, lineOf}
 use Rattle.sheets.specs.Held.{Passed}
@@ -118,7 +118,7 @@ pass-line-requires c κs =
 
 same-length : tie.Need-same-length Inv-loop μ-loop
 same-length c =
-    let k = c .before .before .before .before .before .before .before .before .before in
+    let k = c .before .before .before .before .before .before .before in
     let l = loop-of k .loop in
     let held = l .inv .1 in
     let sheets = k .pass-line .last .1 .1 .1 .0 in
@@ -127,7 +127,7 @@ same-length c =
 
 same-length-2 : tie.Need-same-length-2 Inv-loop μ-loop
 same-length-2 c =
-    let k = c .before .before .before .before .before .before .before .before .before in
+    let k = c .before .before .before .before .before .before .before in
     let l = loop-of k .loop in
     let a = loop-of k .before .before .before .before .before .args in
     let p = l .place in
@@ -139,28 +139,25 @@ same-length-2 c =
 
 returns : tie.Need-returns Inv-loop μ-loop
 returns c =
-    let k = c .before .before .before .before .before .before .before .before .before in
+    let k = c .before .before .before .before .before .before .before in
     let l = loop-of k .loop in
     let a = loop-of k .before .before .before .before .before .args in
     let p = l .place in
     let r = k .pass-line .result in
     let left = k .pass-line .last .1 .1 .1 .1 .1 .0 in
-    let file = drop (p .taken) (now (a .input)) in
-    let room = length (drop (p .written) (l .replies)) in
-    let stopped = lawful .stops (now-at k) file room (λ z. (c .if2 .taken) (turn k .1 .refusal-is ∙ z)) .1 in
-    rw (stays-there p (r .place) (lineOf (now-at k) file room) _ _ (turn k .0) stopped, back (l .replies) (p .written) left)
+    rw (back (l .replies) (p .written) left)
     (stops lawful (first k) (now (a .input)) (now (a .replies)) (now-at k) (p .taken) (p .written) (l .replies) (l .inv .2) (more k)
     (r .refusal) (after k) _ _ left (turn k .1) (c .if2 .taken))
 
 loop-less : tie.Need-loop-less Inv-loop μ-loop
 loop-less c =
-    let k = c .before .before .before .before .before .before .before .before .before in
-    let moved = turn k .1 .moves (c .if2 .left) in
+    let k = c .before .before .before .before .before .before .before .before in
+    let moved = turn k .1 .moves (c .before .if2 .left) in
     omega (arith, ap (λ (q : Place). q .taken) (turn k .0), moved, more k)
 
 loop-again : tie.Need-loop-again Inv-loop μ-loop
 loop-again c =
-    let k = c .before .before .before .before .before .before .before .before .before in
+    let k = c .before .before .before .before .before .before .before .before in
     let l = loop-of k .loop in
     let a = loop-of k .before .before .before .before .before .args in
     let p = l .place in
@@ -172,7 +169,7 @@ loop-again c =
     let t = lineOf (now-at k) file room in
     let s = l .card .chip .stack in
     let ready : Ready (stateIn (l .card .chip)) = record { stack = is-stack (s .top) (s .rest); ready = l .inv .0 } in
-    let few = lawful .few (now-at k) file room (sym (turn k .1 .refusal-is) ∙ c .if2 .left) in
+    let few = lawful .few (now-at k) file room (sym (turn k .1 .refusal-is) ∙ c .before .if2 .left) in
     let long : length sheets ≡ sheetsBytes = search needs in
     let replies = take (p .written) (l .replies) ++ left in
     rw (back (l .replies) (p .written) left)
@@ -181,7 +178,7 @@ loop-again c =
       subst (λ (h : Held). h .card .chip .status < 128) (sym (turn k .1 .state-is)) (calm-line (now-at k) file room ready),
       long,
       goes-on lawful (first k) (now (a .input)) (now (a .replies)) (now-at k) (p .taken) (p .written) (l .replies) (l .inv .2) (more k)
-          (r .refusal) (after k) (t .size) (length (t .reply)) left (turn k .1) (c .if2 .left),
+          (r .refusal) (after k) (t .size) (length (t .reply)) left (turn k .1) (c .before .if2 .left),
       l .inv .3,
       l .inv .4,
       omega (arith, few, l .inv .5),
