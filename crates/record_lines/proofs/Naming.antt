@@ -47,13 +47,21 @@ module _ (text : List ℕ) (n : ℕ) where
   kind-next k h e =
       let z : 258 - n ≡ 259 - (n + 1) = omega arith in
       let on = kind-first h ∙ ap (λ (t : Bool). cond t (kindOf n) (kindFrom (258 - n) (suc n) text)) e in
-      record { leads = ap (λ (m : ℕ). kindFrom m (n + 1) text) (sym z) ∙ ap (λ (m : ℕ). kindFrom (258 - n) m text) (add-one n) ∙ sym on ∙ k .leads; within = omega arith }
+      record {
+        leads = ap (λ (m : ℕ). kindFrom m (n + 1) text) (sym z) ∙ ap (λ (m : ℕ). kindFrom (258 - n) m text) (add-one n) ∙ sym on
+            ∙ k .leads;
+        within = omega arith;
+      }
 
   pub code-next : CodeSought text n → n < 128 → same (nameOf (n % 128)) text ≡ false → CodeSought text (n + 1)
   code-next k h e =
       let z : 127 - n ≡ 128 - (n + 1) = omega arith in
       let on = code-first h ∙ ap (λ (t : Bool). cond t n (codeFrom (127 - n) (suc n) text)) e in
-      record { leads = ap (λ (m : ℕ). codeFrom m (n + 1) text) (sym z) ∙ ap (λ (m : ℕ). codeFrom (127 - n) m text) (add-one n) ∙ sym on ∙ k .leads; within = omega arith }
+      record {
+        leads = ap (λ (m : ℕ). codeFrom m (n + 1) text) (sym z) ∙ ap (λ (m : ℕ). codeFrom (127 - n) m text) (add-one n) ∙ sym on
+            ∙ k .leads;
+        within = omega arith;
+      }
 
   pub kind-none : KindSought text n → 259 ≤ n → Unknown ≡ kindNamed text
   unfolding kindFrom

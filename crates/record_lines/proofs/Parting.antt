@@ -106,13 +106,24 @@ module _ (line : List ℕ) (from i : ℕ) (g : Growing line from i) where
       ∙ ap (λ (c : ℕ). between from i line ++ (c ∷ [])) (getD-drop from line (i - from) 0 ∙ ap (λ (j : ℕ). getD line j 0) m)
 
   pub grows : i < length line → endsWord (getD line i 0) ≡ false → Growing line from (i + 1)
-  grows l e = record { leads = g .leads ∙ step ∙ ap (λ (w : List ℕ). wordsFrom (i + 1) w (drop (i + 1) line)) (sym (longer l)); onward = let o = g .onward in omega arith; within = omega arith }
+  grows l e = record {
+    leads = g .leads ∙ step ∙ ap (λ (w : List ℕ). wordsFrom (i + 1) w (drop (i + 1) line))
+        (sym (longer l));
+    onward = let o = g .onward in omega arith;
+    within = omega arith;
+  }
     where
       step : wordsFrom i (between from i line) (drop i line) ≡ wordsFrom (i + 1) (between from i line ++ (getD line i 0 ∷ [])) (drop (i + 1) line)
       step = here i (between from i line) line l ∙ (unfold wordsFrom in rw (inside-no-hash (getD line i 0) e, inside-no-blank (getD line i 0) e))
 
   pub grown : i < length line → endsWord (getD line i 0) ≡ true → WordTo line from i
-  grown l e = record { is = g .leads ∙ here i w line l ∙ stop ∙ ap (ended i w) (sym (here i [] line l)); ordered = g .onward; within = g .within; stops = λ k. e }
+  grown l e = record {
+    is = g .leads ∙ here i w line l ∙ stop ∙ ap (ended i w)
+        (sym (here i [] line l));
+    ordered = g .onward;
+    within = g .within;
+    stops = λ k. e;
+  }
     where
       w : List ℕ
       w = between from i line
@@ -121,7 +132,8 @@ module _ (line : List ℕ) (from i : ℕ) (g : Growing line from i) where
       c = getD line i 0
 
       go : (h b : Bool) (ws : List Word) (vs : List Word) → cond h true b ≡ true
-          → cond h (ended i w []) (cond b (ended i w ws) vs) ≡ ended i w (cond h (ended i [] []) (cond b (ended i [] ws) (wordsFrom (i + 1) (c ∷ []) (drop (i + 1) line))))
+          → cond h (ended i w []) (cond b (ended i w ws) vs) ≡ ended i w
+          (cond h (ended i [] []) (cond b (ended i [] ws) (wordsFrom (i + 1) (c ∷ []) (drop (i + 1) line))))
       go true b ws vs f = refl
       go false true ws vs f = refl
       go false false ws vs f = clash f
@@ -130,7 +142,13 @@ module _ (line : List ℕ) (from i : ℕ) (g : Growing line from i) where
       stop = unfold wordsFrom in go (isHash c) (isBlank c) (wordsFrom (i + 1) [] (drop (i + 1) line)) (wordsFrom (i + 1) (w ++ (c ∷ [])) (drop (i + 1) line)) e
 
   pub all-grown : length line ≤ i → WordTo line from i
-  all-grown h = record { is = g .leads ∙ ap (wordsFrom i w) none ∙ stop ∙ ap (λ (l : List ℕ). ended i w (wordsFrom i [] l)) (sym none); ordered = g .onward; within = g .within; stops = λ k. absurd (omega arith) }
+  all-grown h = record {
+    is = g .leads ∙ ap (wordsFrom i w) none ∙ stop ∙ ap (λ (l : List ℕ). ended i w (wordsFrom i [] l))
+        (sym none);
+    ordered = g .onward;
+    within = g .within;
+    stops = λ k. absurd (omega arith);
+  }
     where
       w : List ℕ
       w = between from i line
@@ -166,4 +184,5 @@ module _ (line : List ℕ) (at from to : ℕ) (f : WordFrom line at from) (t : W
       go false e =
           let n = eqb-false from to e in
           let o = t .ordered in
-          t .is ∙ some (between from to line) (wordsAt to line) (length-take-le (to - from) (drop from line) (let v = t .within in omega (arith, length-drop from line))) (differ n o)
+          t .is ∙ some (between from to line) (wordsAt to line)
+          (length-take-le (to - from) (drop from line) (let v = t .within in omega (arith, length-drop from line))) (differ n o)

@@ -1,4 +1,5 @@
--- The words of a record's text are the words that it was told in, and each is read as what it was written from: hex digits as bytes, decimal digits as a number, a name as its code. Assumes nothing.
+-- The words of a record's text are the words that it was told in, and each is read as what it was written from: hex digits as bytes, decimal digits as a
+-- number, a name as its code. Assumes nothing.
 use mathlib.Core.Path.{_≡_, refl, sym, ap, ap₂, _∙_, subst}
 use mathlib.Core.Bool.{Bool, true, false, cond, not}
 use mathlib.Core.List.{List, [], _∷_, _++_, append-nil, append-assoc}
@@ -179,7 +180,13 @@ counted : (kind : Kind) (n : ℕ) → n < 4294967296 → rangeOf (numberOf kind)
     → numberFor kind (decimal n) ≡ Number n (rangeOf (numberOf kind) .size)
 unfolding numberFor
 counted kind n h l m =
-    rw (number-back n h, eq-eqb (length (decimal n)) (length (decimal n)) refl, le-ltb n (rangeOf (numberOf kind) .least) l, le-ltb (rangeOf (numberOf kind) .most) n m)
+    rw (
+      number-back n h,
+      eq-eqb (length (decimal n)) (length (decimal n)) refl,
+      le-ltb n (rangeOf (numberOf kind) .least) l,
+      le-ltb
+          (rangeOf (numberOf kind) .most) n m,
+    )
 
 -- ---- bytes read back
 value-back : (rule : Rule) (digits size n : ℕ) → sizeFor digits ≡ size → (size ≡ 0 → ⊥) → n < 16 ^ digits → bytesOf rule (digitsTo 16 digits n) ≡ Number n size
@@ -206,15 +213,18 @@ small4 a b c d h k l m = omega arith
 
 -- one word more of a push
 module _ (rule : Rule) (at : ℕ) (g : List ℕ) (n size : ℕ) (bytes : List ℕ) (v : bytesOf rule g ≡ Number n size) (b : take size (le4 n) ≡ bytes) where
-  step : (ws : List Word) (done : List ℕ) → length done + size ≤ 240 → takeWords true rule Push (word at g ∷ ws) done ≡ takeWords true rule Push ws (done ++ bytes)
+  step : (ws : List Word) (done : List ℕ) → length done + size ≤ 240 → takeWords true rule Push (word at g ∷ ws) done ≡ takeWords true rule Push ws
+      (done ++ bytes)
   step ws done h = unfold takeWords in rw (v, le-ltb 240 (length done + size) h, b)
 
 module _ (rule : Rule) where
-  push-back : (at : ℕ) (l done : List ℕ) → Bytes l → length done + length l ≤ 240 → takeWords true rule Push (placed at (groups l)) done ≡ Payload (done ++ l) []
+  push-back : (at : ℕ) (l done : List ℕ) → Bytes l → length done + length l ≤ 240 → takeWords true rule Push (placed at (groups l)) done ≡ Payload
+      (done ++ l) []
   unfolding groups takeWords
   push-back at [] done B h = ap (λ (l : List ℕ). Payload l []) (sym (append-nil done))
   push-back at (a ∷ []) done B h =
-      step rule at (groupText (a ∷ [])) (fourAt (a ∷ []) 0) 1 (a ∷ []) (value-back rule 2 1 (fourAt (a ∷ []) 0) refl (λ z. omega arith) (small1 a (B 0))) (one-byte a (B 0)) [] done h
+      step rule at (groupText (a ∷ [])) (fourAt (a ∷ []) 0) 1 (a ∷ []) (value-back rule 2 1 (fourAt (a ∷ []) 0) refl (λ z. omega arith) (small1 a (B 0)))
+      (one-byte a (B 0)) [] done h
   push-back at (a ∷ b ∷ []) done B h =
       step rule at (groupText (a ∷ b ∷ [])) (fourAt (a ∷ b ∷ []) 0) 2 (a ∷ b ∷ [])
       (value-back rule 4 2 (fourAt (a ∷ b ∷ []) 0) refl (λ z. omega arith) (small2 a b (B 0) (B 1))) (two-bytes a b (B 0) (B 1)) [] done h
@@ -224,14 +234,16 @@ module _ (rule : Rule) where
       (value-back rule 4 2 (fourAt (a ∷ b ∷ []) 0) refl (λ z. omega arith) (small2 a b (B 0) (B 1))) (two-bytes a b (B 0) (B 1))
       (placed (at + length w + 1) (groupText (c ∷ []) ∷ [])) done (omega arith)
       ∙ step rule (at + length w + 1) (groupText (c ∷ [])) (fourAt (c ∷ []) 0) 1 (c ∷ [])
-      (value-back rule 2 1 (fourAt (c ∷ []) 0) refl (λ z. omega arith) (small1 c (B 2))) (one-byte c (B 2)) [] (done ++ (a ∷ b ∷ [])) (omega (arith, length-append done (a ∷ b ∷ [])))
+      (value-back rule 2 1 (fourAt (c ∷ []) 0) refl (λ z. omega arith) (small1 c (B 2))) (one-byte c (B 2)) [] (done ++ (a ∷ b ∷ []))
+      (omega (arith, length-append done (a ∷ b ∷ [])))
       ∙ ap (λ (l : List ℕ). Payload l []) (append-assoc done (a ∷ b ∷ []) (c ∷ []))
   push-back at (a ∷ b ∷ c ∷ d ∷ l) done B h =
       let w = groupText (a ∷ b ∷ c ∷ d ∷ []) in
       step rule at w (fourAt (a ∷ b ∷ c ∷ d ∷ []) 0) 4 (a ∷ b ∷ c ∷ d ∷ [])
       (value-back rule 8 4 (fourAt (a ∷ b ∷ c ∷ d ∷ []) 0) refl (λ z. omega arith) (small4 a b c d (B 0) (B 1) (B 2) (B 3)))
       (same-bytes a b c d (B 0) (B 1) (B 2) (B 3)) (placed (at + length w + 1) (groups l)) done (omega arith)
-      ∙ push-back (at + length w + 1) l (done ++ (a ∷ b ∷ c ∷ d ∷ [])) (λ i. B (suc (suc (suc (suc i))))) (omega (arith, length-append done (a ∷ b ∷ c ∷ d ∷ [])))
+      ∙ push-back (at + length w + 1) l (done ++ (a ∷ b ∷ c ∷ d ∷ [])) (λ i. B (suc (suc (suc (suc i)))))
+      (omega (arith, length-append done (a ∷ b ∷ c ∷ d ∷ [])))
       ∙ ap (λ (m : List ℕ). Payload m []) (append-assoc done (a ∷ b ∷ c ∷ d ∷ []) l)
 
 -- a word behind another name
@@ -365,7 +377,8 @@ command-back rule code h = go (eqb (length (nameOf (code % 128))) 0) refl
     go : (t : Bool) → eqb (length (nameOf n)) 0 ≡ t → lineOf rule (joined (commandWords code)) ≡ Record (recordBytes Command (code ∷ []))
     go true e =
         ap (λ (l : List (List ℕ)). lineOf rule (joined l)) (unnamed code e)
-        ∙ line-of rule (kindName Command) (hex code ∷ []) (a-word (hex code) [] (omega arith) (subst (λ (l : List ℕ). plain l ≡ true) (sym (hex-is code h)) (hex-plain 2 code)) refl)
+        ∙ line-of rule (kindName Command) (hex code ∷ [])
+        (a-word (hex code) [] (omega arith) (subst (λ (l : List ℕ). plain l ≡ true) (sym (hex-is code h)) (hex-plain 2 code)) refl)
         ∙ by-kind rule Command (placed 8 (hex code ∷ []))
         ∙ ap (λ (t : Taken). closed Command (needed 7 t)) (one-word rule Command 8 code 1 (hex code) (code-back code h) (omega arith))
         ∙ ap (λ (c : ℕ). Record (recordBytes Command (c ∷ []))) (mod-eq-of-lt h)
@@ -384,11 +397,13 @@ number-line rule kind payload size f p h l m s few some back =
     let n = fourAt payload 0 in
     let d = spells 19 n (omega arith) in
     let at = 0 + length (kindName kind) + 1 in
-    line-of rule (kindName kind) (decimal n ∷ []) (first (kindName kind) (decimal n ∷ []) p (a-word (decimal n) [] (d .some) (decimal-plain (decimal n) (d .digits)) refl))
+    line-of rule (kindName kind) (decimal n ∷ []) (first (kindName kind) (decimal n ∷ []) p
+    (a-word (decimal n) [] (d .some) (decimal-plain (decimal n) (d .digits)) refl))
     ∙ by-kind rule kind (placed at (decimal n ∷ []))
     ∙ ap (λ (g : Form). lineBy g rule kind (word 0 (kindName kind)) (placed at (decimal n ∷ []))) f
     ∙ ap (λ (t : Taken). closed kind (needed (0 + length (kindName kind)) t))
-    (one-word rule kind at n size (decimal n) (ap (λ (g : Form). valueBy g rule kind (decimal n)) f ∙ counted kind n h l m ∙ ap (Number n) s) few ∙ ap (λ (b : List ℕ). Payload b []) back)
+    (one-word rule kind at n size (decimal n) (ap (λ (g : Form). valueBy g rule kind (decimal n)) f ∙ counted kind n h l m ∙ ap (Number n) s) few ∙ ap
+    (λ (b : List ℕ). Payload b []) back)
     ∙ there payload some
   where
     first : (w : List ℕ) (ws : List (List ℕ)) → words (w ∷ []) ≡ true → words ws ≡ true → words (w ∷ ws) ≡ true
@@ -426,9 +441,11 @@ record-reads-back rule Push (b ∷ l) (h, k) B =
     ∙ ap (λ (t : Taken). closed Push (needed 4 t)) (push-back rule 5 (b ∷ l) [] B (let z = k in omega arith))
 record-reads-back rule Pop payload (e, l, m) B =
     subst (λ (p : List ℕ). lineOf rule (recordText Pop p) ≡ Record (recordBytes Pop p)) (sym (single payload e))
-    (let n = getD payload 0 0 in let b = B 0 in number-line rule Pop (n ∷ []) 1 refl refl (omega arith) (omega arith) (omega arith) refl (omega arith) (λ z. omega arith) (one-byte n b))
+    (let n = getD payload 0 0 in let b = B 0 in number-line rule Pop (n ∷ []) 1 refl refl (omega arith) (omega arith) (omega arith) refl (omega arith)
+    (λ z. omega arith) (one-byte n b))
 record-reads-back rule Command payload e B =
-    subst (λ (p : List ℕ). lineOf rule (recordText Command p) ≡ Record (recordBytes Command p)) (sym (single payload e)) (command-back rule (getD payload 0 0) (B 0))
+    subst (λ (p : List ℕ). lineOf rule (recordText Command p) ≡ Record (recordBytes Command p)) (sym (single payload e))
+    (command-back rule (getD payload 0 0) (B 0))
 record-reads-back rule Status payload e B = alone rule Status payload refl refl e
 record-reads-back rule Reset payload e B = alone rule Reset payload refl refl e
 record-reads-back rule Acknowledge payload e B = alone rule Acknowledge payload refl refl e
@@ -439,6 +456,7 @@ record-reads-back rule Open payload e B =
     number-line rule Open payload 4 refl refl h (omega arith) (omega arith) refl (omega arith) (λ z. omega arith) (open-back payload e B)
 record-reads-back rule Keep payload e B =
     subst (λ (p : List ℕ). lineOf rule (recordText Keep p) ≡ Record (recordBytes Keep p)) (sym (single payload e))
-    (let n = getD payload 0 0 in let b = B 0 in number-line rule Keep (n ∷ []) 1 refl refl (omega arith) (omega arith) (omega arith) refl (omega arith) (λ z. omega arith) (one-byte n b))
+    (let n = getD payload 0 0 in let b = B 0 in number-line rule Keep (n ∷ []) 1 refl refl (omega arith) (omega arith) (omega arith) refl (omega arith)
+    (λ z. omega arith) (one-byte n b))
 record-reads-back rule Close payload e B = alone rule Close payload refl refl e
 record-reads-back rule Unknown payload e B = absurd e

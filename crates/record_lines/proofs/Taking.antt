@@ -21,7 +21,8 @@ use Rattle.record_words.specs.declared.kinds.Span.{Span}
 use Rattle.record_lines.specs.Words.{Word, word, wordsAt, wordsOf, between, NextWord}
 use Rattle.record_lines.specs.Named.{kindNamed}
 use Rattle.record_lines.specs.Values.{valueOf}
-use Rattle.record_lines.specs.Line.{recordBytes, Said, Record, Empty, Wrong, Put, Added, Unfit, put, Taken, Payload, Amiss, onPut, takeWords, needed, closed}
+use Rattle.record_lines.specs.Line.{recordBytes, Said, Record, Empty, Wrong, Put, Added, Unfit}
+use Rattle.record_lines.specs.Line.{put, Taken, Payload, Amiss, onPut, takeWords, needed, closed}
 use Rattle.record_lines.specs.Line.{withSr, commandLine, lineBy, lineIn, lineOf}
 use Rattle.record_lines.specs.declared.values.Fault.{Fault}
 use Rattle.record_lines.specs.declared.values.Fault.the-variants.{NoName, Missing, ManyBytes}
@@ -108,8 +109,10 @@ head-is kind payload k h e =
     rw e (ap (λ (l : List ℕ). l ++ (le2 (numberOf kind) ++ payload)) (le2-small (2 + length payload) (omega arith)))
 
 module _ (kind : Kind) (place : ℕ) (t : Taken) where
-  pub is-missing : (payload : List ℕ) (count : ℕ) (ws : List Word) → count ≡ 0 → Payload (take count payload) ws ≡ t → Wrong Missing place ≡ closed kind (needed place t)
-  is-missing payload count ws z e = ap (λ (n : ℕ). closed kind (needed place (Payload (take n payload) ws))) (sym z) ∙ ap (λ (u : Taken). closed kind (needed place u)) e
+  pub is-missing : (payload : List ℕ) (count : ℕ) (ws : List Word) → count ≡ 0 → Payload (take count payload) ws ≡ t → Wrong Missing place ≡ closed kind
+      (needed place t)
+  is-missing payload count ws z e = ap (λ (n : ℕ). closed kind (needed place (Payload (take n payload) ws))) (sym z) ∙ ap
+      (λ (u : Taken). closed kind (needed place u)) e
 
   pub is-there : (l : List ℕ) (ws : List Word) → (length l ≡ 0 → ⊥) → Payload l ws ≡ t → closed kind (Payload l ws) ≡ closed kind (needed place t)
   is-there [] ws n e = absurd (n refl)
@@ -129,7 +132,8 @@ module _ (line : List ℕ) (at code : ℕ) (s : Span) (w : NextWord line at s) w
       go : (t : Bool) → eqb (s .from) (s .to) ≡ t → Payload ((code + 128) ∷ []) (wordsAt (s .to) line) ≡ withSr code (wordsAt at line)
       go true z = clash (ap (same srWord) (sym (empty (eqb-true (s .from) (s .to) z))) ∙ e)
       go false z =
-          ap (λ (t : Bool). cond t (Payload ((code + 128) ∷ []) (wordsAt (s .to) line)) (Payload (code ∷ []) (word (s .from) (between (s .from) (s .to) line) ∷ wordsAt (s .to) line))) (sym e)
+          ap (λ (t : Bool). cond t (Payload ((code + 128) ∷ []) (wordsAt (s .to) line))
+          (Payload (code ∷ []) (word (s .from) (between (s .from) (s .to) line) ∷ wordsAt (s .to) line))) (sym e)
           ∙ ap (withSr code) (sym (a-word line at s w (eqb-false (s .from) (s .to) z)))
 
   pub sr-plain : same srWord (between (s .from) (s .to) line) ≡ false → Payload (code ∷ []) (wordsAt at line) ≡ withSr code (wordsAt at line)
@@ -152,6 +156,7 @@ module _ (rule : Rule) (line : List ℕ) where
   unfolding lineOf
   empty-line e = ap (lineIn rule) (sym e)
 
-  pub some-line : (w : Word) (ws : List Word) (kind : Kind) → wordsAt 0 line ≡ w ∷ ws → kind ≡ kindNamed (w .text) → lineBy (formOf kind) rule kind w ws ≡ lineOf rule line
+  pub some-line : (w : Word) (ws : List Word) (kind : Kind) → wordsAt 0 line ≡ w ∷ ws → kind ≡ kindNamed (w .text) → lineBy (formOf kind) rule kind w ws
+      ≡ lineOf rule line
   unfolding lineOf
   some-line w ws kind e k = ap (λ (n : Kind). lineBy (formOf n) rule n w ws) k ∙ ap (lineIn rule) (sym e)

@@ -1,5 +1,6 @@
 -- What a line says: a record, nothing, or what is wrong at which place. Definitions only. Assumes nothing.
 use Prim.Native.Nat.{ℕ, _+_, _≤_}
+use mathlib.Core.Path.{_≡_}
 use mathlib.Core.Bool.{Bool, true, false, cond}
 use mathlib.Core.List.{List, [], _∷_, _++_}
 use lib.Dec.{ltb}
@@ -14,7 +15,7 @@ use Rattle.record_words.specs.declared.kinds.Kind.{Kind}
 use Rattle.record_words.specs.declared.kinds.Kind.the-variants.{Command}
 use Rattle.record_words.specs.declared.kinds.Form.{Form}
 use Rattle.record_words.specs.declared.kinds.Form.the-variants.{Bytes, Number as Numbered, Code, Alone, Unknown}
-use Rattle.record_lines.specs.Words.{Word, wordsAt, wordsOf}
+use Rattle.record_lines.specs.Words.{Word, word, wordsAt, wordsOf, between}
 use Rattle.record_lines.specs.Named.{kindNamed, codeNamed}
 use Rattle.record_lines.specs.Values.{valueOf}
 use Rattle.record_lines.specs.declared.values.Fault.{Fault}
@@ -31,6 +32,10 @@ use Rattle.record_lines.specs.declared.line.Line.the-variants.{Record as
 -- the bytes of a record: its length, which counts what follows, its kind, its payload
 abbrev pub recordBytes : Kind → List ℕ → List ℕ
 recordBytes kind payload = le2 (2 + length payload) ++ (le2 (numberOf kind) ++ payload)
+
+-- room for every record
+abbrev pub recordRoom : ℕ
+recordRoom = 244
 
 -- what a line says; a place is counted from 0
 pub data Said : Type 0 where
@@ -123,6 +128,36 @@ lineAs out Blank = Empty
 lineAs out (Mistaken fault place) = Wrong fault place
 
 abbrev pub LineFits : Line → Type 0
-LineFits (Recorded count) = count ≤ 4 + mostPayload
+LineFits (Recorded count) = count ≤ recordRoom
 LineFits Blank = Unit
 LineFits (Mistaken fault place) = Unit
+
+-- a payload with one value more, a payload by words, a line: what each says, and that it fits
+abbrev pub PutsAs : Put → List ℕ → Putting → Type 0
+PutsAs p payload r = (putAs payload r ≡ p) × PutFits r
+
+abbrev pub TakesAs : Taken → List ℕ → List ℕ → Taking → Type 0
+TakesAs t line payload r = (takenAs line payload r ≡ t) × TakenFits line r
+
+abbrev pub SaysAs : Said → List ℕ → Line → Type 0
+SaysAs said out r = (lineAs out r ≡ said) × LineFits r
+
+-- the payload by the words of a line from a place on
+abbrev pub wordsTaken : Bool → Rule → Kind → List ℕ → ℕ → Taken
+wordsTaken many rule kind line at = takeWords many rule kind (wordsAt at line) []
+
+-- what a line says from a place on: with a payload, by `sr` or none, by words behind a name, by the word of a command, by a kind's name
+abbrev pub closedLine : Kind → List ℕ → List ℕ → ℕ → Said
+closedLine kind payload line at = closed kind (Payload payload (wordsAt at line))
+
+abbrev pub srLine : ℕ → List ℕ → ℕ → Said
+srLine code line at = closed Command (withSr code (wordsAt at line))
+
+abbrev pub valuesLine : Rule → Kind → Bool → List ℕ → ℕ → Said
+valuesLine rule kind many line at = closed kind (needed at (takeWords many rule kind (wordsAt at line) []))
+
+abbrev pub namedLine : List ℕ → ℕ → ℕ → Said
+namedLine line from to = commandLine from (codeNamed (between from to line)) (wordsAt to line)
+
+abbrev pub kindLine : Rule → Kind → List ℕ → ℕ → ℕ → Said
+kindLine rule kind line from to = lineBy (formOf kind) rule kind (word from (between from to line)) (wordsAt to line)

@@ -1,4 +1,5 @@
--- The value of a word behind a name: two hex digits are a byte, four a word of 16 bits, eight one of 32, a number with a point a float word; a number; a code. Definitions only. Assumes nothing.
+-- The value of a word behind a name: two hex digits are a byte, four a word of 16 bits, eight one of 32, a number with a point a float word; a number; a code.
+-- Definitions only. Assumes nothing.
 use Prim.Native.Nat.{ℕ, _≤_, _<_, _^_}
 use mathlib.Core.Bool.{cond}
 use mathlib.Core.List.{List}
@@ -23,7 +24,8 @@ use Rattle.record_words.specs.declared.kinds.Kind.{Kind}
 use Rattle.record_words.specs.declared.kinds.Form.{Form}
 use Rattle.record_words.specs.declared.kinds.Form.the-variants.{Bytes, Number as Numbered, Code, Alone, Unknown as Formless}
 use Rattle.record_lines.specs.declared.values.Fault.{Fault}
-use Rattle.record_lines.specs.declared.values.Fault.the-variants.{NoName, NoDigit, NoPoint, ManyDigits, ManyPlaces, NoEnd, TooLarge, TooSmall, NoNumber, OutOfRange, NoCode, Behind}
+use Rattle.record_lines.specs.declared.values.Fault.the-variants.{NoName, NoDigit, NoPoint, ManyDigits, ManyPlaces, NoEnd}
+use Rattle.record_lines.specs.declared.values.Fault.the-variants.{TooLarge, TooSmall, NoNumber, OutOfRange, NoCode, Behind}
 use Rattle.record_lines.specs.declared.values.Value.{Value}
 use Rattle.record_lines.specs.declared.values.Value.the-variants.{Number, Wrong}
 use Rattle.record_lines.specs.declared.values.Range.{Range}

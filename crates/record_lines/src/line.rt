@@ -13,19 +13,13 @@ use record_words::kinds::Kind;
 use record_words::kinds::form_of;
 use terms::Rule;
 ghost use mathlib.Core.Path.{_≡_};
-ghost use mathlib.Core.Bool.{Bool};
-ghost use mathlib.Core.List.{[], _∷_};
-ghost use Prim.Native.Nat.{_+_, _^_, _≤_, _<_};
+ghost use Prim.Native.Nat.{_^_, _≤_, _<_};
 ghost use lib.ListN.{length, take};
 ghost use Rattle.listing.specs.Text.{Adds};
 ghost use Rattle.terms.specs.Limits.{mostPayload};
-ghost use Rattle.record_words.specs.Kinds.{formOf};
-ghost use Rattle.record_lines.specs.Words.{wordsAt, between, word};
-ghost use Rattle.record_lines.specs.Named.{codeNamed};
 ghost use Rattle.record_lines.specs.Values.{Sized};
-ghost use Rattle.record_lines.specs.Line.{recordBytes, put, putAs, PutFits, takeWords, takenAs, TakenFits, needed};
-ghost use Rattle.record_lines.specs.Line.{closed, withSr, commandLine, lineBy, lineOf, lineAs, LineFits};
-ghost use Rattle.record_lines.specs.Line.{Payload as Line·Payload};
+ghost use Rattle.record_lines.specs.Line.{recordRoom, recordBytes, put, PutsAs, wordsTaken, TakesAs, lineOf, SaysAs};
+ghost use Rattle.record_lines.specs.Line.{closedLine, valuesLine, srLine, namedLine, kindLine};
 
 // The most bytes of a payload, and of a record.
 const MOST_PAYLOAD: usize = 240;
@@ -54,8 +48,7 @@ pub enum Line {
 // A number of so many bytes behind those that are there.
 fn add_number(payload: &mut [u8], count: usize, at: usize, value: u32, size: usize) -> Put
     requires { ⌜ (length (now payload) ≡ mostPayload) × (count ≤ mostPayload) × (1 ≤ size) × (size ≤ 4) ⌝ }
-    ensures { λ r. ⌜ putAs (now (payload .exit)) r ≡ put (take count (now (payload .entry))) at (Value.Number value size) ⌝ }
-    ensures { λ r. ⌜ PutFits r ⌝ }
+    ensures { λ r. ⌜ PutsAs (put (take count (now (payload .entry))) at (Value.Number value size)) (now (payload .exit)) r ⌝ }
 {
     if MOST_PAYLOAD < count + size {
         return Put::Wrong(Fault::ManyBytes, at);
@@ -68,8 +61,7 @@ fn add_number(payload: &mut [u8], count: usize, at: usize, value: u32, size: usi
 // A value behind the bytes that are there, of the word at a place.
 fn put_value(payload: &mut [u8], count: usize, at: usize, value: Value) -> Put
     requires { ⌜ (length (now payload) ≡ mostPayload) × (count ≤ mostPayload) × Sized value × (at < 2 ^ 63) ⌝ }
-    ensures { λ r. ⌜ putAs (now (payload .exit)) r ≡ put (take count (now (payload .entry))) at value ⌝ }
-    ensures { λ r. ⌜ PutFits r ⌝ }
+    ensures { λ r. ⌜ PutsAs (put (take count (now (payload .entry))) at value) (now (payload .exit)) r ⌝ }
 {
     match value {
         Value::Number(number, size) => add_number(payload, count, at, number, size),
@@ -87,8 +79,7 @@ fn take_words(
     payload: &mut [u8],
 ) -> Taken
     requires { ⌜ (length (now payload) ≡ mostPayload) × (from ≤ length (now line)) ⌝ }
-    ensures { λ r. ⌜ takenAs (now (line .entry)) (now (payload .exit)) r ≡ takeWords many rule kind (wordsAt from (now (line .entry))) [] ⌝ }
-    ensures { λ r. ⌜ TakenFits (now (line .entry)) r ⌝ }
+    ensures { λ r. ⌜ TakesAs (wordsTaken many rule kind (now (line .entry)) from) (now (line .entry)) (now (payload .exit)) r ⌝ }
 {
     let mut count = 0;
     let mut at = from;
@@ -114,9 +105,9 @@ fn take_words(
 
 // The bytes of a record.
 fn add_record(out: &mut [u8], kind: Kind, payload: &[u8]) -> usize
-    requires { ⌜ (length (now payload) ≤ mostPayload) × (4 + mostPayload ≤ length (now out)) ⌝ }
+    requires { ⌜ (length (now payload) ≤ mostPayload) × (recordRoom ≤ length (now out)) ⌝ }
     ensures { λ r. ⌜ Adds (recordBytes kind (now (payload .entry))) (now (out .entry)) (now (out .exit)) 0 r ⌝ }
-    ensures { λ r. ⌜ r ≤ 4 + mostPayload ⌝ }
+    ensures { λ r. ⌜ r ≤ recordRoom ⌝ }
 {
     let n = 2 + payload.len();
     let k = number_of(kind);
@@ -127,9 +118,8 @@ fn add_record(out: &mut [u8], kind: Kind, payload: &[u8]) -> usize
 
 // The record, where no word stands from a place on.
 fn close_line(line: &[u8], at: usize, kind: Kind, payload: &[u8], out: &mut [u8]) -> Line
-    requires { ⌜ (at ≤ length (now line)) × (length (now payload) ≤ mostPayload) × (4 + mostPayload ≤ length (now out)) ⌝ }
-    ensures { λ r. ⌜ lineAs (now (out .exit)) r ≡ closed kind (Line·Payload (now (payload .entry)) (wordsAt at (now (line .entry)))) ⌝ }
-    ensures { λ r. ⌜ LineFits r ⌝ }
+    requires { ⌜ (at ≤ length (now line)) × (length (now payload) ≤ mostPayload) × (recordRoom ≤ length (now out)) ⌝ }
+    ensures { λ r. ⌜ SaysAs (closedLine kind (now (payload .entry)) (now (line .entry)) at) (now (out .exit)) r ⌝ }
 {
     let s = next_word(line, at);
     let from = s.from;
@@ -142,9 +132,8 @@ fn close_line(line: &[u8], at: usize, kind: Kind, payload: &[u8], out: &mut [u8]
 
 // A line whose name stands before words, from the place on where the name ends.
 fn read_values(rule: Rule, kind: Kind, many: bool, line: &[u8], at: usize, out: &mut [u8]) -> Line
-    requires { ⌜ (at ≤ length (now line)) × (4 + mostPayload ≤ length (now out)) ⌝ }
-    ensures { λ r. ⌜ lineAs (now (out .exit)) r ≡ closed kind (needed at (takeWords many rule kind (wordsAt at (now (line .entry))) [])) ⌝ }
-    ensures { λ r. ⌜ LineFits r ⌝ }
+    requires { ⌜ (at ≤ length (now line)) × (recordRoom ≤ length (now out)) ⌝ }
+    ensures { λ r. ⌜ SaysAs (valuesLine rule kind many (now (line .entry)) at) (now (out .exit)) r ⌝ }
 {
     let mut payload = [0u8; MOST_PAYLOAD];
     let taken = take_words(rule, kind, many, line, at, &mut payload);
@@ -161,8 +150,8 @@ fn read_values(rule: Rule, kind: Kind, many: bool, line: &[u8], at: usize, out: 
 
 // A command of this code, from the place on where its name ends.
 fn read_named(line: &[u8], at: usize, code: u8, out: &mut [u8]) -> Line
-    requires { ⌜ (at ≤ length (now line)) × (code < 128) × (4 + mostPayload ≤ length (now out)) ⌝ }
-    ensures { λ r. ⌜ lineAs (now (out .exit)) r ≡ closed Kind.Command (withSr code (wordsAt at (now (line .entry)))) × LineFits r ⌝ }
+    requires { ⌜ (at ≤ length (now line)) × (code < 128) × (recordRoom ≤ length (now out)) ⌝ }
+    ensures { λ r. ⌜ SaysAs (srLine code (now (line .entry)) at) (now (out .exit)) r ⌝ }
 {
     let s = next_word(line, at);
     let from = s.from;
@@ -177,9 +166,8 @@ fn read_named(line: &[u8], at: usize, code: u8, out: &mut [u8]) -> Line
 
 // A line whose first word names no kind.
 fn read_command(line: &[u8], from: usize, to: usize, out: &mut [u8]) -> Line
-    requires { ⌜ (from ≤ to) × (to ≤ length (now line)) × (4 + mostPayload ≤ length (now out)) ⌝ }
-    ensures { λ r. ⌜ lineAs (now (out .exit)) r ≡ commandLine from (codeNamed (between from to (now (line .entry)))) (wordsAt to (now (line .entry))) ⌝ }
-    ensures { λ r. ⌜ LineFits r ⌝ }
+    requires { ⌜ (from ≤ to) × (to ≤ length (now line)) × (recordRoom ≤ length (now out)) ⌝ }
+    ensures { λ r. ⌜ SaysAs (namedLine (now (line .entry)) from to) (now (out .exit)) r ⌝ }
 {
     let code = code_named(&line[from..to]);
     if code < 128 {
@@ -190,9 +178,8 @@ fn read_command(line: &[u8], from: usize, to: usize, out: &mut [u8]) -> Line
 
 // A line by the kind that its first word names.
 fn read_kind(rule: Rule, kind: Kind, line: &[u8], from: usize, to: usize, out: &mut [u8]) -> Line
-    requires { ⌜ (from ≤ to) × (to ≤ length (now line)) × (4 + mostPayload ≤ length (now out)) ⌝ }
-    ensures { λ r. ⌜ lineAs (now (out .exit)) r ≡ lineBy (formOf kind) rule kind (word from (between from to (now (line .entry)))) (wordsAt to (now (line .entry))) ⌝ }
-    ensures { λ r. ⌜ LineFits r ⌝ }
+    requires { ⌜ (from ≤ to) × (to ≤ length (now line)) × (recordRoom ≤ length (now out)) ⌝ }
+    ensures { λ r. ⌜ SaysAs (kindLine rule kind (now (line .entry)) from to) (now (out .exit)) r ⌝ }
 {
     let form = form_of(kind);
     match form {
@@ -206,8 +193,8 @@ fn read_kind(rule: Rule, kind: Kind, line: &[u8], from: usize, to: usize, out: &
 
 // What a line says; the bytes of a record go to the front of the lent ones.
 pub fn read_line(rule: Rule, line: &[u8], out: &mut [u8]) -> Line
-    requires { ⌜ 4 + mostPayload ≤ length (now out) ⌝ }
-    ensures { λ r. ⌜ (lineAs (now (out .exit)) r ≡ lineOf rule (now (line .entry))) × LineFits r ⌝ }
+    requires { ⌜ recordRoom ≤ length (now out) ⌝ }
+    ensures { λ r. ⌜ SaysAs (lineOf rule (now (line .entry))) (now (out .exit)) r ⌝ }
 {
     let s = next_word(line, 0);
     let from = s.from;

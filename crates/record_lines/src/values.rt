@@ -1,4 +1,4 @@
-// The value of a word behind a name: bytes of a push, a number, a code; or why it is none, and at which place of the word.
+// The value of a word behind a name: bytes of a push, a number, a code; or why it is none, at which place of the word.
 use decimals::hex::Hex;
 use decimals::hex::read_hex;
 use decimals::read::Reading;

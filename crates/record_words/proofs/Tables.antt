@@ -10,7 +10,8 @@ use Rattle.little.specs.Little.{le4, fourAt}
 use Rattle.record_words.specs.Names.{nameOf, keyOf, lettersIn}
 use Rattle.record_words.specs.Kinds.{kindName}
 use Rattle.record_words.specs.declared.kinds.Kind.{Kind}
-use Rattle.record_words.specs.declared.kinds.Kind.the-variants.{Push, Pop, Command, Status, Reset, Acknowledge, Recall, Forget, Open, Keep, Close, Unknown}
+use Rattle.record_words.specs.declared.kinds.Kind.the-variants.{Push, Pop, Command, Status, Reset, Acknowledge}
+use Rattle.record_words.specs.declared.kinds.Kind.the-variants.{Recall, Forget, Open, Keep, Close, Unknown}
 
 -- ---- two functions with one list of values for the b numbers from a on agree on these numbers
 abbrev pub values : {A : Type 0} → (ℕ → A) → ℕ → ℕ → List A

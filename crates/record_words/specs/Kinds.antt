@@ -1,4 +1,5 @@
--- The kinds of records: 01's numbers and names, 02's for the error memory and for module sheets, and what stands behind each name. Definitions only. Assumes nothing.
+-- The kinds of records: 01's numbers and names, 02's for the error memory and for module sheets, and what stands behind each name. Definitions only. Assumes
+-- nothing.
 use Prim.Native.Nat.{ℕ, _-_, _≤_}
 use mathlib.Core.Path.{_≡_}
 use mathlib.Core.Bool.{cond}
@@ -7,7 +8,8 @@ use lib.Dec.{eqb}
 use lib.ListN.{length, take, drop}
 use Rattle.record_words.specs.Letters.{a, c, d, e, f, g, h, k, l, m, n, o, p, r, s, t, u, w}
 use Rattle.record_words.specs.declared.kinds.Kind.{Kind}
-use Rattle.record_words.specs.declared.kinds.Kind.the-variants.{Push, Pop, Command, Status, Reset, Acknowledge, Recall, Forget, Open, Keep, Close, Unknown}
+use Rattle.record_words.specs.declared.kinds.Kind.the-variants.{Push, Pop, Command, Status, Reset, Acknowledge}
+use Rattle.record_words.specs.declared.kinds.Kind.the-variants.{Recall, Forget, Open, Keep, Close, Unknown}
 use Rattle.record_words.specs.declared.kinds.Form.{Form}
 use Rattle.record_words.specs.declared.kinds.Form.the-variants.{Bytes, Number, Code, Alone, Unknown as Formless}
 use Rattle.record_words.specs.declared.kinds.Span.{Span}

@@ -64,6 +64,9 @@ wordsBy Code kind payload = commandWords (getD payload 0 0)
 wordsBy Alone kind payload = kindName kind ∷ []
 wordsBy Unknown kind payload = []
 
+abbrev pub textBy : Form → Kind → List ℕ → List ℕ
+textBy form kind payload = joined (wordsBy form kind payload)
+
 abbrev pub recordWords : Kind → List ℕ → List (List ℕ)
 recordWords kind payload = wordsBy (formOf kind) kind payload
 

@@ -17,7 +17,7 @@ ghost use Rattle.listing.specs.Text.{Adds};
 ghost use Rattle.listing.specs.Listing.{blank};
 ghost use Rattle.little.specs.Little.{fourAt};
 ghost use Rattle.record_words.specs.Told.{groupText, groupSize, groups, spaced, joined, srWords};
-ghost use Rattle.record_words.specs.Told.{commandWords, wordsBy, recordText};
+ghost use Rattle.record_words.specs.Told.{commandWords, textBy, recordText};
 
 // The most bytes of a word.
 const WORD: usize = 4;
@@ -95,7 +95,8 @@ fn add_sr(out: &mut [u8], place: usize, code: u8) -> usize
 // A command.
 fn add_command(out: &mut [u8], place: usize, code: u8) -> usize
     requires { ⌜ place + 16 ≤ length (now out) ⌝ }
-    ensures { λ r. ⌜ Adds (joined (commandWords code)) (now (out .entry)) (now (out .exit)) place r × (r ≤ place + 16) ⌝ }
+    ensures { λ r. ⌜ Adds (joined (commandWords code)) (now (out .entry)) (now (out .exit)) place r ⌝ }
+    ensures { λ r. ⌜ r ≤ place + 16 ⌝ }
 {
     let name = name_of(code);
     let text = name.text;
@@ -111,7 +112,7 @@ fn add_command(out: &mut [u8], place: usize, code: u8) -> usize
 // A push: its name and its bytes as words.
 fn add_push(out: &mut [u8], place: usize, kind: Kind, payload: &[u8]) -> usize
     requires { ⌜ place + 16 + 3 * length (now payload) ≤ length (now out) ⌝ }
-    ensures { λ r. ⌜ Adds (joined (wordsBy Form.Bytes kind (now (payload .entry)))) (now (out .entry)) (now (out .exit)) place r ⌝ }
+    ensures { λ r. ⌜ Adds (textBy Form.Bytes kind (now (payload .entry))) (now (out .entry)) (now (out .exit)) place r ⌝ }
     ensures { λ r. ⌜ r ≤ place + 16 + 3 * length (now (payload .entry)) ⌝ }
 {
     let next = add_kind(out, place, kind);
@@ -121,7 +122,7 @@ fn add_push(out: &mut [u8], place: usize, kind: Kind, payload: &[u8]) -> usize
 // A kind with a number.
 fn add_counted(out: &mut [u8], place: usize, kind: Kind, payload: &[u8]) -> usize
     requires { ⌜ place + 32 ≤ length (now out) ⌝ }
-    ensures { λ r. ⌜ Adds (joined (wordsBy Form.Number kind (now (payload .entry)))) (now (out .entry)) (now (out .exit)) place r ⌝ }
+    ensures { λ r. ⌜ Adds (textBy Form.Number kind (now (payload .entry))) (now (out .entry)) (now (out .exit)) place r ⌝ }
     ensures { λ r. ⌜ r ≤ place + 32 ⌝ }
 {
     let next = add_kind(out, place, kind);

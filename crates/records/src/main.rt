@@ -1,7 +1,7 @@
-// The program behind ./records: `records RULE text` reads lines of text from standard input and writes the records that they
-// say; `records RULE read` reads a record file and writes a line for each record. The last line is `end`; or `wrong`, the
-// number of the line, the column and the number of the fault; or `stopped`, the bytes before the record that has no words and
-// the refusal. What stands before a last line that is not `end` is no answer.
+// The program behind ./records: `records RULE text` reads lines of text from standard input and writes the records that
+// they say; `records RULE read` reads a record file and writes a line for each record. The last line is `end`; or `wrong`,
+// the number of the line, the place in it and the number of the fault; or `stopped`, the bytes before the record that has
+// no words and the refusal. What stands before a last line that is not `end` is no answer.
 use libc::STDIN_FILENO;
 use libc::STDOUT_FILENO;
 use record_lines::line::Line;
@@ -194,8 +194,8 @@ fn write_text(bytes: &[u8]) -> bool
     false
 }
 
-// Writes the line of the record from one place to another, and answers the other one; where it has none it writes why, and
-// answers what is no place.
+// Writes the line of the record from one place to another, and answers the other one; where it has none it writes why,
+// and answers what is no place.
 fn write_framed(input: &[u8], at: usize, end: usize) -> usize
     requires { ⌜ (at + 4 ≤ end) × (end ≤ at + 244) × (end ≤ length (now input)) ⌝ }
     ensures { λ r. ⌜ (r ≡ 20000) ⊎ (r ≡ end) ⌝ }

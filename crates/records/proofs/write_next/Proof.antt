@@ -13,15 +13,18 @@ use Rattle.records.proofs.write_next.Statement.{statement}
 use Rattle.records.proofs.write_next.Tie as tie
 
 -- the payload's bytes are there
-framed : (c : tie.After-frame) → let start = c .before .before .before .before .before in Fits mostPayload (drop (start .args .at) (now (start .args .input))) (c .frame .given .0 .0)
+framed : (c : tie.After-frame) → let start = c .before .before .before .before .before in Fits mostPayload
+    (drop (start .args .at) (now (start .args .input))) (c .frame .given .0 .0)
 framed c =
     let start = c .before .before .before .before .before in
     let input = now (start .args .input) in
     let at = start .args .at in
     let rest = take-all (length input - at) (drop at input) (omega (arith, length-drop at input)) in
-    fits mostPayload (drop (start .args .at) (now (start .args .input))) (c .frame .given .0 .0) (sym (rw rest at (c .before .before .read-frame .ensures)) ∙ c .frame .given .1)
+    fits mostPayload (drop (start .args .at) (now (start .args .input))) (c .frame .given .0 .0)
+    (sym (rw rest at (c .before .before .read-frame .ensures)) ∙ c .frame .given .1)
 
-ends : (c : tie.After-frame) → let start = c .before .before .before .before .before in start .args .at + 4 + c .frame .given .0 .0 ≤ length (now (start .args .input))
+ends : (c : tie.After-frame) → let start = c .before .before .before .before .before in start .args .at + 4 + c .frame .given .0 .0 ≤ length
+    (now (start .args .input))
 ends c =
     let start = c .before .before .before .before .before in
     omega (arith, framed c .there, length-drop (start .args .at) (now (start .args .input)))

@@ -29,11 +29,15 @@ write-record-spec =
     (λ c. omega (arith, room (c .before), said-fits (c .before)))
     (λ c. sym (all (c .before .before)))
     (λ c κs. search needs)
-    (λ c. record { fits = let start = c .before .before .before .before .before .before .before .before .before in omega (arith, start .pre, said-fits (c .before .before .before)) })
+    (λ c. record {
+      fits = let start = c .before .before .before .before .before .before .before .before .before in omega
+          (arith, start .pre, said-fits (c .before .before .before));
+    })
     (λ c. search needs)
     (λ c. search needs)
     (λ c κs. search needs)
     (λ c κs. search needs)
-    (λ c. let start = c .before .before .before .before .before .before .before .before .before in omega (arith, start .pre, said-fits (c .before .before .before)))
+    (λ c. let start = c .before .before .before .before .before .before .before .before .before in omega
+    (arith, start .pre, said-fits (c .before .before .before)))
     (λ c. search needs)
     (λ c. search needs))

@@ -43,7 +43,8 @@ returns-2 c =
     let added = c .before .before .add .ensures in
     let e = length-take-le (a .count) (now (a .payload)) (omega (arith, start .pre .0, start .pre .1)) in
     let f = length-take-le (a .size) (at-put .put-word .last .0) (omega (arith, start .pre .3, four at-put)) in (
-      has-room (take (a .count) (now (a .payload))) (a .at) (a .value) (a .size) (omega (arith, e, at-if .if1 .left)) _ _ (at-put .put-word .ensures) (added .reads),
+      has-room (take (a .count) (now (a .payload))) (a .at) (a .value) (a .size) (omega (arith, e, at-if .if1 .left)) _ _ (at-put .put-word .ensures)
+          (added .reads),
       omega (arith, added .moved, f, at-if .if1 .left),
     )
 

@@ -17,15 +17,19 @@ returns c =
     let a = at-if .before .before .before .before .before .args in
     let added = c .before .before .add-record .ensures in (
       ap Record (added .0 .reads)
-          ∙ ap (λ (ws : List Word). closed (a .kind) (Payload (now (a .payload)) ws)) (sym (no-word (now (a .line)) (a .at) (w .result) (w .ensures) (at-if .if1 .taken))),
+          ∙ ap (λ (ws : List Word). closed (a .kind) (Payload (now (a .payload)) ws))
+          (sym (no-word (now (a .line)) (a .at) (w .result) (w .ensures) (at-if .if1 .taken))),
       added .1,
     )
 
 returns-2 : tie.Need-returns-2
 returns-2 c =
     let w = c .before .next-word in
-    let a = c .before .before .before .before .before .args in
-    (ap (λ (ws : List Word). closed (a .kind) (Payload (now (a .payload)) ws)) (sym (a-word (now (a .line)) (a .at) (w .result) (w .ensures) (c .if1 .left))), tt)
+    let a = c .before .before .before .before .before .args in (
+      ap (λ (ws : List Word). closed (a .kind) (Payload (now (a .payload)) ws))
+          (sym (a-word (now (a .line)) (a .at) (w .result) (w .ensures) (c .if1 .left))),
+      tt,
+    )
 
 pub close-line-spec : {M : Type 1} → statement M
 close-line-spec =

@@ -21,7 +21,8 @@ returns-2 c =
     let w = at-if .before .next-word in
     let a = at-if .before .before .before .before .args in
     let r = c .before .before .read-kind .ensures in (
-      r .0 ∙ some-line (a .rule) (now (a .line)) _ _ (at-kind .kind-named .result) (a-word (now (a .line)) 0 (w .result) (w .ensures) (at-if .if1 .left)) (at-kind .kind-named .ensures),
+      r .0 ∙ some-line (a .rule) (now (a .line)) _ _ (at-kind .kind-named .result) (a-word (now (a .line)) 0 (w .result) (w .ensures) (at-if .if1 .left))
+          (at-kind .kind-named .ensures),
       r .1,
     )
 

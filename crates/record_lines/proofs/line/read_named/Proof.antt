@@ -17,7 +17,8 @@ returns c =
     let a = at-same .before .before .before .before .before .before .args in
     let tested = is-same (at-same .same .result) _ _ (at-same .same .ensures .0) (at-same .same .ensures .1) in (
       c .before .before .close-line .ensures .0
-          ∙ ap (closed Command) (sr-set (now (a .line)) (a .at) (a .code) (w .result) (w .ensures) (sym tested ∙ c .before .before .before .before .before .if1 .taken)),
+          ∙ ap (closed Command) (sr-set (now (a .line)) (a .at) (a .code) (w .result) (w .ensures)
+          (sym tested ∙ c .before .before .before .before .before .if1 .taken)),
       c .before .before .close-line .ensures .1,
     )
 
@@ -28,7 +29,8 @@ returns-2 c =
     let a = at-same .before .before .before .before .before .before .args in
     let tested = is-same (at-same .same .result) _ _ (at-same .same .ensures .0) (at-same .same .ensures .1) in (
       c .before .before .close-line2 .ensures .0
-          ∙ ap (closed Command) (sr-plain (now (a .line)) (a .at) (a .code) (w .result) (w .ensures) (sym tested ∙ c .before .before .before .before .before .if1 .left)),
+          ∙ ap (closed Command) (sr-plain (now (a .line)) (a .at) (a .code) (w .result) (w .ensures)
+          (sym tested ∙ c .before .before .before .before .before .if1 .left)),
       c .before .before .close-line2 .ensures .1,
     )
 

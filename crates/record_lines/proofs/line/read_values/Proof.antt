@@ -14,7 +14,8 @@ use Rattle.record_lines.proofs.line.read_values.Statement.{statement}
 use Rattle.record_lines.proofs.line.read_values.Tie as tie
 
 -- the bytes and the place of a payload that was taken
-taken-fits : (c : tie.After-taken) → (c .taken .given .0 .0 ≤ 240) × (c .taken .given .0 .1 .0 ≤ length (now (c .before .before .before .before .before .before .before .args .line)))
+taken-fits : (c : tie.After-taken) → (c .taken .given .0 .0 ≤ 240) ×
+    (c .taken .given .0 .1 .0 ≤ length (now (c .before .before .before .before .before .before .before .args .line)))
 taken-fits c =
     let took = c .before .before .before .take-words in
     subst (TakenFits (now (c .before .before .before .before .before .before .before .args .line))) (c .taken .given .1) (took .ensures .1)
@@ -22,7 +23,8 @@ taken-fits c =
 room : (c : tie.After-taken) → length (c .before .before .before .take-words .last .1 .1 .1 .1 .1 .0) ≡ 240
 room c = search needs
 
-all : (c : tie.After-taken) → let payload = c .before .before .before .take-words .last .1 .1 .1 .1 .1 .0 in length (take (c .taken .given .0 .0) payload) ≡ c .taken .given .0 .0
+all : (c : tie.After-taken) → let payload = c .before .before .before .take-words .last .1 .1 .1 .1 .1 .0 in length (take (c .taken .given .0 .0) payload)
+    ≡ c .taken .given .0 .0
 all c =
     let payload = c .before .before .before .take-words .last .1 .1 .1 .1 .1 .0 in
     length-take-le (c .taken .given .0 .0) payload (omega (arith, room c, taken-fits c .0))
@@ -43,7 +45,8 @@ close-line-requires c κs =
     let at-taken = c .before .before .before .before in
     let start = at-taken .before .before .before .before .before .before .before in
     let fits = taken-fits at-taken in
-    let few : length (take (at-taken .taken .given .0 .0) (at-taken .before .before .before .take-words .last .1 .1 .1 .1 .1 .0)) ≤ 240 = omega (arith, all at-taken, fits .0) in
+    let few : length (take (at-taken .taken .given .0 .0) (at-taken .before .before .before .take-words .last .1 .1 .1 .1 .1 .0)) ≤ 240 = omega
+    (arith, all at-taken, fits .0) in
     (fits .1, few, start .pre .1)
 
 returns-2 : tie.Need-returns-2

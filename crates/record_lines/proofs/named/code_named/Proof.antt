@@ -28,7 +28,8 @@ loop-again : tie.Need-loop-again Inv-loop μ-loop
 loop-again c =
     let at-test = c .before .before in
     let l = at-test .before in
-    code-next (now (l .before .before .args .text)) (l .loop .code) (l .loop .inv) (at-test .loop-test .taken) (sym (c .before .is-name .ensures) ∙ c .if1 .left)
+    code-next (now (l .before .before .args .text)) (l .loop .code) (l .loop .inv) (at-test .loop-test .taken)
+    (sym (c .before .is-name .ensures) ∙ c .if1 .left)
 
 returns-2 : tie.Need-returns-2 Inv-loop μ-loop
 returns-2 c = let l = c .before in (code-none (now (l .before .before .args .text)) (l .loop .code) (l .loop .inv) (c .loop-test .left), omega arith)

@@ -35,7 +35,8 @@ returns-3 c =
     let at-read = at-told .before .before in
     let at-size = at-read .before .before in
     let a = at-size .before .before .args in (
-      c .decimal-value2 .ensures .0 ∙ by-hex (a .rule) (now (a .text)) (at-size .size-for .result) (at-size .size-for .ensures .0) _ (at-read .before .if1 .left)
+      c .decimal-value2 .ensures .0 ∙ by-hex (a .rule) (now (a .text)) (at-size .size-for .result) (at-size .size-for .ensures .0) _
+          (at-read .before .if1 .left)
           (sym (at-told .enum-told .given .1) ∙ at-read .read-hex .ensures .0),
       c .decimal-value2 .ensures .1,
     )

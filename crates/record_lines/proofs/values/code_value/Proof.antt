@@ -14,14 +14,16 @@ returns-2 : tie.Need-returns-2
 returns-2 c =
     let at-hex = c .before in
     let at-read = at-hex .before .before in (
-      two-digits (now (at-read .before .before .before .args .text)) _ (at-read .before .if1 .left) (sym (at-hex .hex .given .1) ∙ at-read .read-hex .ensures .0),
+      two-digits (now (at-read .before .before .before .args .text)) _ (at-read .before .if1 .left)
+          (sym (at-hex .hex .given .1) ∙ at-read .read-hex .ensures .0),
       (omega arith, omega arith),
     )
 
 returns-3 : tie.Need-returns-3
 returns-3 c =
     let at-read = c .before .before in (
-      two-digits (now (at-read .before .before .before .args .text)) _ (at-read .before .if1 .left) (sym (c .enum-told .given .1) ∙ at-read .read-hex .ensures .0),
+      two-digits (now (at-read .before .before .before .args .text)) _ (at-read .before .if1 .left)
+          (sym (c .enum-told .given .1) ∙ at-read .read-hex .ensures .0),
       omega arith,
     )
 

@@ -18,7 +18,8 @@ returns-2 c = (ap decimalValue (sym (c .before .reading2 .given .1) ∙ c .befor
 returns-3 : tie.Need-returns-3
 returns-3 c =
     let at-reading = c .before .before in (
-      ap (λ (f : Fault). Wrong f 0) (c .refused-fault .ensures) ∙ ap decimalValue (sym (at-reading .reading3 .given .1) ∙ at-reading .before .before .read .ensures .0),
+      ap (λ (f : Fault). Wrong f 0) (c .refused-fault .ensures) ∙ ap decimalValue
+          (sym (at-reading .reading3 .given .1) ∙ at-reading .before .before .read .ensures .0),
       omega arith,
     )
 
@@ -26,7 +27,8 @@ returns-4 : tie.Need-returns-4
 returns-4 c =
     let at-reading = c .before .before in
     let read = at-reading .before .before .read in (
-      ap (λ (f : Fault). Wrong f (at-reading .reading4 .given .0 .1 .0)) (c .decimal-fault .ensures) ∙ ap decimalValue (sym (at-reading .reading4 .given .1) ∙ read .ensures .0),
+      ap (λ (f : Fault). Wrong f (at-reading .reading4 .given .0 .1 .0)) (c .decimal-fault .ensures) ∙ ap decimalValue
+          (sym (at-reading .reading4 .given .1) ∙ read .ensures .0),
       subst Placed (at-reading .reading4 .given .1) (read .ensures .1),
     )
 

@@ -16,7 +16,8 @@ returns c =
     let at-scan = at-scanned .before .before in
     let a = at-scan .before .before .args in (
       c .ranged-value .ensures .0
-          ∙ all-digits (a .kind) (now (a .text)) _ _ (sym (at-scanned .scanned .given .1) ∙ at-scan .scan .ensures .0) _ (at-if .if1 .taken) (c .before .number-of .ensures),
+          ∙ all-digits (a .kind) (now (a .text)) _ _ (sym (at-scanned .scanned .given .1) ∙ at-scan .scan .ensures .0) _ (at-if .if1 .taken)
+          (c .before .number-of .ensures),
       c .ranged-value .ensures .1,
     )
 

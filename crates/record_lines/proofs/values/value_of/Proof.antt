@@ -21,20 +21,29 @@ by-form form rule kind text e = ap (λ (f : Form). valueBy f rule kind text) e
 returns : tie.Need-returns
 returns c =
     let at-form = c .before .before .before in
-    let a = at-form .before .before .args in
-    (c .byte-value .ensures .0 ∙ by-form Bytes (a .rule) (a .kind) (now (a .text)) (sym (c .before .enum-told .given .1) ∙ at-form .form-of .ensures), c .byte-value .ensures .1)
+    let a = at-form .before .before .args in (
+      c .byte-value .ensures .0 ∙ by-form Bytes (a .rule) (a .kind) (now (a .text))
+          (sym (c .before .enum-told .given .1) ∙ at-form .form-of .ensures),
+      c .byte-value .ensures .1,
+    )
 
 returns-2 : tie.Need-returns-2
 returns-2 c =
     let at-form = c .before .before .before in
-    let a = at-form .before .before .args in
-    (c .number-value .ensures .0 ∙ by-form Numbered (a .rule) (a .kind) (now (a .text)) (sym (c .before .enum-told2 .given .1) ∙ at-form .form-of .ensures), c .number-value .ensures .1)
+    let a = at-form .before .before .args in (
+      c .number-value .ensures .0 ∙ by-form Numbered (a .rule) (a .kind) (now (a .text))
+          (sym (c .before .enum-told2 .given .1) ∙ at-form .form-of .ensures),
+      c .number-value .ensures .1,
+    )
 
 returns-3 : tie.Need-returns-3
 returns-3 c =
     let at-form = c .before .before .before in
-    let a = at-form .before .before .args in
-    (c .code-value .ensures .0 ∙ by-form Code (a .rule) (a .kind) (now (a .text)) (sym (c .before .enum-told3 .given .1) ∙ at-form .form-of .ensures), c .code-value .ensures .1)
+    let a = at-form .before .before .args in (
+      c .code-value .ensures .0 ∙ by-form Code (a .rule) (a .kind) (now (a .text))
+          (sym (c .before .enum-told3 .given .1) ∙ at-form .form-of .ensures),
+      c .code-value .ensures .1,
+    )
 
 returns-4 : tie.Need-returns-4
 returns-4 c =

@@ -35,7 +35,8 @@ returns-2 c =
     let at-told = c .before .before .before .before in
     let at-form = at-told .before .before in
     let a = at-form .before .before .before .args in (
-      by-form Number (a .kind) (now (a .payload)) (sym (at-told .enum-told2 .given .1) ∙ at-form .form-of .ensures) (c .before .before .add-counted .ensures .0),
+      by-form Number (a .kind) (now (a .payload)) (sym (at-told .enum-told2 .given .1) ∙ at-form .form-of .ensures)
+          (c .before .before .add-counted .ensures .0),
       omega (arith, c .before .before .add-counted .ensures .1),
     )
 
