@@ -194,7 +194,8 @@ fn add_word_line(out: &mut [u8], rule: Rule, exact: bool, word: u32) -> usize
 // The line of a decimal that was brought to the word, with its mark.
 fn add_brought_line(out: &mut [u8], rule: Rule, word: u32, text: &[u8], brought: Brought) -> usize
     requires { ⌜ (length (now text) ≤ 64) × (256 ≤ length (now out)) ⌝ }
-    ensures { λ r. ⌜ Adds (broughtLine rule word (now (text .entry)) brought) (now (out .entry)) (now (out .exit)) 0 r ⌝ }
+    ensures { λ r. ⌜ Adds (broughtLine rule word (now (text .entry)) brought) (now (out .entry))
+        (now (out .exit)) 0 r ⌝ }
 {
     let a = add_digits(out, 0, word as u64, 16, 8);
     let b = add(out, a, b" ");

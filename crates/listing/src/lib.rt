@@ -8,7 +8,8 @@ ghost use lib.ListN.{length, take};
 ghost use Rattle.io.specs.Counts.{Counts};
 ghost use Rattle.little.specs.Little.{wordAt};
 ghost use Rattle.listing.specs.Text.{Adds};
-ghost use Rattle.listing.specs.Listing.{replyRoom, textRoom, field, dataText, lineOf, endOf, wholeSize, kindFrom, Front, replyLine, linesOf, listingOf, printedOf};
+ghost use Rattle.listing.specs.Listing.{replyRoom, textRoom, field, dataText, lineOf, endOf, wholeSize, kindFrom};
+ghost use Rattle.listing.specs.Listing.{Front, replyLine, linesOf, listingOf, printedOf};
 use crate::text::add;
 use crate::text::add_decimal;
 use crate::text::add_hex;
@@ -53,7 +54,8 @@ fn add_line(
     bytes: &[u8],
 ) -> usize
     requires { ⌜ place + length (lineOf number kind refusal (now bytes)) ≤ length (now out) ⌝ }
-    ensures { λ r. ⌜ Adds (lineOf number kind refusal (now (bytes .entry))) (now (out .entry)) (now (out .exit)) place r ⌝ }
+    ensures { λ r. ⌜ Adds (lineOf number kind refusal (now (bytes .entry))) (now (out .entry)) (now (out .exit)) place r
+        ⌝ }
 {
     let a = add_decimal(out, place, number);
     let b = add_field(out, a, kind);
@@ -186,7 +188,8 @@ fn lesser(a: usize, b: usize) -> usize
 // Of the replies it lists those that the report counts as written.
 pub fn add_printed(out: &mut [u8], replies: &[u8; REPLY_ROOM], report: &[u8; 9]) -> usize
     requires { ⌜ textRoom ≤ length (now out) ⌝ }
-    ensures { λ r. ⌜ Adds (printedOf (now (replies .entry)) (now (report .entry))) (now (out .entry)) (now (out .exit)) 0 r ⌝ }
+    ensures { λ r. ⌜ Adds (printedOf (now (replies .entry)) (now (report .entry))) (now (out .entry)) (now (out .exit))
+        0 r ⌝ }
     ensures { λ r. ⌜ r ≤ textRoom ⌝ }
 {
     let taken = four_at(report, 1);

@@ -145,7 +145,8 @@ all-zero (r ∷ rs) k room t s h =
     let o = one-zero k r room (eventsIn rs) (t .0) (t .1) s h in
     ap₂ (λ (x y : List ℕ). x ++ y) (o .0) (all-zero rs (runOf k r room .state) (room - length (runOf k r room .written)) (t .2) (o .1) (o .2))
 
-module _ (g : Given) (C : Chosen g) (c : Core) (M : Meets g c) (state : List ℕ) (w : ℕ) (sr : ℕ → Bool) (ks : List Step) (rs : List (List ℕ)) (replies report : List ℕ)
+module _ (g : Given) (C : Chosen g) (c : Core) (M : Meets g c) (state : List ℕ) (w : ℕ) (sr : ℕ → Bool) (ks : List Step) (rs : List (List ℕ))
+    (replies report : List ℕ)
     (K : Carries g state w sr ks rs replies report) where
   abbrev card : Card
   card = cardIn (settingsIn g) state
@@ -217,7 +218,19 @@ chain-met = record {
     record { bytes = omega arith; good = ours-state refl; whole = refl; proper = record { fits = lit< tt; is-proper = refl } },
     (
       record { fits = lit< tt; is-proper = refl },
-      (record { fits = lit< tt; is-proper = refl }, (tt, (record { fits = lit< tt; is-proper = refl }, (record { fits = lit< tt; is-proper = refl }, (record { fits = lit< tt; is-proper = refl }, tt))))),
+      (
+        record { fits = lit< tt; is-proper = refl },
+        (
+          tt,
+          (
+            record { fits = lit< tt; is-proper = refl },
+            (
+              record { fits = lit< tt; is-proper = refl },
+              (record { fits = lit< tt; is-proper = refl }, tt),
+            ),
+          ),
+        ),
+      ),
     ),
     leZ-yes tt,
   );

@@ -69,14 +69,17 @@ lines-are (r ∷ rs) s room number h =
     let more = joined (repliesOf (o .state) rs (room - length (o .written))) in
     ap (λ (l : List ℕ). linesOf number (l ++ more)) w
     ∙ reply-listed number (kindOf e) n (dataOf s e) more (low e)
-    ∙ ap₂ (λ (x y : List ℕ). x ++ y) (line r (kindOf e) n (dataOf s e) (o .written) (theirs-record one .held .kind-is) w) (lines-are rs (o .state) (room - length (o .written)) (number + 1) (h .2))
+    ∙ ap₂ (λ (x y : List ℕ). x ++ y) (line r (kindOf e) n (dataOf s e) (o .written) (theirs-record one .held .kind-is) w)
+    (lines-are rs (o .state) (room - length (o .written)) (number + 1) (h .2))
   where
-    line : (r : List ℕ) (kind n : ℕ) (bytes reply : List ℕ) → getD r 2 0 + getD r 3 0 * 256 ≡ kind → reply ≡ replyOf kind n bytes → lineOf number kind n bytes ≡ recordLine number r reply
+    line : (r : List ℕ) (kind n : ℕ) (bytes reply : List ℕ) → getD r 2 0 + getD r 3 0 * 256 ≡ kind → reply ≡ replyOf kind n bytes
+        → lineOf number kind n bytes ≡ recordLine number r reply
     line r kind n bytes reply k w =
         ap (λ (t : List ℕ). their-decimal number ++ ((32 ∷ their-decimal kind) ++ ((32 ∷ their-decimal n) ++ (t ++ (10 ∷ []))))) (data-same bytes)
         ∙ ap (λ (t : List ℕ). t ++ ((32 ∷ their-decimal kind) ++ ((32 ∷ their-decimal n) ++ (hexText bytes ++ (10 ∷ []))))) (decimal-is number)
         ∙ ap₂ (λ (t u : List ℕ). decimal number ++ ((32 ∷ t) ++ ((32 ∷ u) ++ (hexText bytes ++ (10 ∷ []))))) (decimal-is kind) (decimal-is n)
-        ∙ ap₂ (λ (x : ℕ) (l : List ℕ). decimal number ++ ((32 ∷ decimal x) ++ ((32 ∷ decimal (getD l 4 0)) ++ (hexText (drop 5 l) ++ (10 ∷ []))))) (sym k) (sym w)
+        ∙ ap₂ (λ (x : ℕ) (l : List ℕ). decimal number ++ ((32 ∷ decimal x) ++ ((32 ∷ decimal (getD l 4 0)) ++ (hexText (drop 5 l) ++ (10 ∷ []))))) (sym k)
+        (sym w)
 
 last-is : (refusal taken : ℕ) → endOf refusal taken ≡ lastLine refusal taken
 last-is refusal taken = ap₂ (λ (t u : List ℕ). 101 ∷ 110 ∷ 100 ∷ ((32 ∷ t) ++ ((32 ∷ u) ++ (10 ∷ [])))) (decimal-is refusal) (decimal-is taken)
@@ -186,9 +189,11 @@ digit-more n l h p =
 spells : (most n : ℕ) → n < 10 ^ most → Decimal n (spelled most n)
 unfolding spelled
 spells zero n h = let e : n < 1 = h in record { value = omega arith; digits = tt; first = λ z. absurd (omega arith) }
-spells (suc most) n h = pick (spells most (n / 10) (div-lt-iff-lt-mul {k = 10} {x = n} {y = 10 ^ most} (lit< tt) .1 (subst (λ (x : ℕ). n < x) (pow-suc 10 most) h))) (ltb n 10) refl
+spells (suc most) n h = pick (spells most (n / 10) (div-lt-iff-lt-mul {k = 10} {x = n} {y = 10 ^ most} (lit< tt) .1 (subst (λ (x : ℕ). n < x) (pow-suc 10 most)
+    h))) (ltb n 10) refl
   where
-    pick : Decimal (n / 10) (spelled most (n / 10)) → (b : Bool) → ltb n 10 ≡ b → Decimal n (cond b (digit n ∷ []) (spelled most (n / 10) ++ (digit (n % 10) ∷ [])))
+    pick : Decimal (n / 10) (spelled most (n / 10)) → (b : Bool)
+        → ltb n 10 ≡ b → Decimal n (cond b (digit n ∷ []) (spelled most (n / 10) ++ (digit (n % 10) ∷ [])))
     pick p true e = one-digit n (ltb-true n 10 e)
     pick p false e = digit-more n (spelled most (n / 10)) (ltb-false n 10 e) p
 

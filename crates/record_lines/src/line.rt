@@ -18,7 +18,8 @@ ghost use lib.ListN.{length, take};
 ghost use Rattle.listing.specs.Text.{Adds};
 ghost use Rattle.terms.specs.Limits.{mostPayload};
 ghost use Rattle.record_lines.specs.Values.{Sized};
-ghost use Rattle.record_lines.specs.Line.{recordRoom, recordBytes, put, PutsAs, wordsTaken, TakesAs, lineOf, SaysAs};
+ghost use Rattle.record_lines.specs.Line.{recordRoom, recordBytes, put, PutsAs, wordsTaken, TakesAs, lineOf};
+ghost use Rattle.record_lines.specs.Line.{SaysAs};
 ghost use Rattle.record_lines.specs.Line.{closedLine, valuesLine, srLine, namedLine, kindLine};
 
 // The most bytes of a payload, and of a record.
@@ -48,7 +49,8 @@ pub enum Line {
 // A number of so many bytes behind those that are there.
 fn add_number(payload: &mut [u8], count: usize, at: usize, value: u32, size: usize) -> Put
     requires { ⌜ (length (now payload) ≡ mostPayload) × (count ≤ mostPayload) × (1 ≤ size) × (size ≤ 4) ⌝ }
-    ensures { λ r. ⌜ PutsAs (put (take count (now (payload .entry))) at (Value.Number value size)) (now (payload .exit)) r ⌝ }
+    ensures { λ r. ⌜ PutsAs (put (take count (now (payload .entry))) at (Value.Number value size)) (now (payload .exit))
+        r ⌝ }
 {
     if MOST_PAYLOAD < count + size {
         return Put::Wrong(Fault::ManyBytes, at);
@@ -79,7 +81,8 @@ fn take_words(
     payload: &mut [u8],
 ) -> Taken
     requires { ⌜ (length (now payload) ≡ mostPayload) × (from ≤ length (now line)) ⌝ }
-    ensures { λ r. ⌜ TakesAs (wordsTaken many rule kind (now (line .entry)) from) (now (line .entry)) (now (payload .exit)) r ⌝ }
+    ensures { λ r. ⌜ TakesAs (wordsTaken many rule kind (now (line .entry)) from) (now (line .entry))
+        (now (payload .exit)) r ⌝ }
 {
     let mut count = 0;
     let mut at = from;

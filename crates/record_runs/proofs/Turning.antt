@@ -96,7 +96,8 @@ module _ (on : Settings) (p : Place) (c : Held) (file room : List ℕ) where
   took e a s m {left = left} ep ea ek er eb el there has =
       let k = cardUnder on c in
       let d = length-dataOf k e in
-      let long : 5 + answeredOf e ≡ length (replyOf (kindOf e) (numberOf (answerOf k (take (payloadOf e) (drop 4 file)) e .refusal)) (dataOf k e)) = omega (arith, d) in
+      let long : 5 + answeredOf e ≡ length (replyOf (kindOf e) (numberOf (answerOf k (take (payloadOf e) (drop 4 file)) e .refusal)) (dataOf k e)) = omega
+      (arith, d) in
       let t : Passed on p (turnBy k file (length room) (Whole e)) (finished s m (further p (4 + payloadOf e) (5 + answeredOf e))) file room left =
       rw (le-ltb (length room) (5 + answeredOf e) has) (
         ap (further p (4 + payloadOf e)) long,
@@ -118,7 +119,8 @@ module _ (on : Settings) (p : Place) (c : Held) (file room : List ℕ) where
 
   -- a record of an event that asks no payload and answers no data
   module _ (after : Held) {kind : ℕ} (e : Event) (h : Leaves (cardUnder on c) (cardUnder on after) kind e) where
-    pub bare-no-room : {r : Pass} → r ≡ unchanged NoRoom c p → length room < 5 → Passed on p (turnBy (cardUnder on c) file (length room) (Whole e)) r file room room
+    pub bare-no-room : {r : Pass} → r ≡ unchanged NoRoom c p → length room < 5 → Passed on p (turnBy (cardUnder on c) file (length room) (Whole e)) r file room
+        room
     bare-no-room er less = no-room e er (omega (arith, h .no-data .0))
 
     pub bare : {r : Pass} {left : List ℕ} → r ≡ finished (after .chip) (after .memory) (further p 4 5) → left ≡ le2 3 ++ (le2 kind ++ (0 ∷ drop 5 room))
@@ -147,7 +149,8 @@ stored room bytes h =
     ∙ ap (λ (l : List ℕ). bytes ++ l) (sym (drop-drop (length bytes) 5 room))
 
 -- the status byte as the data of a reply, and the memory's two bytes
-pub status-data : (c : Card) (room : List ℕ) (b : ℕ) → b ≡ readOf (c .chip) .byte → 6 ≤ length room → drop 5 (sets room 5 (b ∷ [])) ≡ dataOf c Status ++ drop 1 (drop 5 room)
+pub status-data : (c : Card) (room : List ℕ) (b : ℕ) → b ≡ readOf (c .chip) .byte → 6 ≤ length room → drop 5 (sets room 5 (b ∷ [])) ≡ dataOf c Status
+    ++ drop 1 (drop 5 room)
 status-data c room b e h = stored room (b ∷ []) h ∙ ap (λ (x : ℕ). x ∷ drop 1 (drop 5 room)) e
 
 pub recall-data : (c : Card) (room : List ℕ) → c .chip .status < 128 → 7 ≤ length room

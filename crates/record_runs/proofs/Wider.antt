@@ -1,4 +1,5 @@
--- Under a wider limit a record that did not stop with 7 is the record that it was: only a length or a count over the narrower limit tells them apart, and that is 7. Assumes nothing.
+-- Under a wider limit a record that did not stop with 7 is the record that it was: only a length or a count over the narrower limit tells them apart, and that
+-- is 7. Assumes nothing.
 use mathlib.Core.Path.{_≡_, refl, sym, ap, _∙_}
 use mathlib.Core.List.{List}
 use Prim.Native.Nat.{ℕ, _+_, _-_, _≤_, _<_}

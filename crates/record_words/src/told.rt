@@ -112,7 +112,8 @@ fn add_command(out: &mut [u8], place: usize, code: u8) -> usize
 // A push: its name and its bytes as words.
 fn add_push(out: &mut [u8], place: usize, kind: Kind, payload: &[u8]) -> usize
     requires { ⌜ place + 16 + 3 * length (now payload) ≤ length (now out) ⌝ }
-    ensures { λ r. ⌜ Adds (textBy Form.Bytes kind (now (payload .entry))) (now (out .entry)) (now (out .exit)) place r ⌝ }
+    ensures { λ r. ⌜ Adds (textBy Form.Bytes kind (now (payload .entry))) (now (out .entry))
+        (now (out .exit)) place r ⌝ }
     ensures { λ r. ⌜ r ≤ place + 16 + 3 * length (now (payload .entry)) ⌝ }
 {
     let next = add_kind(out, place, kind);
@@ -122,7 +123,8 @@ fn add_push(out: &mut [u8], place: usize, kind: Kind, payload: &[u8]) -> usize
 // A kind with a number.
 fn add_counted(out: &mut [u8], place: usize, kind: Kind, payload: &[u8]) -> usize
     requires { ⌜ place + 32 ≤ length (now out) ⌝ }
-    ensures { λ r. ⌜ Adds (textBy Form.Number kind (now (payload .entry))) (now (out .entry)) (now (out .exit)) place r ⌝ }
+    ensures { λ r. ⌜ Adds (textBy Form.Number kind (now (payload .entry))) (now (out .entry)) (now (out .exit)) place r
+        ⌝ }
     ensures { λ r. ⌜ r ≤ place + 32 ⌝ }
 {
     let next = add_kind(out, place, kind);

@@ -1,6 +1,8 @@
 // The program behind ./records: `records RULE text` reads lines of text from standard input and writes the records that
-// they say; `records RULE read` reads a record file and writes a line for each record. The last line is `end`; or `wrong`,
-// the number of the line, the place in it and the number of the fault; or `stopped`, the bytes before the record that has
+// they say; `records RULE read` reads a record file and writes a line for each record. The last line is `end`; or
+// `wrong`,
+// the number of the line, the place in it and the number of the fault; or `stopped`, the bytes before the record that
+// has
 // no words and the refusal. What stands before a last line that is not `end` is no answer.
 use libc::STDIN_FILENO;
 use libc::STDOUT_FILENO;

@@ -15,7 +15,8 @@ use Rattle.listing.specs.Text.{digit, decimal, Adds}
 use Rattle.listing.specs.Listing.{newline, field, printedOf}
 use Rattle.listing.proofs.Adding.{nothing}
 use Rattle.listing.proofs.Decimal.{at-most}
-use Rattle.sheet_text.specs.Printout.{sheetWord, openWord, wordText, wordsText, sheetText, sheetsText, openText, figureText, figuresText, figuresFor, restText, printedFor, printoutOf, toldOf}
+use Rattle.sheet_text.specs.Printout.{sheetWord, openWord, wordText, wordsText, sheetText, sheetsText, openText, figureText, figuresText, figuresFor}
+use Rattle.sheet_text.specs.Printout.{restText, printedFor, printoutOf, toldOf}
 
 -- the line of a sheet has room
 pub sheet-length : (l : List ℕ) → length (sheetText l) ≡ length (decimal (fourAt l 0)) + 43

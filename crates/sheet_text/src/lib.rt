@@ -7,7 +7,9 @@ ghost use Rattle.io.specs.Counts.{Counts};
 ghost use Rattle.sheet_bytes.specs.Ledger.{sheetsBytes, mostSheets, placeBytes, closedIn, linesOf};
 ghost use Rattle.sheet_figures.specs.Telling.{figuresBytes};
 ghost use Rattle.listing.specs.Text.{Adds};
-ghost use Rattle.sheet_text.specs.Printout.{lineRoom, openRoom, figuresRoom, restRoom, wordFrom, wordsText, sheetText, sheetsText, openText, figureText, countsText, figuresText, restText, printoutUnder, toldOf};
+ghost use Rattle.sheet_text.specs.Printout.{lineRoom, openRoom, figuresRoom, restRoom, wordFrom, wordsText};
+ghost use Rattle.sheet_text.specs.Printout.{sheetText, sheetsText, openText, figureText, countsText, figuresText};
+ghost use Rattle.sheet_text.specs.Printout.{restText, printoutUnder, toldOf};
 use listing::REPLY_ROOM;
 use listing::add_field;
 use listing::add_printed;
@@ -74,7 +76,8 @@ fn add_sheet(out: &mut [u8], place: usize, line: &[u8]) -> usize
 
 // A line for each closed sheet, in order.
 fn add_sheets(out: &mut [u8], place: usize, sheets: &[u8]) -> usize
-    requires { ⌜ (length (now sheets) ≡ sheetsBytes) × (closedIn (now sheets) ≤ mostSheets) × (place + lineRoom * mostSheets ≤ length (now out)) ⌝ }
+    requires { ⌜ (length (now sheets) ≡ sheetsBytes) × (closedIn (now sheets) ≤ mostSheets)
+        × (place + lineRoom * mostSheets ≤ length (now out)) ⌝ }
     ensures { λ r. ⌜ Adds (sheetsText (linesOf (now (sheets .entry)))) (now (out .entry)) (now (out .exit)) place r ⌝ }
     ensures { λ r. ⌜ r ≤ place + lineRoom * mostSheets ⌝ }
 {
@@ -182,7 +185,8 @@ pub fn told(
     text: &mut [u8; PRINT_ROOM],
 ) -> usize
     ensures { λ r. ⌜ Counts r (now (text .exit)) ⌝ }
-    ensures { λ r. ⌜ take r (now (text .exit)) ≡ toldOf words (now (first .entry)) (now (second .entry)) (now (input .entry)) ⌝ }
+    ensures { λ r. ⌜ take r (now (text .exit)) ≡ toldOf words (now (first .entry)) (now (second .entry))
+        (now (input .entry)) ⌝ }
 {
     let asked = options::asked_of(words, first, second);
     match asked {

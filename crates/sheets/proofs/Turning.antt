@@ -122,7 +122,8 @@ module _ (sheets : List ℕ) (kind refusal : ℕ) where
   reset-drops z k = rw (eq-eqb refusal 0 z, eq-eqb kind 5 k)
 
 -- ---- a card whose state is not busy stays one
-own-card : (h : Held) (kind : ℕ) (e : Entered) (x y : Bool) → cond x (cond y (idle (coreNumber NoRoom) h) (answered h kind e)) (idle (coreNumber BadLength) h) .state .card ≡ h .card
+own-card : (h : Held) (kind : ℕ) (e : Entered) (x y : Bool) → cond x (cond y (idle (coreNumber NoRoom) h) (answered h kind e)) (idle (coreNumber BadLength) h)
+    .state .card ≡ h .card
 own-card h kind e true true = refl
 own-card h kind e true false = refl
 own-card h kind e false true = refl
@@ -133,7 +134,8 @@ unfolding lineOf
 calm-line h l room r = by (isOwn l)
   where
     stays-calm : ownTurn h l room .state .card .chip .status < 128
-    stays-calm = subst (λ (k : Card). k .chip .status < 128) (sym (own-card h (wordAt l 2) (entryOf h (wordAt l 2) (bytesAt l 4 (payloadFor (wordAt l 2)))) (eqb (wordAt l 0) (2 + payloadFor (wordAt l 2))) (ltb room 5))) (r .ready)
+    stays-calm = subst (λ (k : Card). k .chip .status < 128) (sym (own-card h (wordAt l 2) (entryOf h (wordAt l 2) (bytesAt l 4 (payloadFor (wordAt l 2))))
+        (eqb (wordAt l 0) (2 + payloadFor (wordAt l 2))) (ltb room 5))) (r .ready)
 
     by : (b : Bool) → cond b (ownTurn h l room) (coreBy h (wordAt l 2) (turnOf (h .card) l room)) .state .card .chip .status < 128
     by true = stays-calm

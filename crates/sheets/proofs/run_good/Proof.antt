@@ -31,7 +31,8 @@ run-lines-requires c κs =
     )
 
 put-card-requires : tie.Need-put-card-requires
-put-card-requires c κs = let e = c .before .before .before .before .before .before .before .before .before .before .before .before .before .before .before .before .before in state-sized (now (e .args .state)) (e .pre .0)
+put-card-requires c κs = let e = c .before .before .before .before .before .before .before .before .before .before .before .before .before .before .before
+    .before .before in state-sized (now (e .args .state)) (e .pre .0)
 
 cast-fill-report : tie.Need-cast-fill-report
 cast-fill-report c =
@@ -47,7 +48,8 @@ fill-report-requires c κs =
 
 same-length-2 : tie.Need-same-length-2
 same-length-2 c =
-    let at-run = c .before .before .before .before .before .before .before .before .before .before .before .before .before .before .before .before .before .before in
+    let at-run = c .before .before .before .before .before .before .before .before .before .before .before .before .before .before .before .before .before
+    .before in
     let held = at-run .before .before .before .before .before .before .before .before .before .before .pre .1 in
     let sheets = at-run .run-lines .last .1 .1 .1 .0 in
     let long : length sheets ≡ sheetsBytes = search needs in
@@ -55,17 +57,21 @@ same-length-2 c =
 
 same-length-3 : tie.Need-same-length-3
 same-length-3 c =
-    let at-run = c .before .before .before .before .before .before .before .before .before .before .before .before .before .before .before .before .before .before in
+    let at-run = c .before .before .before .before .before .before .before .before .before .before .before .before .before .before .before .before .before
+    .before in
     same-room (at-run .run-lines .ensures)
 
 same-length-4 : tie.Need-same-length-4
 same-length-4 c =
-    let at-run = c .before .before .before .before .before .before .before .before .before .before .before .before .before .before .before .before .before .before in
-    ap length (c .before .before .before .fill-report .ensures) ∙ sym (at-run .before .before .before .before .before .before .before .before .before .before .pre .2)
+    let at-run = c .before .before .before .before .before .before .before .before .before .before .before .before .before .before .before .before .before
+    .before in
+    ap length (c .before .before .before .fill-report .ensures) ∙ sym (at-run .before .before .before .before .before .before .before .before .before .before
+    .pre .2)
 
 returns : tie.Need-returns
 returns c =
-    let at-run = c .before .before .before .before .before .before .before .before .before .before .before .before .before .before .before .before .before .before in
+    let at-run = c .before .before .before .before .before .before .before .before .before .before .before .before .before .before .before .before .before
+    .before in
     let a = at-run .before .before .before .before .before .before .before .before .before .before .args in
     let on = given (a .mode) (a .rule) in
     let l = now (a .state) in
@@ -76,9 +82,12 @@ returns c =
     let o = r .result in
     let sheets = r .last .1 .1 .1 .0 in
     let left = r .last .1 .1 .1 .1 .1 .0 in
-    let ran = subst (λ (k : Card). Ran on (runOf (held k (now (a .sheets))) input (length replies)) o sheets input replies left) (ap₂ (cardWith on) (read .0) (read .1)) (r .ensures) in
-    called (length l) (runOf (held (cardIn on l) (now (a .sheets))) input (length replies)) (o .refusal) (cardUnder on (o .card)) (o .place .taken) (o .place .written) input replies
-    left _ sheets _ ran (c .before .before .before .before .before .before .before .before .before .before .put-card .ensures) (c .before .before .before .fill-report .ensures)
+    let ran = subst (λ (k : Card). Ran on (runOf (held k (now (a .sheets))) input (length replies)) o sheets input replies left) (ap₂ (cardWith on) (read .0)
+    (read .1)) (r .ensures) in
+    called (length l) (runOf (held (cardIn on l) (now (a .sheets))) input (length replies)) (o .refusal) (cardUnder on (o .card)) (o .place .taken)
+    (o .place .written) input replies
+    left _ sheets _ ran (c .before .before .before .before .before .before .before .before .before .before .put-card .ensures)
+    (c .before .before .before .fill-report .ensures)
 
 pub run-good-spec : {M : Type 1} → statement M
 run-good-spec =

@@ -62,7 +62,13 @@ read-bytes-spec =
     (λ c. let l = c .before .before .loop in omega (arith, l .inv .places, c .before .before .before .before .pre .0, c .before .loop-test .taken))
     (λ c κs. search needs)
     (λ c. omega (arith, c .before .before .before .loop .inv .places))
-    (λ c. let at-test = c .before .before .before in omega (arith, at-test .before .loop .inv .places, at-test .before .before .before .pre .0, at-test .loop-test .taken))
+    (λ c. let at-test = c .before .before .before in omega (
+      arith,
+      at-test .before .loop .inv .places,
+      at-test .before .before .before .pre .0,
+      at-test
+          .loop-test .taken,
+    ))
     (λ c κs. search needs)
     returns
     returns-2

@@ -20,7 +20,8 @@ use Rattle.record_runs.proofs.step.pass_record.Tie as tie
 abbrev At-frame : Type 0
 At-frame = tie.After-known-told
 
-frame : (k : At-frame) → let l = now (k .before .before .before .before .before .before .args .rest) in frameUnder mostPayload l ≡ Framed (k .before .n .given .0 .0)
+frame : (k : At-frame) → let l = now (k .before .before .before .before .before .before .args .rest) in frameUnder mostPayload l ≡ Framed (k .before .n .given
+    .0 .0)
 frame k = sym (k .before .before .before .read-frame .ensures) ∙ k .before .n .given .1
 
 fit : (k : At-frame) → Fits mostPayload (now (k .before .before .before .before .before .before .args .rest)) (k .before .n .given .0 .0)

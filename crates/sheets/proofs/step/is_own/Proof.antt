@@ -24,7 +24,8 @@ returns-2 : tie.Need-returns-2
 returns-2 c = let e = c .before .before .before .before .before .before .before .before in sym (not-own (now (e .args .rest)) (λ o. omega (arith, o .least)))
 
 returns-3 : tie.Need-returns-3
-returns-3 c = let e = c .before .before .before .before .before .before .before .before .before in sym (not-own (now (e .args .rest)) (λ o. omega (arith, o .most)))
+returns-3 c = let e = c .before .before .before .before .before .before .before .before .before
+    in sym (not-own (now (e .args .rest)) (λ o. omega (arith, o .most)))
 
 returns-4 : tie.Need-returns-4
 returns-4 c =

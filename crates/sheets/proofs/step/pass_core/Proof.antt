@@ -27,8 +27,11 @@ returns c =
     let on = given (a .mode) (a .rule) in
     let l = now (a .rest) in
     let r = at-record .pass-record in
-    let t = turnOf (cardUnder on (a .card)) l (length (now (a .room))) in
-    (r .ensures .0, core-turns (held (cardUnder on (a .card)) (now (a .sheets))) (wordAt l 2) t _ _ _ _ _ _ _ _ (r .ensures .1) (refused-keeps (now (a .sheets)) (wordAt l 2) (t .refusal) (λ z. c .if1 .taken (r .ensures .1 .refusal-is ∙ z))))
+    let t = turnOf (cardUnder on (a .card)) l (length (now (a .room))) in (
+      r .ensures .0,
+      core-turns (held (cardUnder on (a .card)) (now (a .sheets))) (wordAt l 2) t _ _ _ _ _ _ _ _ (r .ensures .1) (refused-keeps (now (a .sheets))
+          (wordAt l 2) (t .refusal) (λ z. c .if1 .taken (r .ensures .1 .refusal-is ∙ z))),
+    )
 
 -- a record that the core took has four bytes
 abbrev At-taken : Type 0
@@ -56,8 +59,11 @@ returns-2 c =
     let on = given (a .mode) (a .rule) in
     let l = now (a .rest) in
     let r = at-record .pass-record in
-    let t = turnOf (cardUnder on (a .card)) l (length (now (a .room))) in
-    (r .ensures .0, core-turns (held (cardUnder on (a .card)) (now (a .sheets))) (wordAt l 2) t _ _ _ _ _ _ _ _ (r .ensures .1) (other-keeps (now (a .sheets)) (wordAt l 2) (t .refusal) (λ z. c .if2 .taken (c .before .word .ensures ∙ z))))
+    let t = turnOf (cardUnder on (a .card)) l (length (now (a .room))) in (
+      r .ensures .0,
+      core-turns (held (cardUnder on (a .card)) (now (a .sheets))) (wordAt l 2) t _ _ _ _ _ _ _ _ (r .ensures .1) (other-keeps (now (a .sheets))
+          (wordAt l 2) (t .refusal) (λ z. c .if2 .taken (c .before .word .ensures ∙ z))),
+    )
 
 returns-3 : tie.Need-returns-3
 returns-3 c =
@@ -69,7 +75,8 @@ returns-3 c =
     let t = turnOf (cardUnder on (a .card)) l (length (now (a .room))) in (
       r .ensures .0,
       core-turns (held (cardUnder on (a .card)) (now (a .sheets))) (wordAt l 2) t _ _ _ _ _ _ _ _ (r .ensures .1) (c .before .before .drop-open .ensures
-          ∙ reset-drops (now (a .sheets)) (wordAt l 2) (t .refusal) (sym (r .ensures .1 .refusal-is) ∙ c .before .before .before .before .before .before .before .before .if1 .left) (sym (c .before .before .before .before .before .word .ensures) ∙ c .before .before .before .before .if2 .left)),
+          ∙ reset-drops (now (a .sheets)) (wordAt l 2) (t .refusal) (sym (r .ensures .1 .refusal-is) ∙ c .before .before .before .before .before .before .before
+          .before .if1 .left) (sym (c .before .before .before .before .before .word .ensures) ∙ c .before .before .before .before .if2 .left)),
     )
 
 pub pass-core-spec : {M : Type 1} → statement M

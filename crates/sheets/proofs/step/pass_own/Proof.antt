@@ -19,20 +19,24 @@ shared-slice-read-word : tie.Need-shared-slice-read-word
 shared-slice-read-word c = let e = c .before .before .before .before in let o = owns (now (e .args .rest)) (e .pre .1) in omega (arith, o .there, o .in-range)
 
 shared-slice-read-word-2 : tie.Need-shared-slice-read-word-2
-shared-slice-read-word-2 c = let e = c .before .before .before .before .before in let o = owns (now (e .args .rest)) (e .pre .1) in omega (arith, o .there, o .in-range)
+shared-slice-read-word-2 c = let e = c .before .before .before .before .before in let o = owns (now (e .args .rest)) (e .pre .1)
+    in omega (arith, o .there, o .in-range)
 
 shared-slice-read-word-3 : tie.Need-shared-slice-read-word-3
-shared-slice-read-word-3 c = let e = c .before .before .before .before .before .before .before .before in let o = owns (now (e .args .rest)) (e .pre .1) in omega (arith, o .there, o .in-range)
+shared-slice-read-word-3 c = let e = c .before .before .before .before .before .before .before .before in let o = owns (now (e .args .rest)) (e .pre .1)
+    in omega (arith, o .there, o .in-range)
 
 shared-slice-read-word-4 : tie.Need-shared-slice-read-word-4
-shared-slice-read-word-4 c = let e = c .before .before .before .before .before .before .before .before .before in let o = owns (now (e .args .rest)) (e .pre .1) in omega (arith, o .there, o .in-range)
+shared-slice-read-word-4 c = let e = c .before .before .before .before .before .before .before .before .before in let o = owns (now (e .args .rest)) (e .pre .1)
+    in omega (arith, o .there, o .in-range)
 
 returns : tie.Need-returns
 returns c =
     let a = c .before .before .before .before .before .before .before .before .before .before .before .before .args in
     let at-word = c .before .before .before .before .before .before in
     λ on. own-bad on (a .place) (a .card) (now (a .sheets)) (now (a .rest)) (now (a .room)) (c .stop .ensures)
-    (λ z. c .before .if1 .taken (c .before .before .word2 .ensures ∙ z ∙ ap (λ (k : ℕ). 2 + payloadFor k) (sym (at-word .word .ensures)) ∙ ap (λ (k : ℕ). 2 + k) (sym (c .before .before .before .before .before .payload-for .ensures .0))))
+    (λ z. c .before .if1 .taken (c .before .before .word2 .ensures ∙ z ∙ ap (λ (k : ℕ). 2 + payloadFor k) (sym (at-word .word .ensures))
+    ∙ ap (λ (k : ℕ). 2 + k) (sym (c .before .before .before .before .before .payload-for .ensures .0))))
 
 add-if2 : tie.Need-add-if2
 add-if2 c = omega (arith, c .before .before .before .before .before .before .before .before .before .before .before .before .pre .2 .low)

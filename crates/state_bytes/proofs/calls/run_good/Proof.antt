@@ -67,7 +67,8 @@ returns c =
     let left = r .last .1 .1 .1 .1 .0 in
     let ran =
     subst (λ (k : Card). Ran on (runOf k input (length replies)) o input replies left) (ap₂ (cardWith on) (held .0) (held .1)) (r .ensures) in
-    called (length l) (runOf (cardIn on l) input (length replies)) (o .refusal) (cardUnder on (o .card)) (o .place .taken) (o .place .written) input replies left _ _
+    called (length l) (runOf (cardIn on l) input (length replies)) (o .refusal) (cardUnder on (o .card)) (o .place .taken) (o .place .written) input replies
+    left _ _
     ran (c .before .before .before .before .before .before .before .before .before .before .put-card .ensures) (c .before .before .before .fill-report .ensures)
 
 pub run-good-spec : {M : Type 1} → statement M
