@@ -2,7 +2,7 @@
 # for temporary files, and that has read tests/kit.sh and scripts/archives.sh. Defines page_modules, page_file.
 
 # the programs that the page runs, and the calls that it makes for the state behind each record
-page_programs='buslist sheetlist formulas steps word'
+page_programs='buslist sheetlist formulas steps word records'
 page_calls='pundaliket_run sheets_run'
 
 # page_modules: each program and library, compiled and linked for WebAssembly, to $work/NAME.wasm
@@ -59,6 +59,15 @@ page_data() {
     echo 'const WHY = {'
     sed -n 's/^ *why\[\([0-9]*\)\] = \(".*"\)$/\1: \2,/p' "$top/scripts/words.awk"
     sed -n 's/^ *\(3[0-9]\)) said=\(".*"\) ;;$/\1: \2,/p; s/^ *\*) said=\(".*"\) ;;$/33: \1,/p' "$top/formula"
+    echo '};'
+    echo '// why a line of records in words is wrong'
+    echo 'const FAULTS = {'
+    awk '/^why\(\)/ { inside = 1 } /^}/ { inside = 0 }
+        inside && /\) echo ".*" ;;$/ {
+            split($0, parts, /"/)
+            sub(/\).*/, "")
+            for (i = 1; i <= NF; i++) if ($i != "|") print $i ": \"" parts[2] "\","
+        }' "$top/records"
     echo '};'
     echo '// the examples with their listings, and the trial run of each program: its input, its arguments, its output'
     echo 'const EXAMPLES = ['

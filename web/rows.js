@@ -45,7 +45,7 @@ const memory = state => {
 
 const recordRow = (r, words, i, decimals) => {
   const row = r.rows[i], { as, stack, half, popped } = words[i], before = i ? words[i - 1].stack : [0, 0, 0, 0];
-  const record = cell('record', texts.record(row.kind, row.payload));
+  const record = cell('record proved', r.words[i]);
   if (row.refusal) record.append(make('span', { className: 'why' }, `✗ refused ${row.refusal}: ${WHY[row.refusal]}`));
   else if (half) record.append(small('half a word: bytes as they stand'));
   const line = cell('proved', r.lines[i]);
@@ -66,7 +66,7 @@ const endRow = r => {
   return make('tr', { className: 'bad' }, number, record, end, make('td', { colSpan: 6 }, why));
 };
 
-const RECORD_HEAD = ['byte', 'record', 'program\'s line (proved)', 'A (top)', 'B', 'C', 'D',
+const RECORD_HEAD = ['byte', 'record (proved)', 'line (proved)', 'A (top)', 'B', 'C', 'D',
   'status, service, half word', 'error memory'];
 
 const recordTable = async (r, nearest, wanted) => {
@@ -95,13 +95,13 @@ const sheetTable = async (r, nearest, wanted) => {
     rows.push(() => make('tr', { className: 'bad' }, cell(''), open, make('td', { colSpan: 4 }, why)));
   }
   await table($('sheets'), '', ['sheet', 'serial', 'slot 0', 'slot 1', 'slot 2', 'slot 3'], rows, wanted);
-  if (wanted()) $('sheets').append(figureTable(figures));
+  const [sum] = await runs.told([figures.sum], { form: 'sum' });
+  if (wanted()) $('sheets').append(figureTable(figures, sum));
 };
 
-const figureTable = figures => {
+const figureTable = (figures, sum) => {
   const said = { lines: 'sheets closed', serials: 'different serials', repeated: 'serials on more than one sheet',
-    improper: 'words of slot 0 that are no proper floats',
-    sum: `slot 0 adds up to ${texts.sum(figures.sum)}, exactly` };
+    improper: 'words of slot 0 that are no proper floats', sum: `slot 0 adds up to ${sum}, exactly` };
   const row = name => make('tr', {}, cell('proved', `${name} ${figures[name]}`), cell('long', said[name]));
   return make('table', {}, head(['figures (proved)', 'in words']), make('tbody', {}, ...Object.keys(said).map(row)));
 };

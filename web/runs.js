@@ -45,6 +45,23 @@ const runs = (() => {
     return { rows, same: last.every((byte, i) => byte === whole[i]) };
   };
 
+  // The records of a file in words, a line each.
+  const recordWords = async input => {
+    const said = texts.ascii(await programs.run('records', input, ['cut', 'read']));
+    if (!said.endsWith('\nend\n')) throw Error('a record that was done has no words');
+    return said.split('\n').slice(0, -3);
+  };
+
+  // The record file of records in words; throws the line, the character and the reason where one is wrong.
+  const recordBytes = async (text, nearest) => {
+    const written = await programs.run('records', text, [nearest ? 'nearest' : 'cut', 'text']);
+    const said = texts.ascii(written);
+    if (said.endsWith('\nend\n')) return written.slice(0, -5);
+    const wrong = /\nwrong (\d+) (\d+) (\d+)\n$/.exec(said);
+    if (!wrong) throw Error('what the program wrote is not whole');
+    throw Error(`line ${wrong[1]}, character ${Number(wrong[2]) + 1}: ${FAULTS[wrong[3]]}`);
+  };
+
   const lineOf = (row, i) => [i + 1, row.kind, row.refusal, texts.hexes(row.data)].join(' ').trim();
 
   // The listing of a file, and its rows; `agree` where each row says what the program's line says.
@@ -55,8 +72,9 @@ const runs = (() => {
     if (end < 0 || !said.endsWith('\n')) throw Error('what the program wrote is not whole');
     const [, refusal, taken] = lines[end].split(' ').map(Number);
     const { rows, same } = await rowsOf(job, input, taken, settings);
-    const agree = same && rows.length === end && rows.every((row, i) => lineOf(row, i) === lines[i]);
-    return { input, said, lines, end, refusal, taken, rows, agree };
+    const words = await recordWords(input.subarray(0, taken)), number = rows.length === end && words.length === end;
+    const agree = same && number && rows.every((row, i) => lineOf(row, i) === lines[i]);
+    return { input, said, lines, words, end, refusal, taken, rows, agree };
   };
 
   // The record file of a formula, or the refusal.
@@ -72,13 +90,13 @@ const runs = (() => {
 
   const steps = async words => texts.ascii(await programs.run('steps', NONE, words));
 
-  // What the program tells of each text, a decimal or a word: a line each. It reads 65,536 bytes at a time.
-  const told = async (list, { nearest, exact }) => {
+  // What the program tells of each text, in the form `short` or `exact` for a decimal or a word, `sum` for a sum of the
+  // figures: a line each. It reads 65,536 bytes at a time.
+  const told = async (list, { nearest, form = 'short' }) => {
     const lines = [];
     for (let at = 0; at < list.length; at += 900) {
       const part = list.slice(at, at + 900).map(text => text.slice(0, 65).replace(/[^ -~]/g, '?') + '\n').join('');
-      const words = [nearest ? 'nearest' : 'cut', exact ? 'exact' : 'short'];
-      const said = texts.ascii(await programs.run('word', texts.encoded(part), words));
+      const said = texts.ascii(await programs.run('word', texts.encoded(part), [nearest ? 'nearest' : 'cut', form]));
       if (!said.endsWith('end\n')) throw Error('what the program wrote is not whole');
       lines.push(...said.split('\n').slice(0, -2));
     }
@@ -89,12 +107,12 @@ const runs = (() => {
   // The decimals of float words: the fewest places that give the word back, ≈ in front where that is not its value.
   const decimals = async (words, nearest) => {
     const list = [...new Set(words)];
-    const lines = await told(list.map(word => texts.hex(word, 8)), { nearest, exact: false });
+    const lines = await told(list.map(word => texts.hex(word, 8)), { nearest });
     return new Map(list.map((word, i) => {
       const [, text, mark] = lines[i].split(' ');
       return [word, mark === 'improper' ? `${text} improper` : mark ? `≈${text}` : text];
     }));
   };
 
-  return { listing, formula, steps, told, decimals };
+  return { listing, recordBytes, formula, steps, told, decimals };
 })();

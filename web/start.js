@@ -36,7 +36,7 @@ const listen = () => {
   $('file').addEventListener('change', event => takeFile(event.target.files[0]));
   $('form').addEventListener('change', event => {
     if (chosen) takeFile(chosen, event.target.value);
-    else takeText('pasted text', $('text').value);
+    else takeText('pasted text', $('text').value, event.target.value === 'words' ? 'words' : 'hex');
   });
   $('example').addEventListener('change', event => takeExample(event.target.value));
   $('code').addEventListener('change', () => Promise.all(operands.map(o => o.rekind())).then(run));

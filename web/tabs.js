@@ -2,7 +2,7 @@
 let job = 'list', turn = 0; // the tab that is shown, the number of the last run
 let source = null, chosen = null; // the records that are listed; the file that they came from, until its text is edited
 let result = null; // what can be saved
-const LETTERS = 'abcdefgh', HEX_TEXT_MOST = 4 << 20;
+const LETTERS = 'abcdefgh', TEXT_MOST = 1 << 18;
 const settings = () => ({ older: $('part').value === 'older', nearest: $('rule').value === 'nearest' });
 
 const clear = () => {
@@ -89,16 +89,23 @@ const ending = r => {
 
 // ---- the jobs: each says its sentence and gives the program's text, and the record file where there is one
 
+// The record bytes of what came in; throws where that is wrong.
+const bytesOf = async ({ form, raw }) => {
+  if (form !== 'bytes' && raw.length > TEXT_MOST) throw Error('over 256 kB: too long for the text of a run');
+  if (form === 'hex') return texts.hexBytes(raw);
+  return form === 'words' ? runs.recordBytes(raw, settings().nearest) : raw.subarray(0, texts.MOST);
+};
+
 const runFile = async wanted => {
   let input;
   if (!source) {
-    invitation('Drop a record file on this page, choose one, paste hex text, or take an example.');
+    invitation('Drop a record file on this page, choose one, paste its text, or take an example.');
     return null;
   }
   try {
-    if (source.form === 'hex' && source.raw.length > HEX_TEXT_MOST) throw Error('over 4 MB: too long for a hex text');
-    input = source.form === 'hex' ? texts.hexBytes(source.raw) : source.raw.subarray(0, texts.MOST);
+    input = await bytesOf(source);
   } catch (error) {
+    if (!wanted()) return null;
     sentence(`${source.name}, ${error.message}.`, true);
     return null;
   }
@@ -183,7 +190,7 @@ const runWords = async wanted => {
     invitation('Write decimals or words above, parted by blanks or lines.');
     return null;
   }
-  const lines = await runs.told(given, { nearest: settings().nearest, exact: $('exact').checked });
+  const lines = await runs.told(given, { nearest: settings().nearest, form: $('exact').checked ? 'exact' : 'short' });
   if (!wanted()) return null;
   const bad = lines.filter(line => /^(refused|wrong)/.test(line)).length;
   if (bad) sentence(`${bad} of ${given.length} have no word.`, true);
@@ -250,17 +257,18 @@ const take = (name, raw, form) => {
 const takeFile = async (file, form) => {
   if (!file) return;
   chosen = file;
-  const as = form || (/\.hex$/i.test(file.name) ? 'hex' : 'bytes'), most = as === 'hex' ? HEX_TEXT_MOST : texts.MOST;
+  const as = form || (/\.hex$/i.test(file.name) ? 'hex' : /\.txt$/i.test(file.name) ? 'words' : 'bytes');
+  const most = as === 'bytes' ? texts.MOST : TEXT_MOST;
   const raw = new Uint8Array(await file.slice(0, most + 1).arrayBuffer());
   if (chosen !== file) return;
-  $('text').value = as === 'hex' ? new TextDecoder().decode(raw) : texts.hexes(raw);
+  $('text').value = as === 'bytes' ? texts.hexes(raw) : new TextDecoder().decode(raw);
   if (job !== 'sheets') show('list', 'later');
   await take(file.name, raw, as);
 };
-const takeText = (name, text) => {
+const takeText = (name, text, form = texts.isHexText(text) ? 'hex' : 'words') => {
   chosen = null;
   $('file').value = '';
-  return text.trim() ? take(name, texts.encoded(text), 'hex') : (source = null, run());
+  return text.trim() ? take(name, texts.encoded(text), form) : (source = null, run());
 };
 const takeExample = name => {
   const example = EXAMPLES.find(e => e.name === name);

@@ -69,30 +69,14 @@ const texts = (() => {
     return text && (mark || a < 128) ? 'If that was hex text, choose so beside the file.' : '';
   };
 
-  const NAMES = { 1: 'push', 2: 'pop', 4: 'status', 5: 'reset', 6: 'acknowledge', 7: 'recall', 8: 'forget', 256: 'open',
-    257: 'keep', 258: 'close' };
+  // A text that people pasted is hex text if there is no other letter in it, but for comments.
+  const isHexText = text => !/[^0-9A-Fa-fxX,\s]/.test(text.replace(/#.*/g, ''));
+
   // the derived functions, which are not carried, from code 02 on
   const DERIVED = ['SIN', 'COS', 'TAN', 'ASIN', 'ACOS', 'ATAN', 'LOG', 'LN', 'EXP', 'PWR'];
   const code = byte => {
     const name = CODES[byte & 127] || DERIVED[(byte & 127) - 2];
     return name ? name + (byte & 128 ? ' sr' : '') : `command ${hex(byte, 2)}`;
-  };
-
-  // The bytes of a push as words of four, then one of two, then one; a word's low byte was pushed first.
-  const pushed = bytes => {
-    const words = [];
-    for (let at = 0, size; at < bytes.length; at += size) {
-      size = bytes.length - at >= 4 ? 4 : bytes.length - at >= 2 ? 2 : 1;
-      words.push(hexes(bytes.slice(at, at + size).reverse()).replace(/ /g, ''));
-    }
-    return words.join(' ');
-  };
-
-  // A record in words.
-  const record = (kind, payload) => {
-    if (kind === 3) return code(payload[0]);
-    const number = payload.reduceRight((sum, byte) => sum * 256 + byte, 0);
-    return [NAMES[kind], ...(payload.length ? [kind === 1 ? pushed(payload) : number] : [])].join(' ');
   };
 
   // The bits of a status: a short name for a lamp, the bit, and its name in words.
@@ -112,12 +96,5 @@ const texts = (() => {
     return `character ${place}: ${said[what]}`;
   };
 
-  // A sum of the figures, a sign and hex digits of its magnitude times 2^88, as an exact decimal.
-  const sum = figure => {
-    const scaled = BigInt(`0x${figure.slice(1)}`), one = 1n << 88n;
-    const places = (scaled % one * 10n ** 88n / one).toString().padStart(88, '0').replace(/0+$/, '');
-    return `${figure[0] === '-' ? '-' : ''}${scaled / one}.${places || '0'}`;
-  };
-
-  return { MOST, BITS, hex, hexes, ascii, encoded, hexBytes, mistaken, record, code, said, noWord, sum };
+  return { MOST, BITS, hex, hexes, ascii, encoded, hexBytes, mistaken, isHexText, code, said, noWord };
 })();

@@ -89,10 +89,11 @@ const pasted = async () => {
   for (const [bad, why] of [['06 00\n0x', 'line 2: "0x" has no digits behind it'], ['0', 'line 1: "0" is half a byte'],
     ['GG', 'line 1: "G" is no hex digit'], [':10', 'line 1: this is Intel HEX']]) {
     await set('text', bad);
+    await set('form', 'hex', 'change');
     has('hex text', await text('sentence'), why);
     is('nothing else is shown', await text('said') + await text('rows'), '');
   }
-  await choose(file('long.hex', Buffer.alloc(4 * 1024 * 1024 + 1, '# ')));
+  await choose(file('long.hex', Buffer.alloc(256 * 1024 + 1, '# ')));
   await until(`${element('sentence')}.textContent.includes('too long')`, 'a long hex text');
   await set('text', '');
   has('nothing to run', await text('sentence'), 'Drop a record file on this page');
@@ -102,6 +103,30 @@ const pasted = async () => {
   has('text taken as bytes', await text('sentence'), 'If that was hex text, choose so');
   await set('form', 'hex', 'change');
   has('the same as hex text', await text('sentence'), 'stopped at byte 0 with 6: the file ends inside a record');
+};
+
+const inWords = async () => {
+  await tab('list');
+  const bytes = Buffer.from([record(1, [0, 0, 0xF0, 3, 0, 0, 0xA0, 2]), record(3, [0x92]), record(2, [4])].flat());
+  const words = 'push 7.5 2.5 # two words\nFMUL sr\npop 4\n', rows = 'push 03F00000 02A00000|FMUL sr|pop 4';
+  const shown = "[...document.querySelectorAll('#rows tr:not(:last-child) td.record')].map(e => e.textContent).join('|')";
+  await set('text', words);
+  is('records in words, pasted', await text('said'), listing('list', bytes));
+  has('the words of each row', await js(shown), rows);
+  is('the record file saved', await saved('save-record', 'pasted text.bin'), bytes);
+  await picture('listing_in_words');
+  await choose(file('unit.txt', words));
+  is('the same in a file', await text('said'), listing('list', bytes));
+  for (const [bad, why] of [['push 7.5\nFMULL', 'line 2, character 1: this names no record and no command'],
+    ['push 7', 'line 1, character 7: this is neither two, four or eight hex digits'],
+    ['pop 241', 'line 1, character 5: the number is not in its range']]) {
+    await set('text', bad);
+    has('records in words', await text('sentence'), `✗ pasted text, ${why}`);
+    is('nothing else is shown', await text('said') + await text('rows'), '');
+  }
+  await set('text', 'FADD');
+  await set('form', 'words', 'change');
+  has('a name of hex digits', await text('sentence'), '✓ pasted text: run to its end, 1 record in 5 bytes');
 };
 
 const settings = async () => {
@@ -387,9 +412,9 @@ const wrong = async () => {
 await browser.size(1366, 768);
 await opened(page);
 await picture('opened');
-has('tried on opening', await text('tried'), `${EXAMPLES.length} examples and 5 programs, none differs`);
-const parts = [files, pasted, settings, refusals, downloads, printed, formulas, steps, words, keys, sizes, hurried,
-  longest, closed, wrong];
+has('tried on opening', await text('tried'), `${EXAMPLES.length} examples and 6 programs, none differs`);
+const parts = [files, pasted, inWords, settings, refusals, downloads, printed, formulas, steps, words, keys, sizes,
+  hurried, longest, closed, wrong];
 for (const part of parts) {
   const before = count.compared;
   await part();

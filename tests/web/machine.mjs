@@ -6,14 +6,15 @@ import { join } from 'node:path';
 import { counter, drawnFile, drawnFormula, draws, examples, machine, native } from './parts.mjs';
 
 const [page, top] = process.argv.slice(2), { count, is } = counter(), draw = draws(9511);
-const parts = await machine(page), { runs, texts, sha256, FormulaReader, MODULES, CODES, WHY } = parts;
+const parts = await machine(page), { runs, texts, sha256, FormulaReader, MODULES, CODES, WHY, FAULTS } = parts;
 const codes = Object.keys(CODES).map(Number), PROGRAM = { list: 'buslist', sheets: 'sheetlist' };
 const SETTINGS = [{}, { nearest: true }, { older: true }, { older: true, nearest: true }];
 const words = ({ older, nearest }) => [...(older ? ['--am9511'] : []), ...(nearest ? ['--nearest'] : [])];
 const many = (n, make) => Array.from({ length: n }, make);
 const latin = bytes => Buffer.from(bytes).toString('latin1');
 
-// ---- listings, and the state behind a record: what the native program pops behind it, and tells of status and errors
+// ---- listings, and the state behind a record: what the program trace tells of it; of a file with sheets what the native
+// program pops behind it, and tells of status and errors
 
 const ASKED = [3, 0, 2, 0, 16, 2, 0, 4, 0, 2, 0, 7, 0];
 const stateBehind = (job, input, settings) => {
@@ -27,6 +28,15 @@ const listed = async (job, what, input, settings, every) => {
   const r = await runs.listing(job, input, settings);
   is(`${job} ${what}`, r.said, latin(native(top, PROGRAM[job], input, words(settings))));
   is(`${job} ${what}: rows and lines`, String(r.agree), 'true');
+  const told = latin(native(top, 'records', input.subarray(0, r.taken), ['cut', 'read']));
+  is(`${job} ${what}: words of records`, [...r.words, '', 'end', ''].join('\n'), told);
+  const back = await runs.recordBytes(texts.encoded(r.words.join('\n')));
+  is(`${job} ${what}: records of the words`, back, input.subarray(0, r.taken));
+  if (job === 'list') {
+    const states = r.rows.map((row, i) => `${i + 1} ${texts.hexes(row.state)}\n`).join('');
+    is(`${job} ${what}: states`, `${states}end\n`, latin(native(top, 'trace', input, words(settings))));
+    return;
+  }
   for (const [i, row] of r.rows.entries()) {
     const behind = row.at + row.record.length;
     if (i % every !== every - 1 || behind + ASKED.length > 12288) continue;
@@ -62,18 +72,19 @@ for (const text of [...odd, ...many(150, () => drawnFormula(draw))]) {
 }
 is('formulas of each refusal', [...refusals].sort().join(' '), '0 30 31 32');
 
-// where a formula is wrong: the refusal and the place are those of scripts/formula.awk, and the refusal the program's
+// where a formula is wrong: what is said is what scripts/formula.awk says, and the refusal is the program's
 const broken = () => {
-  const text = drawnFormula(draw), at = draw(text.length + 1), pieces = ['', ' ', 'i', ')', '(', '-', '#', '+*', '#0'];
-  return draw(3) ? text.slice(0, at) + pieces[draw(9)] + text.slice(at + (text[at] === '#' ? 0 : draw(2))) : text;
+  const text = drawnFormula(draw), at = draw(text.length + 1);
+  const pieces = ['', ' ', 'i', ')', '(', '-', '#', '+*', '#0', '2.5', '1.', '.5', '7', '0.1'];
+  return draw(4) ? text.slice(0, at) + pieces[draw(pieces.length)] + text.slice(at + draw(2)) : text;
 };
-const place = line => line.split(',')[0].trim();
 for (const text of [...odd, ...many(150, broken)]) {
-  const letters = many(8, () => draw(12) ? '01800000' : '01400000'), fault = new FormulaReader(text, letters).fault();
-  const env = { ...process.env, LC_ALL: 'C', TEXT: text, WORDS: letters.join(' ') };
+  const letters = many(8, () => draw(12) ? '01800000' : '01400000'), reader = new FormulaReader(text, letters);
+  const env = { ...process.env, LC_ALL: 'C', TEXT: text, WORDS: letters.join(' ') }, fault = reader.fault();
   const said = latin(spawnSync('awk', ['-f', join(top, 'scripts/formula.awk')], { env }).stdout);
-  is(`where ${text} is wrong`, fault ? `${fault.number} ${place(fault.reason)}` : '', place(said));
-  const got = await runs.formula(letters.map(word => parseInt(word, 16)), texts.encoded(text));
+  is(`where ${text} is wrong`, fault ? `${fault.number} ${fault.reason}\n` : '', said);
+  const plain = reader.withWords(() => '01800000');
+  const got = await runs.formula(letters.map(word => parseInt(word, 16)), texts.encoded(plain));
   is(`the refusal of ${text}`, String(fault ? fault.number : 0), String(got.refusal));
 }
 
@@ -96,7 +107,7 @@ const lines = (list, rule, form) => {
 };
 for (const nearest of [false, true]) for (const exact of [false, true]) {
   const rule = nearest ? 'nearest' : 'cut', form = exact ? 'exact' : 'short';
-  const got = await runs.told(numbers, { nearest, exact });
+  const got = await runs.told(numbers, { nearest, form });
   const must = [0, 700, 1400].flatMap(from => lines(numbers.slice(from, from + 700), rule, form));
   numbers.forEach((text, i) => is(`word ${text}`, got[i], must[i]));
 }
@@ -107,7 +118,27 @@ for (const text of numbers.slice(0, 16)) {
   is(`why ${text} has no word`, String(said.includes(texts.noWord(line, text))), 'true');
 }
 
-// ---- what no program tells: hex text against scripts/hex.awk, a sum multiplied back, SHA-256, reasons for refusals
+const sums = many(200, () => '+-'[draw(2)] + digits(48)), sumLines = await runs.told(sums, { form: 'sum' });
+lines(sums, 'cut', 'sum').forEach((line, i) => is(`sum ${sums[i]}`, sumLines[i], line));
+
+// ---- records in words: right lines and wrong ones, each with its place
+
+const said = ['push 7.5 2.5', 'push 02A00000 0003 05', 'push', 'push 2', 'push 0.1', 'push 2.5x', 'FMUL', 'FMUL sr',
+  'fmul', 'SIN', 'command 0C', 'command', 'pop 4', 'pop 0', 'pop 241', 'pop x', 'status', 'status 1', 'reset', 'open 42',
+  'open 4294967296', 'keep 4', 'close', '# nothing', '', `push ${'00 '.repeat(241)}`, 'push 9223372036854775808.0',
+  '\tPUPI # pi', 'pop 4\r'];
+for (const text of [...said, ...many(150, () => many(1 + draw(6), () => said[draw(said.length)]).join('\n'))]) {
+  for (const nearest of [false, true]) {
+    const wrote = latin(native(top, 'records', Buffer.from(text), [nearest ? 'nearest' : 'cut', 'text']));
+    const wrong = /\nwrong (\d+) (\d+) (\d+)\n$/.exec(wrote), reason = wrong && FAULTS[wrong[3]];
+    const must = wrong ? `line ${wrong[1]}, character ${Number(wrong[2]) + 1}: ${reason}` : wrote.slice(0, -5);
+    const got = await runs.recordBytes(texts.encoded(text), nearest).then(latin, error => error.message);
+    is(`records ${text}`, got, must);
+    is(`records ${text}: a reason`, String(reason !== undefined), 'true');
+  }
+}
+
+// ---- what no program tells: hex text against scripts/hex.awk, SHA-256, reasons for refusals
 
 const pieces = ['00', '1f', 'A', ' ', '\t', '\n', '\r', '\r\n', '#', 'g', '# c\n', 'FF', '0x01', '0X', 'x', ',', ':',
   'S', '02 ', '03\n', '\0'];
@@ -124,12 +155,9 @@ for (const text of hexTexts.map(given => Buffer.from(given))) {
   try { got = texts.hexBytes(text); } catch (error) { got = error.message; }
   is(`hex text ${JSON.stringify(latin(text).slice(0, 40))}`, got, must);
 }
-for (let i = 0; i < 200; i++) {
-  const figure = '+-'[draw(2)] + digits(48), [, sign, whole, places] = /^(-?)(\d+)\.(\d+)$/.exec(texts.sum(figure));
-  const scaled = BigInt(whole + places) * 2n ** 88n / 10n ** BigInt(places.length);
-  is(`sum ${figure}`, `${sign || '+'}${scaled.toString(16).toUpperCase().padStart(48, '0')}`, figure);
-  const bytes = Uint8Array.from({ length: i * 3 }, () => draw(256));
-  is(`SHA-256 of ${i * 3} bytes`, sha256(bytes), createHash('sha256').update(bytes).digest('hex'));
+for (let n = 0; n < 600; n += 3) {
+  const bytes = Uint8Array.from({ length: n }, () => draw(256));
+  is(`SHA-256 of ${n} bytes`, sha256(bytes), createHash('sha256').update(bytes).digest('hex'));
 }
 is('refusals with a reason', Object.keys(WHY).join(' '), '1 2 3 4 5 6 7 8 9 20 21 22 23 24 25 30 31 32 33');
 

@@ -14,7 +14,7 @@ const atOnce = {
 export const machine = async (path, change = data => data) => {
   const html = readFileSync(path, 'utf8'), part = id => new RegExp(`<script id="${id}">([^]*?)</script>`).exec(html)[1];
   const world = vm.createContext({ WebAssembly: atOnce, atob, TextEncoder });
-  const names = 'programs, texts, runs, sha256, FormulaReader, MODULES, EXAMPLES, TRIALS, WHY, CODES';
+  const names = 'programs, texts, runs, sha256, FormulaReader, MODULES, EXAMPLES, TRIALS, WHY, FAULTS, CODES';
   vm.runInContext(`${change(part('data'))}\n${part('machine')}\nglobalThis.parts = { ${names} };`, world);
   await world.parts.programs.load();
   return world.parts;
