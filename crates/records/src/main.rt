@@ -15,11 +15,13 @@ use record_runs::head::read_frame;
 use record_runs::head::word;
 use record_words::kinds::kind_of;
 use record_words::told::add_told;
+use terms::Refusal;
 use terms::Rule;
 ghost use mathlib.Core.Path.{_≡_};
 ghost use mathlib.Core.Logic.{_⊎_};
 ghost use Prim.Native.Nat.{_+_, _≤_, _<_};
 ghost use lib.ListN.{length};
+ghost use Rattle.terms.specs.Limits.{mostInput};
 
 // The most bytes of records, and what is no number of bytes.
 const MOST_INPUT: usize = 12288;
@@ -212,12 +214,12 @@ fn write_framed(input: &[u8], at: usize, end: usize) -> usize
 // Writes the line of the record at a place, and answers where the next one begins; where it has none it writes why, and
 // answers what is no place.
 fn write_next(input: &[u8], at: usize) -> usize
-    requires { ⌜ at ≤ length (now input) ⌝ }
+    requires { ⌜ (at ≤ length (now input)) × (length (now input) ≤ mostInput) ⌝ }
     ensures { λ r. ⌜ (r ≡ 20000) ⊎ ((at < r) × (r ≤ length (now (input .entry)))) ⌝ }
 {
-    let frame = read_frame(&input[at..]);
+    let frame = read_frame(&input[at..], at as u32, input.len() as u32);
     match frame {
-        Frame::Framed(n) => write_framed(input, at, at + 4 + n),
+        Frame::Framed(n) => write_framed(input, at, at + 4 + n as usize),
         Frame::Broken(refusal) => {
             write_stopped(at, terms::number(refusal));
             STOPPED
@@ -225,8 +227,10 @@ fn write_next(input: &[u8], at: usize) -> usize
     }
 }
 
-// Writes the line of each record.
-fn write_texts(input: &[u8]) {
+// Writes the line of each record, of a file that is not too long.
+fn write_texts(input: &[u8])
+    requires { ⌜ length (now input) ≤ mostInput ⌝ }
+{
     let mut at = 0;
     while at < input.len() {
         at = write_next(input, at);
@@ -246,7 +250,11 @@ fn main() {
     let mut input = [0u8; 262144];
     let size = io::read_full(STDIN_FILENO, &mut input);
     if check::same(&what[..m], b"read") {
-        write_texts(&input[..size]);
+        if MOST_INPUT < size {
+            write_stopped(0, terms::number(Refusal::InputTooLong));
+        } else {
+            write_texts(&input[..size]);
+        }
     } else {
         write_records(rule, &input[..size]);
     }

@@ -6,7 +6,7 @@ use denote.Ref.{now}
 use native.Mathlib.Omega.{arith}
 use borrow.Author.Needs.{needs}
 use lib.ListN.{length, drop, length-drop}
-use lib.Seq.{take-all}
+use lib.Seq.{take-all, length-take-le}
 use Rattle.terms.specs.Limits.{mostPayload}
 use Rattle.record_runs.proofs.Heads.{fits, Fits}
 use Rattle.records.proofs.write_next.Statement.{statement}
@@ -29,6 +29,15 @@ ends c =
     let start = c .before .before .before .before .before in
     omega (arith, framed c .there, length-drop (start .args .at) (now (start .args .input)))
 
+-- what is left of the file from the place on
+read-frame-requires : tie.Need-read-frame-requires
+read-frame-requires c κs =
+    let start = c .before .before in
+    let input = now (start .args .input) in
+    let at = start .args .at in
+    let left = length-take-le (length input - at) (drop at input) (omega (arith, length-drop at input)) in
+    (omega (arith, left, start .pre .0), start .pre .1)
+
 write-framed-requires : tie.Need-write-framed-requires
 write-framed-requires c κs =
     let n = framed (c .before) .small in
@@ -46,7 +55,10 @@ write-next-spec =
     (λ c. search needs)
     (λ c. search needs)
     (λ c. search needs)
-    (λ c κs. search needs)
+    (λ c. search needs)
+    (λ c. search needs)
+    read-frame-requires
+    (λ c. search needs)
     (λ c. search needs)
     (λ c. search needs)
     (λ c. record { fits = omega (arith, ends (c .before)) })

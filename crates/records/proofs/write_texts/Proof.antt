@@ -26,7 +26,7 @@ write-texts-spec =
     Inv-loop
     μ-loop
     (λ c. omega arith)
-    (λ c κs. omega arith)
+    (λ c κs. (omega arith, c .before .before .before .pre))
     (λ c. search needs)
     loop-less
     loop-again
