@@ -11,10 +11,10 @@
  * the proofs. The caller's duties are C's own: that many bytes are there, so that on a processor of 32 bits no slice has
  * over 2^31 - 1; they may be written where the parameter is not const, and the slices of one call do not overlap. (An empty
  * slice still takes a pointer that is not null.) Everything else is checked: each call answers every input, with the
- * numbers of documents 01 and 02 (README.md says what these are).
+ * numbers below; docs/MANUAL.md has them in tables.
  *
- * A header of before, whose lengths are size_t, compiles and links on a processor of 32 bits and is wrong there. A program
- * that declares one of the calls once more, with uint64_t, as examples/card/card.c does, does not compile with it.
+ * A header whose lengths are size_t compiles and links on a processor of 32 bits and is wrong there. A program that declares
+ * one of the calls once more, with uint64_t, as examples/card/card.c does, does not compile with such a header.
  */
 #ifndef PUNDALIKET_H
 #define PUNDALIKET_H

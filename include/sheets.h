@@ -1,5 +1,5 @@
 /*
- * Module sheets: a second library above Pundaliket's core (requests 11 and 14 of document 02). C99 and C++17.
+ * Module sheets: a second library above Pundaliket's core. C99 and C++17.
  *
  * `rt staticlib sheets` writes target/staticlib/libsheets.a, which links into x86-64 programs; `./archive` writes it for other
  * processors too (docs/CARD.md). It holds what it needs of the core, so that a program needs libpundaliket.a beside it only
@@ -12,7 +12,7 @@
  * the proofs. The caller's duties are C's own: that many bytes are there, so that on a processor of 32 bits no slice has
  * over 2^31 - 1; they may be written where the parameter is not const, and the slices of one call do not overlap. (An empty
  * slice still takes a pointer that is not null.) Everything else is checked: each call answers every input, with the
- * numbers of documents 01 and 02 (README.md says what these are).
+ * numbers below; docs/MANUAL.md has them in tables.
  */
 #ifndef SHEETS_H
 #define SHEETS_H

@@ -1,21 +1,31 @@
-# What ./archive and tests/targets share. To be read by a script that has set `top`, the repository's folder, and `work`, a
-# folder for temporary files, and that has read tests/kit.sh.
-# Sets targets, the table of processors; defines take_module, same_object, target_names, target_row, compile_module, archive_of.
+# What ./archive, ./page and tests/targets share. To be read by a script that has set `top`, the repository's folder, and
+# `work`, a folder for temporary files, and that has read tests/kit.sh.
+# Sets targets, the table of processors, and host, what a program asks of its machine; defines take_module, same_object,
+# target_names, target_row, compile_module, archive_of.
 targets=$top/scripts/targets.txt
+host='read write rattle_arg_count rattle_arg rattle_set_errno'
 
-# make_module NAME: proves the library NAME and keeps the LLVM module that the toolchain makes of it, unless that is
-# current; sets module and library. The same proof makes the library's own archive, which then is current too.
+# is_program NAME: it is a program, and no library
+is_program() { [ -f "$top/crates/$1/src/main.rt" ]; }
+
+# make_module NAME: proves the library or program NAME and keeps the LLVM module that the toolchain makes of it, unless that
+# is current; sets module. The same proof makes the library's own archive, or the program, which then is current too.
 make_module() {
-    module=$top/target/module/$1.bc library=$top/target/staticlib/lib$1.a
-    current "$library" || rm -f "$top/target/made/$1.bc"
-    build "$module" keep_module "$1" || return 1
-    ! current "$module" || build "$library" : 2>/dev/null
+    module=$top/target/module/$1.bc own=$top/target/staticlib/lib$1.a by=staticlib
+    ! is_program "$1" || own=$top/target/bin/$1 by=check
+    current "$own" || rm -f "$top/target/made/$1.bc"
+    current "$module" || rm -f "$module"
+    build "$module" keep_module "$by" "$1" || return 1
+    ! current "$module" || current "$own" || note "$own"
 }
 
-# keep_module NAME: `rt staticlib NAME` with the kit given by links, but for its clang. In clang's place stands a script
+# keep_module VERB NAME: `rt VERB NAME` with the kit given by links, but for its clang. In clang's place stands a script
 # that keeps a copy of the module and then is clang. (The toolchain runs it in a folder of its own, with no environment.)
+# As root rt tries a program as nobody, who has to reach that kit.
 keep_module() {
     linked=$work/kit on=on/$(uname -m)
+    umask 022
+    chmod 711 "$work" || return 1
     rm -rf "$linked"
     mkdir -p "$linked/$on/toolchain/bin" "$top/target/module" || return 1
     for part in "$kit"/* "$kit/$on"/* "$kit/$on/toolchain"/* "$tools"/*; do
@@ -25,7 +35,7 @@ keep_module() {
     rm "$linked/$on/toolchain/bin/clang"
     printf '#!/bin/sh\ncp module.bc "%s" && exec "%s" "$@"\n' "$module" "$clang" >"$linked/$on/toolchain/bin/clang"
     chmod +x "$linked/$on/toolchain/bin/clang"
-    RATTLE_HOME=$linked rt staticlib "$1"
+    RATTLE_HOME=$linked rt "$1" "$2"
 }
 
 # take_module NAME: the module as text, in $work/NAME.ll, if it is fit to be compiled for another processor: compiled here
@@ -37,16 +47,21 @@ take_module() {
         echo "${0##*/}: compiled for x86-64, the module of $1 does not give the object that the toolchain made" >&2
         return 1
     fi
-    if ! awk -f "$top/scripts/pointer_width.awk" "$work/$1.ll" >"$work/$1.width"; then
+    if ! awk -v host="$host" -f "$top/scripts/pointer_width.awk" "$work/$1.ll" >"$work/$1.width"; then
         head -n 5 "$work/$1.width" >&2
         echo "${0##*/}: the module of $1 leans on the width of a pointer" >&2
         return 1
     fi
 }
 
-# same_object NAME TEXT: this module, compiled for x86-64, is the object in the library's own archive
+# same_object NAME TEXT: this module, compiled for x86-64, is the object in the library's own archive, or the program's own
 same_object() {
-    compile_text "$2" x86-64 '' "$work/own.o" && "$tools/llvm-ar" p "$top/target/staticlib/lib$1.a" "$1.o" | cmp -s - "$work/own.o"
+    if is_program "$1"; then
+        compile_text "$2" x86-64 '' "$work/own.o" -fPIE -Xclang -fmerge-functions -mllvm -mergefunc-use-aliases &&
+            cmp -s "$top/target/obj/$1.o" "$work/own.o"
+    else
+        compile_text "$2" x86-64 '' "$work/own.o" && "$tools/llvm-ar" p "$top/target/staticlib/lib$1.a" "$1.o" | cmp -s - "$work/own.o"
+    fi
 }
 
 # target_row TARGET: its line of the table; sets processor, triple, flags, loads, link_with, asks. Fails where there is none.
@@ -61,8 +76,8 @@ END
 # target_names: the targets in the table's order
 target_names() { awk '!/^#/ && NF { print $1 }' "$targets"; }
 
-# compile_text TEXT TARGET SMALL OBJECT: a module's text compiled for the target, by the toolchain's own flags less those
-# that name x86-64; for size where SMALL is not empty. What clang's front end would say of the target is said here: that a
+# compile_text TEXT TARGET SMALL OBJECT [FLAG..]: a module's text compiled for the target, by the toolchain's own flags less
+# those that name x86-64; for size where SMALL is not empty; with each FLAG too. What clang's front end would say of the target is said here: that a
 # function is for size; that no guard page lies below the stack, where there is no system; that riscv64 hands back a number of
 # 32 bits with its sign extended.
 compile_text() {
@@ -73,11 +88,13 @@ compile_text() {
     case $triple in riscv64*) back='s/^define noundef i32 @\([a-z]\)/define noundef signext i32 @\1/' ;; esac
     sed -e '/^target /d' -e 's/ "target-cpu"="[^"]*"//' -e "s/^attributes #0 = { nounwind/&$size/" -e "$probe" -e "$back" \
         "$1" >"$4.ll" || return 1
+    object=$4
+    shift 4
     # shellcheck disable=SC2086
     "$clang" --target="$triple" $flags "$level" -ffunction-sections -fdata-sections -mllvm -trap-unreachable \
-        -mllvm -no-trap-after-noreturn --no-default-config -no-canonical-prefixes -Werror -Wno-override-module \
-        -c -x ir "$4.ll" -o "$4" || return 1
-    rm "$4.ll"
+        -mllvm -no-trap-after-noreturn --no-default-config -no-canonical-prefixes -Werror -Wno-override-module "$@" \
+        -c -x ir "$object.ll" -o "$object" || return 1
+    rm "$object.ll"
 }
 
 # compile_module NAME TARGET SMALL OBJECT: the same of a module that take_module took

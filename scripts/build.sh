@@ -1,6 +1,6 @@
 # How a program or a library is proved and built, and when anew, and how a program for x86-64 is started here.
 # To be read by a script that has set `top`, the repository's folder. Defines say, room, toolchain, start, crates_of,
-# contents, current, build, make_library. Needs a POSIX shell with the usual tools of Linux; from `toolchain` on rt.
+# contents, current, note, build, make_library. Needs a POSIX shell with the usual tools of Linux; from `toolchain` on rt.
 
 # say TEXT: a line on standard error, if there is one
 say() { echo "${0##*/}: $1" >&2 || :; }
@@ -86,6 +86,11 @@ contents() {
 # current FILE: it stands as build left it, and its crates hold what they held when that began
 current() {
     [ -f "$1" ] && [ "$(cat "$top/target/made/${1##*/}" 2>/dev/null)" = "$(contents "$(crate_of "$1")") $(sha256sum <"$1")" ]
+}
+
+# note FILE: rt made it of the crates as they stand
+note() {
+    mkdir -p "$top/target/made" && [ -f "$1" ] && echo "$(contents "$(crate_of "$1")") $(sha256sum <"$1")" >"$top/target/made/${1##*/}"
 }
 
 # Only one call proves in a repository at a time. The lock is on its folder and goes with the processes that hold it.

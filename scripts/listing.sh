@@ -38,15 +38,18 @@ records() {
     [ -s "$work/input" ] || say "$named holds no bytes"
 }
 
-# in_words FILE: the listing in FILE with words behind its lines
-in_words() { awk -f "$top/scripts/words.awk" "$1"; }
+# worded FILE: the listing in FILE with words behind its lines
+worded() { awk -f "$top/scripts/words.awk" "$1"; }
+
+# in_words FILE: what is shown of the listing in FILE where words are asked for; a command that shows more defines it anew
+in_words() { worded "$1"; }
 
 # listed LAST: runs the program on the records, writes the listing, whose last line begins with LAST, and ends the script
 listed() {
     # shellcheck disable=SC2086
     ran "$work/listing" "$1" $settings
     if [ $words = yes ]; then
-        in_words "$work/listing" >"$work/words" 2>/dev/null || { unkept; fail "the words could not be added"; }
+        in_words "$work/listing" >"$work/words" || { unkept; fail "the words could not be added"; }
         written "$work/words"
     else
         written "$work/listing"

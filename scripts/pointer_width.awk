@@ -1,5 +1,6 @@
 # Is a module indifferent to the width of a pointer? Reads the module as LLVM's text, as the toolchain made it, before any
-# pass. Prints a line for each finding, then a line of counts. Ends with 0 only if there is no finding.
+# pass. Prints a line for each finding, then a line of counts. Ends with 0 only if there is no finding. `host` names the
+# functions that a program asks of its machine, which read or write bytes behind a pointer that they are lent.
 #
 # Every object is an alloca or what an exported function is lent behind a pointer. A walk finds for each pointer which
 # places (an object and an offset, ? for any) it can hold, by following it through copies, calls and memory to a fixed
@@ -9,6 +10,7 @@
 #   - no object's size rests on a pointer's, but that of `alloca ptr`, which is only stored to and loaded from as a pointer;
 #   - a pointer is stored and loaded in allocas alone, at a constant offset, and no other access, set or move touches the
 #     eight bytes from there on in part or as anything else: so a pointer of four bytes has the place of one of eight;
+#   - no object that holds a pointer is lent to the host;
 #   - every pointer that is used has a place: none came from nowhere.
 BEGIN {
     # the instructions that have to do with numbers alone
@@ -16,6 +18,9 @@ BEGIN {
     for (i = 1; i <= count; i++) plain[word[i]] = 1
     # the most bytes of each type
     size["i1"] = size["i8"] = 1; size["i16"] = 2; size["i32"] = size["float"] = 4; size["i64"] = size["double"] = size["ptr"] = 8
+    size["any bytes"] = 1
+    count = split(host, word, " ")
+    for (i = 1; i <= count; i++) of_host[word[i]] = 1
     findings = instructions = functions = 0
 }
 
@@ -203,6 +208,15 @@ function move(o, f, p, g, n,    k, c) {
     }
 }
 
+# call i is one of the host: it may touch any byte of what it is lent
+function lends(i,    k) {
+    for (k = 1; k <= passed[i]; k++) {
+        if (passed_kind[i, k] != "ptr") continue
+        accesses++
+        where[accesses] = called[i]; what[accesses] = "lending"; type[accesses] = "any bytes"; through[accesses] = passed_node[i, k]
+    }
+}
+
 # ---- what must hold at the fixed point
 
 # n bytes at offset f of object o are touched as something that is no pointer
@@ -235,6 +249,7 @@ function moves_pointers(line, o, f, p, g, n,    k, c) {
 END {
     for (i = 1; i <= calls; i++) {
         callee = callees[i]
+        if (!(callee in defined) && callee in of_host) { lends(i); continue }
         if (!(callee in defined)) { finding(called[i], "a call of a function that is not here: " callee); continue }
         if (passed[i] != takes[callee]) { finding(called[i], "a call with another number of arguments: " callee); continue }
         for (k = 1; k <= passed[i]; k++) {
@@ -253,6 +268,7 @@ END {
         if (type[i] == "ptr" && what[i] == "load" && !places[value[i]]) finding(where[i], "a pointer is loaded where none was stored")
         for (k = 1; k <= places[through[i]]; k++) {
             object = place[through[i], k]; offset = at[through[i], k]
+            if (what[i] == "lending") offset = "?"
             if (type[i] != "ptr") { touched(where[i], object, offset, size[type[i]], "a " what[i] " of " type[i]); continue }
             if (object in lent) finding(where[i], "a pointer in lent memory: " object)
             if (offset == "?") finding(where[i], "a pointer at any place of " object)

@@ -65,7 +65,8 @@ hex_digits() {
 }
 
 # record_bytes FILE HEX: what FILE holds ('-' is standard input), to $work/input: record bytes, or, where HEX is yes
-# or the name ends in .hex, hex text. Reads no further than it must. Sets named, what messages call it.
+# or the name ends in .hex, hex text, or, where HEX is text, the bytes of a text. Reads no further than it must. Sets named,
+# what messages call it.
 record_bytes() {
     named=$1
     if [ "$1" = - ]; then
@@ -76,6 +77,7 @@ record_bytes() {
         [ -r "$1" ] || fail "$1: that file cannot be read"
     fi
     case $2:$1 in
+    text:*) take=plain_bytes ;;
     yes:* | *.[Hh][Ee][Xx]) take=hex_bytes ;;
     *) take=plain_bytes ;;
     esac

@@ -1,72 +1,17 @@
 """What ./word must tell, worked out with exact fractions of whole numbers from document 01's words, against what it tells.
 
-decimals.py COUNT PROGRAM..: COUNT drawn words in short form, as many in exact form, as many drawn texts, under each rule.
+decimals.py COUNT PROGRAM..: COUNT drawn words in short form, as many in exact form, as many drawn texts, under each rule,
+and as many sums as the figures of sheets give them, a sign and 48 hex digits of the magnitude times 2^88.
 """
 import random
 import subprocess
 import sys
 
+from exact_words import MARK, brought, size88, word_line
+
 count, program = int(sys.argv[1]), sys.argv[2:]
 draw = random.Random(9511)
 ROOM = 65536
-
-
-def size88(word):
-    """The magnitude of a word's value, m times 2^(e-24), as so many parts of 2^88 to one."""
-    return (word & 0xFFFFFF) << ((word >> 24) + 64 & 127)
-
-
-def proper(word):
-    return word == 0 or bool(word & 0x800000)
-
-
-def brought(rule, negative, k, d):
-    """The word of the exact fraction k / d with its sign by a rule, and whether it is exact; or the refusal."""
-    if k == 0:
-        return 0, True
-    if k << 65 < d:
-        return 'refused 12'
-    e = k.bit_length() - d.bit_length()
-    if (k >= d << e) if e >= 0 else (k << -e >= d):
-        e += 1
-    over, under = (k << 24 - e, d) if e <= 24 else (k, d << e - 24)
-    m, rest = divmod(over, under)
-    if rule == 'nearest' and (2 * rest > under or (2 * rest == under and m % 2)):
-        m += 1
-        if m == 1 << 24:
-            m, e = 1 << 23, e + 1
-    if e > 63:
-        return 'refused 11'
-    return (0x80000000 if negative else 0) | (e % 128) << 24 | m, rest == 0
-
-
-def exact_text(word):
-    """The whole decimal expansion of a word's value: 10^88 parts to one hold it exactly."""
-    size = size88(word)
-    places = f'{(size % 2 ** 88) * 5 ** 88:088d}'.rstrip('0')
-    return f'{"-" if word >> 31 and size else ""}{size >> 88}.{places or "0"}'
-
-
-MARK = {'cut': ' cut', 'nearest': ' rounded'}
-
-
-def short_line(rule, word):
-    """The fewest places that give the word back, the nearer decimal where both do."""
-    size, negative = size88(word), word >> 31 == 1
-    for p in range(1, 28):
-        low, rest = divmod(size * 10 ** p, 2 ** 88)
-        for digits in (low + 1, low) if rest >= 2 ** 87 else (low, low + 1):
-            got = brought(rule, negative, digits, 10 ** p)
-            if not isinstance(got, str) and got[0] == word:
-                text = f'{digits // 10 ** p}.{digits % 10 ** p:0{p}d}'
-                return f'{word:08X} {"-" if negative else ""}{text}' + ('' if got[1] else MARK[rule])
-    return None
-
-
-def word_line(rule, form, word):
-    if not proper(word):
-        return f'{word:08X} {exact_text(word)} improper'
-    return f'{word:08X} {exact_text(word)}' if form == 'exact' else short_line(rule, word)
 
 
 def text_line(rule, text):
@@ -104,6 +49,16 @@ def drawn_text():
     return f'{"-" if draw.random() < 0.5 else ""}{whole}.{fraction:0{places}d}'
 
 
+def drawn_sum():
+    return f'{draw.choice("+-")}{draw.getrandbits(draw.randrange(193)) << draw.choice((0, 0, 30, 88)) & (1 << 192) - 1:048X}'
+
+
+def sum_line(text):
+    size = int(text[1:], 16)
+    places = f'{(size % 2 ** 88) * 5 ** 88:088d}'.rstrip('0')
+    return f'{"-" if text[0] == "-" and size else ""}{size >> 88}.{places or "0"}'
+
+
 cases = differ = 0
 
 
@@ -136,5 +91,7 @@ for rule in ('cut', 'nearest'):
     texts = [t for t in (drawn_text() for _ in range(count)) if len(t) <= 64]
     wanted = [text_line(rule, t) for t in texts]
     compare(rule, 'short', texts, wanted)
+sums = [drawn_sum() for _ in range(count)]
+compare('cut', 'sum', sums, [sum_line(t) for t in sums])
 print(f'{cases} cases, {differ} differ')
 sys.exit(1 if differ else 0)

@@ -1,7 +1,7 @@
 /*
  * The skeleton of a card: a bus cycle comes in, the core does it, the data byte and the service line go out, and the
  * state lies in memory that keeps its bytes without power. It is C99, calls the library and nothing else, and waits
- * for nothing; the pins, PAUSE, END and the timing are the builder's. README.md, 'Build a card', says what to add.
+ * for nothing; the pins, PAUSE, END and the timing are the builder's. docs/CARD.md says what to add.
  *
  *     card_power_up(memory);
  *     for (;;) {

@@ -1,5 +1,6 @@
 ; A module of the toolchain's forms, small enough to plant faults in: an exported function makes a pair of the lent slice, a
-; pointer and a length, and a worker copies the pair, steps to a byte and loads it. It is indifferent to a pointer's width.
+; pointer and a length, and a worker copies the pair, steps to a byte and loads it; the host reads bytes to an array. It is
+; indifferent to a pointer's width.
 define internal noundef i8 @"slice::byte"(ptr noundef %a0, i64 noundef %a1) #0 {
 start:
   %copy = alloca [16 x i8], align 8
@@ -28,7 +29,11 @@ start:
   store ptr %a0, ptr %pair, align 8
   %second = getelementptr i8, ptr %pair, i64 8
   store i64 %a1, ptr %second, align 8
+  %room = alloca [16 x i8], align 1
+  %got = call i64 @read(i32 0, ptr %room, i64 16)
   %third = call i8 @"slice::byte"(ptr %pair, i64 3)
   %wide = zext i8 %third to i32
   ret i32 %wide
 }
+
+declare noundef i64 @read(i32 noundef, ptr noundef, i64 noundef) #1

@@ -25,13 +25,16 @@ sum-fits x k s t h l w e =
     omega arith
 
 -- by the last bit
-pub set : (x : ℕ) (p : Product) (t : ℕ) → p .left % 2 ≡ 1 → t ≡ shifted x p → record { partial = p .partial + t; left = p .left / 2; steps = p .steps + 1 } ≡ added x p
-set x p t o e = ap (λ (n : ℕ). record { partial = p .partial + n; left = p .left / 2; steps = p .steps + 1 }) (e ∙ sym (ap (λ (n : ℕ). n * shifted x p) o ∙ one-mul (shifted x p)))
+pub set : (x : ℕ) (p : Product) (t : ℕ) → p .left % 2 ≡ 1 → t ≡ shifted x p → record { partial = p .partial + t; left = p .left / 2; steps = p .steps + 1 }
+    ≡ added x p
+set x p t o e = ap (λ (n : ℕ). record { partial = p .partial + n; left = p .left / 2; steps = p .steps + 1 }) (e ∙ sym (ap (λ (n : ℕ). n * shifted x p) o
+    ∙ one-mul (shifted x p)))
 
 pub unset : (x : ℕ) (p : Product) → (p .left % 2 ≡ 1 → ⊥) → record { partial = p .partial; left = p .left / 2; steps = p .steps + 1 } ≡ added x p
 unset x p o =
     let z : p .left % 2 ≡ 0 = omega arith in
-    ap (λ (n : ℕ). record { partial = n; left = p .left / 2; steps = p .steps + 1 }) (sym (ap (λ (n : ℕ). p .partial + n * shifted x p) z ∙ ap (λ (n : ℕ). p .partial + n) (zero-mul (shifted x p)) ∙ (omega arith)))
+    ap (λ (n : ℕ). record { partial = n; left = p .left / 2; steps = p .steps + 1 }) (sym (ap (λ (n : ℕ). p .partial + n * shifted x p) z
+    ∙ ap (λ (n : ℕ). p .partial + n) (zero-mul (shifted x p)) ∙ (omega arith)))
 
 -- ---- the loop
 pub stops : (n x : ℕ) (p : Product) → p .left ≡ 0 → addedUpTo n x p ≡ p

@@ -27,7 +27,8 @@ use Rattle.bit_serial.specs.declared.divide.Division.{Division}
 use Rattle.bit_serial.specs.declared.Answer.the-variants.{Word, Refused}
 use Rattle.bit_serial.specs.Product.{product}
 use Rattle.bit_serial.specs.Quotient.{division}
-use Rattle.bit_serial.specs.Engine.{sizesMultiplied, sizesDivided, leastAnswer, lowHalf, upperHalf, mulAnswer, muuAnswer, divAnswer, after, marked, mantissasMultiplied, mantissasDivided, fmulAnswer, fdivAnswer}
+use Rattle.bit_serial.specs.Engine.{sizesMultiplied, sizesDivided, leastAnswer, lowHalf, upperHalf, mulAnswer, muuAnswer, divAnswer, after, marked}
+use Rattle.bit_serial.specs.Engine.{mantissasMultiplied, mantissasDivided, fmulAnswer, fdivAnswer}
 use Rattle.bit_serial.proofs.Products.{below}
 
 -- ---- a row that names the operands
@@ -46,7 +47,8 @@ module _ (h n b a : ℕ) (t : Bool) (E : t ≡ eitherLeast h b a) where
 
   -- ---- the general row: a sign, the magnitudes, and what their steps lead to
   module _ (F : t ≡ false) (s : Bool) (x y : ℕ) (S : s ≡ unlike (negativeAt h b) (negativeAt h a)) (X : x ≡ magnitudeAt h b) (Y : y ≡ magnitudeAt h a) where
-    pub mul-rest : (p : Product) (w e : ℕ) (o : Bool) → p ≡ product n x y → w ≡ low h (withSign s (p .partial)) → o ≡ not (fits h (withSign s (p .partial))) → e ≡ overflowIf o
+    pub mul-rest : (p : Product) (w e : ℕ) (o : Bool) → p ≡ product n x y → w ≡ low h (withSign s (p .partial)) → o ≡ not (fits h (withSign s (p .partial)))
+        → e ≡ overflowIf o
         → Word w e (p .steps) ≡ mulAnswer h n b a
     unfolding mulAnswer
     mul-rest p w e o P W O R =
@@ -84,13 +86,15 @@ few h n x y p k X Y P = lt-of-le-of-lt (rw P (below n x y)) (product-few h x y k
 -- a marked quotient m at the place of the exponents i and j, in fine units
 pub in-place : (rule : Rule) (s : Bool) (m i j : ℕ) → j < 128 → cut rule (withSign s (m * 2 ^ i)) (2 ^ 26 * 2 ^ j) ≡ cutSize rule s (m * 2 ^ (i + 174 - j)) 1
 in-place rule s m i j l =
-    cut-sign rule s (m * 2 ^ i) (2 ^ 26 * 2 ^ j) ∙ stands-cut rule s (m * 2 ^ i * 2 ^ 200) (2 ^ 26 * 2 ^ j) m (i + 174 - j) (mul-pos (pow-pos 26) (pow-pos j)) (inl units)
+    cut-sign rule s (m * 2 ^ i) (2 ^ 26 * 2 ^ j) ∙ stands-cut rule s (m * 2 ^ i * 2 ^ 200) (2 ^ 26 * 2 ^ j) m (i + 174 - j) (mul-pos (pow-pos 26) (pow-pos j))
+    (inl units)
   where
     units : m * 2 ^ i * 2 ^ 200 ≡ m * (2 ^ 26 * 2 ^ j * 2 ^ (i + 174 - j))
     units =
         let e : i + 200 ≡ 26 + j + (i + 174 - j) = omega arith in
         mul-assoc m (2 ^ i) (2 ^ 200)
-        ∙ ap (λ (k : ℕ). m * k) (sym (pow-add 2 i 200) ∙ ap (λ (k : ℕ). 2 ^ k) e ∙ pow-add 2 (26 + j) (i + 174 - j) ∙ ap (λ (k : ℕ). k * 2 ^ (i + 174 - j)) (pow-add 2 26 j))
+        ∙ ap (λ (k : ℕ). m * k) (sym (pow-add 2 i 200) ∙ ap (λ (k : ℕ). 2 ^ k) e ∙ pow-add 2 (26 + j) (i + 174 - j) ∙ ap (λ (k : ℕ). k * 2 ^ (i + 174 - j))
+        (pow-add 2 26 j))
 
 module _ (rule : Rule) (b a : ℕ) (t : Bool) (E : t ≡ (proper b && proper a)) where
   pub fmul-refused : t ≡ false → Refused Improper ≡ fmulAnswer rule b a
@@ -105,19 +109,24 @@ module _ (rule : Rule) (b a : ℕ) (t : Bool) (E : t ≡ (proper b && proper a))
   unfolding fdivAnswer
   fdiv-none f d e z = rw (sym E ∙ f, eq-eqb (mantissa a) 0 (sym e ∙ z))
 
-  module _ (F : t ≡ true) (s : Bool) (x y i j : ℕ) (S : s ≡ unlike (negative b) (negative a)) (X : x ≡ mantissa b) (Y : y ≡ mantissa a) (I : i ≡ biased b) (J : j ≡ biased a) where
-    pub fmul-rest : (p : Product) (r : Flagged) → p ≡ product 24 x y → r ≡ cutSize rule s (p .partial * 2 ^ (i + j + 24)) 1 → Word (r .word) (r .error) (p .steps) ≡ fmulAnswer rule b a
+  module _ (F : t ≡ true) (s : Bool) (x y i j : ℕ) (S : s ≡ unlike (negative b) (negative a)) (X : x ≡ mantissa b) (Y : y ≡ mantissa a) (I : i ≡ biased b)
+      (J : j ≡ biased a) where
+    pub fmul-rest : (p : Product) (r : Flagged) → p ≡ product 24 x y → r ≡ cutSize rule s (p .partial * 2 ^ (i + j + 24)) 1
+        → Word (r .word) (r .error) (p .steps) ≡ fmulAnswer rule b a
     unfolding fmulAnswer
     fmul-rest p r P R =
-        rw (sym E ∙ F) (ap (after (p .steps)) (R ∙ scaled) ∙ (λ k. after (same k .steps) (cut rule (withSign (S k) (same k .partial * 2 ^ (I k + J k))) (2 ^ 176))))
+        rw (sym E ∙ F) (ap (after (p .steps)) (R ∙ scaled) ∙ (λ k. after (same k .steps) (cut rule (withSign (S k) (same k .partial * 2 ^ (I k + J k)))
+        (2 ^ 176))))
       where
         same : p ≡ mantissasMultiplied b a
         same = P ∙ ap₂ (product 24) X Y
 
         scaled : cutSize rule s (p .partial * 2 ^ (i + j + 24)) 1 ≡ cut rule (withSign s (p .partial * 2 ^ (i + j))) (2 ^ 176)
-        scaled = ap (λ (m : ℕ). cutSize rule s m 1) (parted (p .partial) (i + j + 24) (i + j) 24 refl) ∙ sym (cut-scaled rule s (p .partial * 2 ^ (i + j)) 176 24 refl)
+        scaled = ap (λ (m : ℕ). cutSize rule s m 1) (parted (p .partial) (i + j + 24) (i + j) 24 refl)
+            ∙ sym (cut-scaled rule s (p .partial * 2 ^ (i + j)) 176 24 refl)
 
-    pub fdiv-rest : (q : Division) (m : ℕ) (r : Flagged) → (y ≡ 0 → ⊥) → j < 128 → q ≡ division 26 (x * 2 ^ 25) y → m ≡ marked (q .quotient) (q .rest) → r ≡ cutSize rule s (m * 2 ^ (i + 174 - j)) 1
+    pub fdiv-rest : (q : Division) (m : ℕ) (r : Flagged) → (y ≡ 0 → ⊥) → j < 128 → q ≡ division 26 (x * 2 ^ 25) y → m ≡ marked (q .quotient) (q .rest)
+        → r ≡ cutSize rule s (m * 2 ^ (i + 174 - j)) 1
         → Word (r .word) (r .error) (26 - q .left) ≡ fdivAnswer rule b a
     unfolding fdivAnswer
     fdiv-rest q m r z l Q M R =

@@ -3,7 +3,8 @@ use mathlib.Core.Path.{_≡_, refl, sym, ap, _∙_, subst}
 use mathlib.Core.Logic.{_⊎_, inl, inr, ⊎-elim}
 use mathlib.Core.Bool.{Bool, true, false, cond}
 use Prim.Native.Nat.{ℕ, zero, suc, _+_, _*_, _/_, _%_, _^_, _≤_, _<_}
-use native.Mathlib.Nat.{lt-of-lt-of-le, div-eq-of-lt, div-one, mod-one, mod-eq-of-lt, mul-zero, mul-le-mul-left, mod-le, div-lt-iff-lt-mul, one-mul, zero-add, add-comm}
+use native.Mathlib.Nat.{lt-of-lt-of-le, div-eq-of-lt, div-one, mod-one, mod-eq-of-lt, mul-zero, mul-le-mul-left, mod-le, div-lt-iff-lt-mul, one-mul, zero-add}
+use native.Mathlib.Nat.{add-comm}
 use native.Mathlib.Omega.{arith}
 use lib.Dec.{eqb}
 use lib.Pow.{pow-mono, pow-pos, shr-shr, mod-pow-add}
@@ -72,11 +73,13 @@ module _ (n x y : ℕ) where
 
   -- no bits remain: the steps made used all of them
   used : product n x y .left ≡ 0 → y < 2 ^ product n x y .steps
-  used z = subst (λ (m : ℕ). y < m) (one-mul (2 ^ product n x y .steps)) (div-lt-iff-lt-mul (pow-pos (product n x y .steps)) .0 (let e = sym (all .others) ∙ z in omega arith))
+  used z = subst (λ (m : ℕ). y < m) (one-mul (2 ^ product n x y .steps)) (div-lt-iff-lt-mul (pow-pos (product n x y .steps)) .0 (let e = sym (all .others)
+      ∙ z in omega arith))
 
   -- the whole product, of a multiplier of n bits
   pub whole : y < 2 ^ n → product n x y .partial ≡ x * y
-  whole h = all .sum ∙ ap (λ (m : ℕ). x * m) (mod-eq-of-lt (⊎-elim used (λ (e : product n x y .steps ≡ 0 + n). subst (λ (m : ℕ). y < 2 ^ m) (sym (e ∙ zero-add n)) h) (ends n x (begun y) .1)))
+  whole h = all .sum ∙ ap (λ (m : ℕ). x * m) (mod-eq-of-lt (⊎-elim used (λ (e : product n x y .steps ≡ 0 + n). subst (λ (m : ℕ). y < 2 ^ m)
+      (sym (e ∙ zero-add n)) h) (ends n x (begun y) .1)))
 
   -- never more added up than the product
   pub below : product n x y .partial ≤ x * y

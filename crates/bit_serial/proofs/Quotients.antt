@@ -4,7 +4,8 @@ use mathlib.Core.Path.{_≡_, refl, sym, ap, _∙_, subst}
 use mathlib.Core.Logic.{_⊎_, inl, inr, ⊎-elim}
 use mathlib.Core.Bool.{Bool, true, false, cond}
 use Prim.Native.Nat.{ℕ, zero, suc, _+_, _-_, _*_, _/_, _%_, _^_, _≤_, _<_}
-use native.Mathlib.Nat.{le-trans, le-add-right, mul-assoc, mul-one, mul-pos, mod-lt, mod-eq-of-lt, div-add-mod', mul-add-mod-self-right, div-eq-of-lt-le, mul-mod-left}
+use native.Mathlib.Nat.{le-trans, le-add-right, mul-assoc, mul-one, mul-pos, mod-lt, mod-eq-of-lt, div-add-mod', mul-add-mod-self-right, div-eq-of-lt-le}
+use native.Mathlib.Nat.{mul-mod-left}
 use native.Mathlib.Omega.{arith}
 use lib.Dec.{leb, eqb}
 use lib.Pow.{pow-add, pow-pos}
@@ -36,15 +37,18 @@ modulo-half v D r false h e f g =
 
 pub next : (n v d : ℕ) (s : Division) → 0 < d → 0 < s .left → (s .rest ≡ 0 → ⊥) → Found n v d s → Found n v d (subtracted d s)
 next n v d s D l m a = record {
-  rest = modulo-half v (shifted d s) (s .rest) (leb (shifted d s) (s .rest)) (mul-pos D (pow-pos (s .left - 1))) (a .rest ∙ ap (λ (x : ℕ). v % x) twice) (leb-true (shifted d s) (s .rest)) (leb-false (shifted d s) (s .rest));
+  rest = modulo-half v (shifted d s) (s .rest) (leb (shifted d s) (s .rest)) (mul-pos D (pow-pos (s .left - 1))) (a .rest ∙ ap (λ (x : ℕ). v % x) twice)
+      (leb-true (shifted d s) (s .rest)) (leb-false (shifted d s) (s .rest));
   whole = made (leb (shifted d s) (s .rest)) (leb-true (shifted d s) (s .rest)) ∙ a .whole;
-  needed = λ i h k. ⊎-elim (λ (g : s .left < i). a .needed i g k) (λ (g : i ≤ s .left) z. m (a .rest ∙ ap (λ (x : ℕ). v % (d * 2 ^ x)) (same i h g) ∙ z)) (either (s .left) i);
+  needed = λ i h k. ⊎-elim (λ (g : s .left < i). a .needed i g k) (λ (g : i ≤ s .left) z. m (a .rest ∙ ap (λ (x : ℕ). v % (d * 2 ^ x)) (same i h g) ∙ z))
+      (either (s .left) i);
 }
   where
     twice : d * 2 ^ s .left ≡ shifted d s + shifted d s
     twice = let e = ap (λ (x : ℕ). d * x) (halves (s .left) l) in omega arith
 
-    made : (b : Bool) → (b ≡ true → shifted d s ≤ s .rest) → (s .quotient + cond b 1 0 * 2 ^ (s .left - 1)) * d + (s .rest - cond b 1 0 * shifted d s) ≡ s .quotient * d + s .rest
+    made : (b : Bool) → (b ≡ true → shifted d s ≤ s .rest) → (s .quotient + cond b 1 0 * 2 ^ (s .left - 1)) * d + (s .rest - cond b 1 0 * shifted d s)
+        ≡ s .quotient * d + s .rest
     made true f = let g = f refl in omega arith
     made false f = omega arith
 
@@ -52,12 +56,14 @@ next n v d s D l m a = record {
     same i h g = omega arith
 
 -- what each step keeps while bits remain holds where the steps end
-pub along : (P : Division → Type 0) (d : ℕ) → ((s : Division) → 0 < s .left → (s .rest ≡ 0 → ⊥) → P s → P (subtracted d s)) → (n : ℕ) (s : Division) → s .left ≡ n → P s → P (subtractedUpTo n d s)
+pub along : (P : Division → Type 0) (d : ℕ) → ((s : Division) → 0 < s .left → (s .rest ≡ 0 → ⊥) → P s → P (subtracted d s)) → (n : ℕ) (s : Division)
+    → s .left ≡ n → P s → P (subtractedUpTo n d s)
 unfolding subtractedUpTo
 along P d step zero s e h = h
 along P d step (suc n) s e h = go (eqb (s .rest) 0) (eqb-false (s .rest) 0) (λ m. along P d step n (subtracted d s) (omega arith) (step s (omega arith) m h))
   where
-    go : (t : Bool) → (t ≡ false → s .rest ≡ 0 → ⊥) → ((s .rest ≡ 0 → ⊥) → P (subtractedUpTo n d (subtracted d s))) → P (cond t s (subtractedUpTo n d (subtracted d s)))
+    go : (t : Bool) → (t ≡ false → s .rest ≡ 0 → ⊥) → ((s .rest ≡ 0 → ⊥) → P (subtractedUpTo n d (subtracted d s)))
+        → P (cond t s (subtractedUpTo n d (subtracted d s)))
     go true f g = h
     go false f g = g (f refl)
 
@@ -91,7 +97,8 @@ module _ (n v d : ℕ) (D : 0 < d) (h : v < d * 2 ^ n) where
 
   -- the whole quotient, and the remainder
   pub whole : (division n v d .quotient ≡ v / d) × (division n v d .rest ≡ v % d)
-  whole = parts (division n v d .quotient) d (division n v d .rest) v (all .whole) (⊎-elim (λ z. subst (λ (x : ℕ). x < d) (sym z) D) last (ends n d (begun v n) refl))
+  whole = parts (division n v d .quotient) d (division n v d .rest) v (all .whole) (⊎-elim (λ z. subst (λ (x : ℕ). x < d) (sym z) D) last
+      (ends n d (begun v n) refl))
     where
       last : division n v d .left ≡ 0 → division n v d .rest < d
       last e = subst (λ (x : ℕ). x < d) (sym (all .rest ∙ ap (λ (x : ℕ). v % (d * 2 ^ x)) e ∙ ap (λ (x : ℕ). v % x) (mul-one d))) (mod-lt v D)
@@ -104,14 +111,17 @@ module _ (n v d : ℕ) (D : 0 < d) (h : v < d * 2 ^ n) where
       i = division n v d .left
 
       apart : d * 2 ^ i ≡ d * 2 ^ (n - k) * 2 ^ (i - (n - k))
-      apart = let e : i ≡ (n - k) + (i - (n - k)) = omega arith in ap (λ (x : ℕ). d * x) (ap (λ (x : ℕ). 2 ^ x) e ∙ pow-add 2 (n - k) (i - (n - k))) ∙ sym (mul-assoc d (2 ^ (n - k)) (2 ^ (i - (n - k))))
+      apart = let e : i ≡ (n - k) + (i - (n - k)) = omega arith in ap (λ (x : ℕ). d * x) (ap (λ (x : ℕ). 2 ^ x) e ∙ pow-add 2 (n - k) (i - (n - k)))
+          ∙ sym (mul-assoc d (2 ^ (n - k)) (2 ^ (i - (n - k))))
 
       early : division n v d .rest ≡ 0 → v % (d * 2 ^ (n - k)) ≡ 0
       early z = units v (d * 2 ^ (n - k)) (i - (n - k)) (mul-pos D (pow-pos (n - k))) (ap (λ (x : ℕ). v % x) (sym apart) ∙ sym (all .rest) ∙ z)
 
   pub then-left : (k : ℕ) → k < n → v % (d * 2 ^ (n - k)) ≡ 0 → n - division n v d .left ≤ k
-  then-left k l z = ⊎-elim (λ (g : k < n - division n v d .left). absurd (all .needed (n - k) (omega arith) (omega arith) z)) (λ g. g) (either k (n - division n v d .left))
+  then-left k l z = ⊎-elim (λ (g : k < n - division n v d .left). absurd (all .needed (n - k) (omega arith) (omega arith) z)) (λ g. g)
+      (either k (n - division n v d .left))
 
 -- no more digits are found than asked for, and the quotient has no more
 pub digits : (n v d : ℕ) → (division n v d .left ≤ n) × (division n v d .quotient ≤ 2 ^ n)
-digits n v d = let a = along (Subtracting n v d) d (λ s l m a. subtracts n v d s a l m) n (begun v n) refl (starts n v d) in (a .few, le-trans (le-add-right (division n v d .quotient) (2 ^ division n v d .left)) (a .room))
+digits n v d = let a = along (Subtracting n v d) d (λ s l m a. subtracts n v d s a l m) n (begun v n) refl (starts n v d)
+    in (a .few, le-trans (le-add-right (division n v d .quotient) (2 ^ division n v d .left)) (a .room))

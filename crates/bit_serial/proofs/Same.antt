@@ -4,7 +4,8 @@ use mathlib.Core.Path.{_≡_, refl, sym, ap, _∙_, subst, subst₂}
 use mathlib.Core.Logic.{_⊎_, inl, inr, ⊎-elim}
 use mathlib.Core.Bool.{Bool, true, false, not, _&&_, cond}
 use Prim.Native.Nat.{ℕ, _+_, _-_, _*_, _/_, _%_, _^_, _≤_, _<_}
-use native.Mathlib.Nat.{lt-of-le-of-lt, lt-of-lt-of-le, mul-assoc, mul-pos, mul-mul-mul-comm, div-add-mod', mod-lt, le-div-iff-mul-le, zero-mod, pos-of-ne-zero, eq-zero-or-pos, mul-le-mul-right}
+use native.Mathlib.Nat.{lt-of-le-of-lt, lt-of-lt-of-le, mul-assoc, mul-pos, mul-mul-mul-comm, div-add-mod', mod-lt, le-div-iff-mul-le, zero-mod, pos-of-ne-zero}
+use native.Mathlib.Nat.{eq-zero-or-pos, mul-le-mul-right}
 use native.Mathlib.Omega.{arith}
 use borrow.Author.Tests.{eq-eqb, ne-eqb, eqb-false, le-leb, lt-leb}
 use lib.Dec.{eqb, lit<}
@@ -33,7 +34,8 @@ use Rattle.float.proofs.Proper.{proper-norm}
 use Rattle.bit_serial.specs.declared.Answer.{Answer}
 use Rattle.bit_serial.specs.declared.Answer.the-variants.{Word, Refused}
 use Rattle.bit_serial.specs.Answer.{stepsIn}
-use Rattle.bit_serial.specs.Engine.{sizesMultiplied, sizesDivided, signedFor, leastAnswer, lowHalf, upperHalf, mulAnswer, muuAnswer, divAnswer, after, floatSigned, marked, mantissasMultiplied, mantissasDivided, fmulAnswer, fdivAnswer}
+use Rattle.bit_serial.specs.Engine.{sizesMultiplied, sizesDivided, signedFor, leastAnswer, lowHalf, upperHalf, mulAnswer, muuAnswer, divAnswer, after}
+use Rattle.bit_serial.specs.Engine.{floatSigned, marked, mantissasMultiplied, mantissasDivided, fmulAnswer, fdivAnswer}
 use Rattle.bit_serial.proofs.Products.{whole}
 use Rattle.bit_serial.proofs.Quotients.{parts, whole as both}
 use Rattle.bit_serial.proofs.Answers.{in-place}
@@ -61,7 +63,8 @@ module _ (h n b a : ℕ) (W : Words h b a) (N : h < 2 ^ n) where
       first : Fixed
       first = outcome (low h (signed h b *ℤ signed h a)) (overflowIf (not (fits h (signed h b *ℤ signed h a)))) false
 
-      go : (t : Bool) → cond t (leastAnswer h) general ≡ Word (cond t (outcome h 1 false) first .word) (cond t (outcome h 1 false) first .error) (stepsIn (cond t (leastAnswer h) general))
+      go : (t : Bool) → cond t (leastAnswer h) general ≡ Word (cond t (outcome h 1 false) first .word) (cond t (outcome h 1 false) first .error)
+          (stepsIn (cond t (leastAnswer h) general))
       go true = refl
       go false = ap (λ (z : ℤ). lowHalf h z k) product-is
 
@@ -78,7 +81,8 @@ module _ (h n b a : ℕ) (W : Words h b a) (N : h < 2 ^ n) where
       first : Fixed
       first = outcome (low h (shrZ (signed h b *ℤ signed h a) (2 * h))) 0 false
 
-      go : (t : Bool) → cond t (leastAnswer h) general ≡ Word (cond t (outcome h 1 false) first .word) (cond t (outcome h 1 false) first .error) (stepsIn (cond t (leastAnswer h) general))
+      go : (t : Bool) → cond t (leastAnswer h) general ≡ Word (cond t (outcome h 1 false) first .word) (cond t (outcome h 1 false) first .error)
+          (stepsIn (cond t (leastAnswer h) general))
       go true = refl
       go false = ap (λ (z : ℤ). upperHalf h z k) product-is
 
@@ -106,7 +110,8 @@ module _ (h n b a : ℕ) (W : Words h b a) (N : h < 2 ^ n) where
       first = outcome (low h (quotZ (signed h b) (signed h a))) 0 false
 
       go : (o : Bool) → (o ≡ false → a ≡ 0 → ⊥) → (t : Bool) → cond o (Word b 8 0) (cond t (leastAnswer h) general)
-          ≡ Word (cond o (outcome b 8 false) (cond t (outcome h 1 false) first) .word) (cond o (outcome b 8 false) (cond t (outcome h 1 false) first) .error) (stepsIn (cond o (Word b 8 0) (cond t (leastAnswer h) general)))
+          ≡ Word (cond o (outcome b 8 false) (cond t (outcome h 1 false) first) .word) (cond o (outcome b 8 false) (cond t (outcome h 1 false) first) .error)
+          (stepsIn (cond o (Word b 8 0) (cond t (leastAnswer h) general)))
       go true z t = refl
       go false z true = refl
       go false z false = ap (λ (x : ℤ). Word (low h x) 0 k) (quotient-is (z refl))
@@ -123,7 +128,8 @@ exactly : (b a : ℕ) → floatSigned b a (mantissasMultiplied b a .partial * 2 
 unfolding value
 exactly b a = ap (floatSigned b a) (sizes-multiplied b a) ∙ sym (times (negative b) (negative a) (size88 b) (size88 a))
 
-pub same-fmul : (rule : Rule) (b a : ℕ) → fmulAnswer rule b a ≡ cond (proper b && proper a) (Word (fmul rule b a .word) (fmul rule b a .error) (stepsIn (fmulAnswer rule b a))) (Refused Improper)
+pub same-fmul : (rule : Rule) (b a : ℕ) → fmulAnswer rule b a ≡ cond (proper b && proper a) (Word (fmul rule b a .word) (fmul rule b a .error)
+    (stepsIn (fmulAnswer rule b a))) (Refused Improper)
 unfolding fmulAnswer fmul
 same-fmul rule b a = go (proper b && proper a)
   where
@@ -136,7 +142,8 @@ same-fmul rule b a = go (proper b && proper a)
     first : Flagged
     first = cut rule (value b *ℤ value a) (2 ^ 176)
 
-    go : (t : Bool) → cond t (after k mine) (Refused Improper) ≡ cond t (Word (first .word) (first .error) (stepsIn (cond t (after k mine) (Refused Improper)))) (Refused Improper)
+    go : (t : Bool) → cond t (after k mine) (Refused Improper) ≡ cond t (Word (first .word) (first .error) (stepsIn (cond t (after k mine) (Refused Improper))))
+        (Refused Improper)
     go true = ap (λ (z : ℤ). after k (cut rule z (2 ^ 176))) (exactly b a)
     go false = refl
 
@@ -148,7 +155,11 @@ marks v d D = go (v % d) (mod-lt v D) (div-add-mod' v d)
     q = v / d
 
     exact : (r : ℕ) → r ≡ 0 → q * d + r ≡ v → Jammed (v * 2 / d) (v * 2 % d) (marked q r)
-    exact r z e = let w = parts (2 * q) d 0 (v * 2) (omega arith) D in inl (sym (w .1), ap (λ (b : Bool). 2 * q + cond b 0 1) (eq-eqb r 0 z) ∙ (omega (arith, w .0)))
+    exact r z e = let w = parts (2 * q) d 0 (v * 2) (omega arith) D in inl (
+      sym (w .1),
+      ap (λ (b : Bool). 2 * q + cond b 0 1) (eq-eqb r 0 z)
+          ∙ (omega (arith, w .0)),
+    )
 
     odd : (r : ℕ) → (r ≡ 0 → ⊥) → marked q r ≡ 2 * q + 1
     odd r z = ap (λ (b : Bool). 2 * q + cond b 0 1) (ne-eqb r 0 z)
@@ -164,16 +175,24 @@ marks v d D = go (v % d) (mod-lt v D) (div-add-mod' v d)
     beyond r z l h e =
         let w = parts (2 * q + 1) d (r + r - d) (v * 2) (omega arith) (omega arith) in
         let m = odd r z in
-        ⊎-elim (λ (x : r + r - d ≡ 0). inl (sym (w .1) ∙ x, m ∙ w .0)) (λ (x : 0 < r + r - d). inr (omega (arith, w .1), omega arith, omega (arith, w .0), omega (arith, w .0))) (eq-zero-or-pos (r + r - d))
+        ⊎-elim (λ (x : r + r - d ≡ 0). inl (sym (w .1) ∙ x, m ∙ w .0)) (λ (x : 0 < r + r - d). inr (
+          omega (arith, w .1),
+          omega arith,
+          omega (arith, w .0),
+          omega
+              (arith, w .0),
+        )) (eq-zero-or-pos (r + r - d))
 
     go : (r : ℕ) → r < d → q * d + r ≡ v → Jammed (v * 2 / d) (v * 2 % d) (marked q r)
-    go r h e = ⊎-elim (λ z. exact r z e) (λ (p : 0 < r). ⊎-elim (λ l. below r (λ z. omega arith) l e) (λ l. beyond r (λ z. omega arith) l h e) (either (r + r) d)) (eq-zero-or-pos r)
+    go r h e = ⊎-elim (λ z. exact r z e) (λ (p : 0 < r). ⊎-elim (λ l. below r (λ z. omega arith) l e) (λ l. beyond r (λ z. omega arith) l h e)
+        (either (r + r) d)) (eq-zero-or-pos r)
 
 -- mantissas m and n, n above 0, at exponents i and j: 26 digits and a mark stand for the fraction
 stands : (m n i j t : ℕ) → 0 < n → n < 16777216 → (m ≡ 0) ⊎ (8388608 ≤ m) → j < 128 → Jammed (m * 2 ^ 25 * 2 / n) (m * 2 ^ 25 * 2 % n) t
     → Stands (m * 2 ^ i * 2 ^ 200) (n * 2 ^ j * 2 ^ (i + 174 - j)) t
 stands m n i j t N n24 norm l s =
-    subst (λ (z : ℕ). Stands z (n * 2 ^ j * 2 ^ (i + 174 - j)) t) (ap (λ (z : ℕ). z * 2 ^ (i + 174)) (mul-assoc m (2 ^ 25) 2) ∙ moved m 26 (i + 174) i 200 (omega arith))
+    subst (λ (z : ℕ). Stands z (n * 2 ^ j * 2 ^ (i + 174 - j)) t) (ap (λ (z : ℕ). z * 2 ^ (i + 174)) (mul-assoc m (2 ^ 25) 2) ∙ moved m 26 (i + 174) i 200
+    (omega arith))
     (subst (λ (z : ℕ). Stands (v * 2 ^ (i + 174)) z t) (parted n (i + 174) j (i + 174 - j) (omega arith))
     (stands-scale v n t (2 ^ (i + 174)) (pow-pos (i + 174))
     (subst (λ (z : ℕ). Stands z n t) (div-add-mod' v n) (stands-of (v / n) (v % n) n t (mod-lt v N) (large norm) s))))
@@ -200,9 +219,11 @@ module _ (rule : Rule) (b a : ℕ) (P : (proper b && proper a) ≡ true) where
 
   -- a quotient of mantissas is below 2
   pub narrow : (mantissa a ≡ 0 → ⊥) → mantissa b * 2 ^ 25 < mantissa a * 2 ^ 26
-  narrow z = let m : mantissa b < 16777216 = mod-lt b (lit< tt) in ⊎-elim (λ e. absurd (z e)) (λ (l : 8388608 ≤ mantissa a). omega arith) (proper-norm a (and-right (proper b) (proper a) P))
+  narrow z = let m : mantissa b < 16777216 = mod-lt b (lit< tt) in ⊎-elim (λ e. absurd (z e)) (λ (l : 8388608 ≤ mantissa a). omega arith)
+      (proper-norm a (and-right (proper b) (proper a) P))
 
-  quotient-cut : (mantissa a ≡ 0 → ⊥) → cut rule (floatSigned b a (marked (mantissasDivided b a .quotient) (mantissasDivided b a .rest) * 2 ^ biased b)) (2 ^ 26 * 2 ^ biased a) ≡ cut rule (floatSigned b a (size88 b)) (size88 a)
+  quotient-cut : (mantissa a ≡ 0 → ⊥) → cut rule (floatSigned b a (marked (mantissasDivided b a .quotient) (mantissasDivided b a .rest) * 2 ^ biased b))
+      (2 ^ 26 * 2 ^ biased a) ≡ cut rule (floatSigned b a (size88 b)) (size88 a)
   unfolding size88
   quotient-cut z =
       let N = pos-of-ne-zero z in
@@ -213,11 +234,14 @@ module _ (rule : Rule) (b a : ℕ) (P : (proper b && proper a) ≡ true) where
       let x = biased b + 174 - biased a in
       let j : biased a < 128 = mod-lt (a / 16777216 + 64) (lit< tt) in
       let d = both 26 v (mantissa a) N (narrow z) in
-      let M : Jammed (v * 2 / mantissa a) (v * 2 % mantissa a) t = subst₂ (λ (q r : ℕ). Jammed (v * 2 / mantissa a) (v * 2 % mantissa a) (marked q r)) (sym (d .0)) (sym (d .1)) (marks v (mantissa a) N) in
+      let M : Jammed (v * 2 / mantissa a) (v * 2 % mantissa a) t = subst₂ (λ (q r : ℕ). Jammed (v * 2 / mantissa a) (v * 2 % mantissa a) (marked q r))
+      (sym (d .0)) (sym (d .1)) (marks v (mantissa a) N) in
       in-place rule s t (biased b) (biased a) j
-      ∙ sym (cut-sign rule s (size88 b) (size88 a) ∙ stands-cut rule s (size88 b * 2 ^ 200) (size88 a) t x (mul-pos N (pow-pos (biased a))) (stands (mantissa b) (mantissa a) (biased b) (biased a) t N n24 (proper-norm b left-proper) j M))
+      ∙ sym (cut-sign rule s (size88 b) (size88 a) ∙ stands-cut rule s (size88 b * 2 ^ 200) (size88 a) t x (mul-pos N (pow-pos (biased a)))
+      (stands (mantissa b) (mantissa a) (biased b) (biased a) t N n24 (proper-norm b left-proper) j M))
 
-pub same-fdiv : (rule : Rule) (b a : ℕ) → fdivAnswer rule b a ≡ cond (proper b && proper a) (Word (fdiv rule b a .word) (fdiv rule b a .error) (stepsIn (fdivAnswer rule b a))) (Refused Improper)
+pub same-fdiv : (rule : Rule) (b a : ℕ) → fdivAnswer rule b a ≡ cond (proper b && proper a) (Word (fdiv rule b a .word) (fdiv rule b a .error)
+    (stepsIn (fdivAnswer rule b a))) (Refused Improper)
 unfolding fdivAnswer fdiv
 same-fdiv rule b a = go (proper b && proper a) (λ p. quotient-cut rule b a p) (eqb (mantissa a) 0) (eqb-false (mantissa a) 0)
   where
@@ -235,7 +259,8 @@ same-fdiv rule b a = go (proper b && proper a) (λ p. quotient-cut rule b a p) (
 
     go : (t : Bool) → (t ≡ true → (mantissa a ≡ 0 → ⊥) → mine ≡ first) → (o : Bool) → (o ≡ false → mantissa a ≡ 0 → ⊥)
         → cond t (cond o (Word b 8 0) (after k mine)) (Refused Improper)
-        ≡ cond t (Word (cond o none first .word) (cond o none first .error) (stepsIn (cond t (cond o (Word b 8 0) (after k mine)) (Refused Improper)))) (Refused Improper)
+        ≡ cond t (Word (cond o none first .word) (cond o none first .error) (stepsIn (cond t (cond o (Word b 8 0) (after k mine)) (Refused Improper))))
+        (Refused Improper)
     go true f true z = refl
     go true f false z = ap (after k) (f refl (z refl))
     go false f true z = refl

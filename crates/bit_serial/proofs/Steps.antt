@@ -23,7 +23,8 @@ use Rattle.bit_serial.specs.declared.tasks.Task.the-variants.{Nothing, M
 use Rattle.bit_serial.specs.Product.{product}
 use Rattle.bit_serial.specs.Quotient.{division}
 use Rattle.bit_serial.specs.Answer.{stepsIn}
-use Rattle.bit_serial.specs.Engine.{signedFor, lowHalf, upperHalf, sizesMultiplied, sizesDivided, mulAnswer, muuAnswer, divAnswer, mantissasMultiplied, mantissasDivided, fmulAnswer, fdivAnswer}
+use Rattle.bit_serial.specs.Engine.{signedFor, lowHalf, upperHalf, sizesMultiplied, sizesDivided, mulAnswer, muuAnswer, divAnswer, mantissasMultiplied}
+use Rattle.bit_serial.specs.Engine.{mantissasDivided, fmulAnswer, fdivAnswer}
 use Rattle.bit_serial.specs.Work.{Operands, answerOf, mulTask, divTask, fmulTask, fdivTask, taskOf, Made}
 use Rattle.bit_serial.proofs.Products.{at-most, then-none, then-left}
 use Rattle.bit_serial.proofs.Quotients.{then-none as none-over, then-left as left-over}
@@ -35,7 +36,8 @@ below-all Single = lit< tt
 below-all Double = lit< tt
 
 -- what holds of no task and no steps, of every product and of every quotient with its steps holds of each operation
-module _ (P : Task → ℕ → Type 0) (none : P Nothing 0) (times : (x y n : ℕ) → P (Multiply x y n) (product n x y .steps)) (over : (v d n : ℕ) → 0 < d → v < d * 2 ^ n → P (Divide v d n) (n - division n v d .left)) where
+module _ (P : Task → ℕ → Type 0) (none : P Nothing 0) (times : (x y n : ℕ) → P (Multiply x y n) (product n x y .steps)) (over : (v d n : ℕ)
+    → 0 < d → v < d * 2 ^ n → P (Divide v d n) (n - division n v d .left)) where
   -- a row that names the operands makes no steps, nor does a refusal
   by-row : (t : Bool) (w e : ℕ) (task : Task) (r : Answer) → (t ≡ false → P task (stepsIn r)) → P (cond t Nothing task) (stepsIn (cond t (Word w e 0) r))
   by-row true w e task r m = none
@@ -48,17 +50,20 @@ module _ (P : Task → ℕ → Type 0) (none : P Nothing 0) (times : (x y n : �
   module _ (h n b a : ℕ) (W : Words h b a) (N : h < 2 ^ n) where
     of-mul : P (mulTask h n b a) (stepsIn (mulAnswer h n b a))
     unfolding mulTask mulAnswer
-    of-mul = by-row (eitherLeast h b a) h 1 _ (lowHalf h (signedFor h b a (sizesMultiplied h n b a .partial)) (sizesMultiplied h n b a .steps)) (λ f. times (magnitudeAt h b) (magnitudeAt h a) n)
+    of-mul = by-row (eitherLeast h b a) h 1 _ (lowHalf h (signedFor h b a (sizesMultiplied h n b a .partial)) (sizesMultiplied h n b a .steps))
+        (λ f. times (magnitudeAt h b) (magnitudeAt h a) n)
 
     of-muu : P (mulTask h n b a) (stepsIn (muuAnswer h n b a))
     unfolding mulTask muuAnswer
-    of-muu = by-row (eitherLeast h b a) h 1 _ (upperHalf h (signedFor h b a (sizesMultiplied h n b a .partial)) (sizesMultiplied h n b a .steps)) (λ f. times (magnitudeAt h b) (magnitudeAt h a) n)
+    of-muu = by-row (eitherLeast h b a) h 1 _ (upperHalf h (signedFor h b a (sizesMultiplied h n b a .partial)) (sizesMultiplied h n b a .steps))
+        (λ f. times (magnitudeAt h b) (magnitudeAt h a) n)
 
     of-div : P (divTask h n b a) (stepsIn (divAnswer h n b a))
     unfolding divTask divAnswer
     of-div =
         by-row (eqb a 0) b 8 _ _
-        (λ f. by-row (eitherLeast h b a) h 1 _ (Word _ 0 (n - sizesDivided h n b a .left)) (λ g. over (magnitudeAt h b) (magnitudeAt h a) n (divisor-some h n b a W N (eqb-false a 0 f)) (dividend-below h n b a W N (eqb-false a 0 f))))
+        (λ f. by-row (eitherLeast h b a) h 1 _ (Word _ 0 (n - sizesDivided h n b a .left)) (λ g. over (magnitudeAt h b) (magnitudeAt h a) n
+        (divisor-some h n b a W N (eqb-false a 0 f)) (dividend-below h n b a W N (eqb-false a 0 f))))
 
   module _ (rule : Rule) (b a : ℕ) where
     of-fmul : P (fmulTask b a) (stepsIn (fmulAnswer rule b a))
@@ -69,7 +74,8 @@ module _ (P : Task → ℕ → Type 0) (none : P Nothing 0) (times : (x y n : �
     unfolding fdivTask fdivAnswer
     of-fdiv =
         if-proper (proper b && proper a) _ _
-        (λ p. by-row (eqb (mantissa a) 0) b 8 _ (Word _ _ (26 - mantissasDivided b a .left)) (λ z. over (mantissa b * 2 ^ 25) (mantissa a) 26 (pos-of-ne-zero (eqb-false (mantissa a) 0 z)) (narrow rule b a p (eqb-false (mantissa a) 0 z))))
+        (λ p. by-row (eqb (mantissa a) 0) b 8 _ (Word _ _ (26 - mantissasDivided b a .left)) (λ z. over (mantissa b * 2 ^ 25) (mantissa a) 26
+        (pos-of-ne-zero (eqb-false (mantissa a) 0 z)) (narrow rule b a p (eqb-false (mantissa a) 0 z))))
 
   pub each : (op : Operation) (rule : Rule) (b a : ℕ) → Operands op b a → P (taskOf op b a) (stepsIn (answerOf op rule b a))
   each (Mul w) rule b a l = of-mul (half (bitsOf w)) (bitsOf w) b a (words {op = Mul w} (half (bitsOf w)) b a refl refl l) (below-all w)

@@ -26,14 +26,16 @@ digit-fits q k u h l r e =
     omega arith
 
 -- by whether the shifted divisor goes
-pub goes : (d : ℕ) (s : Division) (t u : ℕ) → t ≡ shifted d s → u ≡ 2 ^ (s .left - 1) → t ≤ s .rest → record { quotient = s .quotient + u; rest = s .rest - t; left = s .left - 1 } ≡ subtracted d s
+pub goes : (d : ℕ) (s : Division) (t u : ℕ) → t ≡ shifted d s → u ≡ 2 ^ (s .left - 1) → t ≤ s .rest
+    → record { quotient = s .quotient + u; rest = s .rest - t; left = s .left - 1 } ≡ subtracted d s
 goes d s t u e f l =
     let o : digit d s ≡ 1 = ap (λ (b : Bool). cond b 1 0) (le-leb (shifted d s) (s .rest) (subst (λ (n : ℕ). n ≤ s .rest) e l)) in
     ap₂ (λ (x y : ℕ). record { quotient = s .quotient + x; rest = s .rest - y; left = s .left - 1 })
     (f ∙ sym (ap (λ (n : ℕ). n * 2 ^ (s .left - 1)) o ∙ one-mul (2 ^ (s .left - 1))))
     (e ∙ sym (ap (λ (n : ℕ). n * shifted d s) o ∙ one-mul (shifted d s)))
 
-pub stays : (d : ℕ) (s : Division) (t : ℕ) → t ≡ shifted d s → s .rest < t → record { quotient = s .quotient; rest = s .rest; left = s .left - 1 } ≡ subtracted d s
+pub stays : (d : ℕ) (s : Division) (t : ℕ) → t ≡ shifted d s → s .rest < t → record { quotient = s .quotient; rest = s .rest; left = s .left - 1 }
+    ≡ subtracted d s
 stays d s t e l =
     let o : digit d s ≡ 0 = ap (λ (b : Bool). cond b 1 0) (lt-leb (shifted d s) (s .rest) (subst (λ (n : ℕ). s .rest < n) e l)) in
     let x : s .quotient ≡ s .quotient + digit d s * 2 ^ (s .left - 1) = omega (arith, ap (λ (n : ℕ). n * 2 ^ (s .left - 1)) o ∙ zero-mul (2 ^ (s .left - 1))) in

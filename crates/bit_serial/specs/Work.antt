@@ -54,7 +54,8 @@ fmulTask b a = cond (proper b && proper a) (Multiply (mantissa b) (mantissa a) 2
 
 -- FDIV: the mantissas, in at most 26 steps; nothing where an operand is refused or A is zero
 unfoldable pub fdivTask : ℕ → ℕ → Task
-fdivTask b a = cond (proper b && proper a) (cond (eqb (mantissa a) 0) Nothing (Divide (mantissa b * 2 ^ (quotientDigits - 1)) (mantissa a) quotientDigits)) Nothing
+fdivTask b a = cond (proper b && proper a) (cond (eqb (mantissa a) 0) Nothing (Divide (mantissa b * 2 ^ (quotientDigits - 1)) (mantissa a) quotientDigits))
+    Nothing
 
 abbrev pub taskOf : Operation → ℕ → ℕ → Task
 taskOf (Mul w) b a = mulTask (half (bitsOf w)) (bitsOf w) b a

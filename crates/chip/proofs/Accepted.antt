@@ -1,4 +1,5 @@
--- A command that is answered 0: the state was not busy and whole, the code known, its operands proper, and the state after is what the row of the command leaves. Assumes nothing.
+-- A command that is answered 0: the state was not busy and whole, the code known, its operands proper, and the state after is what the row of the
+-- command leaves. Assumes nothing.
 use mathlib.Core.Path.{_≡_, refl, sym, ap, subst}
 use mathlib.Core.Bool.{Bool, true, false, cond}
 use Prim.Native.Nat.{ℕ, _%_, _<_}
@@ -43,13 +44,15 @@ module _ (rule : Rule) (s : State) (code : ℕ) where
 
   -- each test on the way to an answer 0, with what it shows
   by-operands : (k : Command) → s .status < 128 → s .pending ≡ false → decoded (code % 128) ≡ Known k
-      → (x : Bool) → properOperands k (s .stack) ≡ x → (cond {A = Answer} x (done 0 (settled s (sr code) (outcomeOf rule k (s .stack)))) (refused Improper s)) .refusal ≡ Done → Accepted rule s code
+      → (x : Bool) → properOperands k (s .stack) ≡ x → (cond {A = Answer} x (done 0 (settled s (sr code) (outcomeOf rule k (s .stack))))
+      (refused Improper s)) .refusal ≡ Done → Accepted rule s code
   by-operands k h p e true f d = record { ready = h; whole = p; command = k; known = e; operands = f; answer = accepts k h p e f }
   by-operands k h p e false f d = not-done Improper (lit< tt) d
 
   by-half : (k : Command) → s .status < 128 → decoded (code % 128) ≡ Known k
       → (x : Bool) → s .pending ≡ x
-      → (cond {A = Answer} x (refused HalfWord s) (cond (properOperands k (s .stack)) (done 0 (settled s (sr code) (outcomeOf rule k (s .stack)))) (refused Improper s))) .refusal ≡ Done → Accepted rule s code
+      → (cond {A = Answer} x (refused HalfWord s) (cond (properOperands k (s .stack)) (done 0 (settled s (sr code) (outcomeOf rule k (s .stack))))
+      (refused Improper s))) .refusal ≡ Done → Accepted rule s code
   by-half k h e true p d = not-done HalfWord (lit< tt) d
   by-half k h e false p d = by-operands k h p e (properOperands k (s .stack)) refl d
 
@@ -59,7 +62,8 @@ module _ (rule : Rule) (s : State) (code : ℕ) where
   by-kind h Derived e d = not-done DerivedCode (lit< tt) d
   by-kind h Unknown e d = not-done UnknownCode (lit< tt) d
 
-  by-busy : (x : Bool) → busy s ≡ x → (cond {A = Answer} x (refused BadState s) (answerByKind rule s (sr code) (decoded (code % 128)))) .refusal ≡ Done → Accepted rule s code
+  by-busy : (x : Bool) → busy s ≡ x → (cond {A = Answer} x (refused BadState s) (answerByKind rule s (sr code) (decoded (code % 128)))) .refusal ≡ Done
+      → Accepted rule s code
   by-busy true b d = not-done BadState (lit< tt) d
   by-busy false b d = by-kind (leb-false 128 (s .status) b) (decoded (code % 128)) refl d
 
@@ -75,7 +79,8 @@ pub record Leaves (s : State) (code : ℕ) (after : State) : Type 0 where
   pub pending : after .pending ≡ s .pending
   pub service : after .service ≡ sr code
 
-pub leaves : (rule : Rule) (s : State) (code : ℕ) → IsStack (s .stack) → (commandUnder rule s code) .refusal ≡ Done → Leaves s code ((commandUnder rule s code) .state)
+pub leaves : (rule : Rule) (s : State) (code : ℕ) → IsStack (s .stack) → (commandUnder rule s code) .refusal ≡ Done
+    → Leaves s code ((commandUnder rule s code) .state)
 leaves rule s code S d =
     let a = accepted rule s code d in
     let f = outcome-fair (s .stack) S rule (a .command) (a .operands) in

@@ -1,4 +1,5 @@
--- The error of every float result has four bits, so that the status has room for it: overflow 1, underflow 2, the root of a negative word 4, divide by zero 8. Assumes nothing.
+-- The error of every float result has four bits, so that the status has room for it: overflow 1, underflow 2, the root of a negative word 4, divide by
+-- zero 8. Assumes nothing.
 use mathlib.Core.Bool.{Bool, true, false, cond}
 use Prim.Native.Nat.{ℕ, _<_}
 use lib.Dec.{lit<, leb}
@@ -23,6 +24,7 @@ pub fix-error : (half a : ℕ) → (fix half a) .error < 16
 unfolding fix
 fix-error half a = go (leb half (wholePart a))
   where
-    go : (over : Bool) → (cond {A = Flagged} over (record { word = a; error = 1 }) (record { word = complement half (negative a) (wholePart a); error = 0 })) .error < 16
+    go : (over : Bool) → (cond {A = Flagged} over (record { word = a; error = 1 })
+        (record { word = complement half (negative a) (wholePart a); error = 0 })) .error < 16
     go true = lit< tt
     go false = lit< tt

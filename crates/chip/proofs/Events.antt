@@ -1,4 +1,5 @@
--- Events in turn: those of two runs joined are the one run and then the other; a push, or a command that ends with a word on top, hands that word on. Assumes nothing.
+-- Events in turn: those of two runs joined are the one run and then the other; a push, or a command that ends with a word on top, hands that word on.
+-- Assumes nothing.
 use mathlib.Core.Path.{_≡_, refl, sym, ap, ap₂, _∙_, subst}
 use mathlib.Core.Bool.{Bool, true, false, _&&_}
 use mathlib.Core.List.{List, [], _∷_, _++_}
@@ -36,7 +37,8 @@ module _ (on : Settings) where
   after-append s [] ys = refl
   after-append s (x ∷ xs) ys = after-append ((answerTo on s x) .state) xs ys
 
-  pub answered-append : (s : State) (xs ys : List Event) → answered on s xs ≡ true → answered on (afterEvents on s xs) ys ≡ true → answered on s (xs ++ ys) ≡ true
+  pub answered-append : (s : State) (xs ys : List Event) → answered on s xs ≡ true → answered on (afterEvents on s xs) ys ≡ true
+      → answered on s (xs ++ ys) ≡ true
   answered-append s [] ys a b = b
   answered-append s (x ∷ xs) ys a b =
       let h = both-of (eqb (numberOf ((answerTo on s x) .refusal)) 0) (answered on ((answerTo on s x) .state) xs) a in
@@ -70,7 +72,7 @@ underWord t = take 8 (take 9 (take 10 (take 11 t)))
 -- ---- what events do
 module _ (on : Settings) where
   -- nothing more happens
-  pub does-none : (s : State) (w : ℕ) → Tops w s → Does on s [] (record { word = w; error = 0 })
+  does-none : (s : State) (w : ℕ) → Tops w s → Does on s [] (record { word = w; error = 0 })
   does-none s w T = record { all-answered = refl; tops = T; no-error = λ q. refl }
 
   -- an event that is answered 0 comes first
@@ -78,16 +80,19 @@ module _ (on : Settings) where
   does-then {s} {s'} {e} {es} {r} h d = record {
     all-answered = subst (λ (x : Answer). (eqb (numberOf (x .refusal)) 0 && answered on (x .state) es) ≡ true) (sym h) (d .all-answered);
     tops = subst (λ (x : Answer). Tops (r .word) (afterEvents on (x .state) es)) (sym h) (d .tops);
-    no-error = λ q. d .no-error (subst (λ (x : Answer). quiet on (x .state) es ≡ true) h (both-of (leavesClear on s e) (quiet on ((answerTo on s e) .state) es) q .1));
+    no-error = λ q. d .no-error (subst (λ (x : Answer). quiet on (x .state) es ≡ true) h
+        (both-of (leavesClear on s e) (quiet on ((answerTo on s e) .state) es) q .1));
   }
 
   -- four bytes pushed come first
-  pub does-pushes : (c : ℕ) {l : List ℕ} {u : ℕ} {v : Bool} {es : List Event} {r : Flagged} → u < 128 → Does on (idle (bytesOf 4 c ++ under l) u v) es r → Does on (idle l u v) (pushesOf 4 c ++ es) r
+  pub does-pushes : (c : ℕ) {l : List ℕ} {u : ℕ} {v : Bool} {es : List Event} {r : Flagged} → u < 128 → Does on (idle (bytesOf 4 c ++ under l) u v) es r
+      → Does on (idle l u v) (pushesOf 4 c ++ es) r
   does-pushes c h d = does-then (push-done _ _ h) (does-then (push-done _ _ h) (does-then (push-done _ _ h) (does-then (push-done _ _ h) d)))
 
   -- one command that ends with a word on top and an error
   pub does-command : {s : State} {code : ℕ} {r : Flagged} {t : List ℕ} {v : Bool} → Result r
-      → commandUnder (on .rule) s code ≡ done 0 (idle (bytesOf 4 (r .word) ++ t) (statusOf Double (bytesOf 4 (r .word) ++ t) (r .error) false) v) → Does on s (Command code ∷ []) r
+      → commandUnder (on .rule) s code ≡ done 0 (idle (bytesOf 4 (r .word) ++ t) (statusOf Double (bytesOf 4 (r .word) ++ t) (r .error) false) v)
+      → Does on s (Command code ∷ []) r
   does-command {s} {code} {r} {t} {v} F e =
       let l = bytesOf 4 (r .word) ++ t in
       record {
@@ -97,11 +102,13 @@ module _ (on : Settings) where
             (record { rest = t; stack-is = refl; at-rest = at-rest l (statusOf Double l (r .error) false) v (status-lt Double l (r .error) false (F .small)) });
         no-error =
             λ q. sym (status-error Double l (r .error) false (F .small)) ∙ sym (ap (λ (x : Answer). errorOf (x .state .status)) e)
-            ∙ eqb-true (errorOf ((commandUnder (on .rule) s code) .state .status)) 0 (both-of (eqb (errorOf ((commandUnder (on .rule) s code) .state .status)) 0) (true) q .0);
+            ∙ eqb-true (errorOf ((commandUnder (on .rule) s code) .state .status)) 0
+            (both-of (eqb (errorOf ((commandUnder (on .rule) s code) .state .status)) 0) (true) q .0);
       }
 
   -- a constant pushed, and a float command on the word below it
-  pub does-float : (op : FloatOp) (code c w : ℕ) (t : List ℕ) (u : ℕ) (v : Bool) → decoded (code % 128) ≡ Known (Float op) → u < 128 → FloatWord c → FloatWord w → Result (floatOf (on .rule) op w c)
+  pub does-float : (op : FloatOp) (code c w : ℕ) (t : List ℕ) (u : ℕ) (v : Bool) → decoded (code % 128) ≡ Known (Float op) → u < 128 → FloatWord c
+      → FloatWord w → Result (floatOf (on .rule) op w c)
       → Does on (idle (bytesOf 4 w ++ t) u v) (pushesOf 4 c ++ (Command code ∷ [])) (floatOf (on .rule) op w c)
   does-float op code c w t u v k h C W F = does-pushes c h (does-command F (floated (on .rule) op code w c (underWord t) u v k h W C))
 

@@ -1,17 +1,18 @@
--- What the program's state answers is what the state of document 01 does: bytes at once turn pending once for each, a busy state is handed back, and a code is answered by what became of it on the stack. Assumes nothing.
+-- What the program's state answers is what the state of document 01 does: bytes at once turn pending once for each, and a
+-- code is answered by what became of it on the stack. Assumes nothing.
 use mathlib.Core.Path.{_≡_, refl, sym, ap, subst, _∙_}
 use mathlib.Core.Logic.{inl, inr, ⊎-elim}
 use mathlib.Core.Bool.{Bool, true, false, not, cond}
 use mathlib.Core.List.{List}
 use Prim.Native.Nat.{ℕ, zero, suc, _*_, _/_, _%_, _≤_, _<_}
 use native.Mathlib.Omega.{arith}
-use borrow.Author.Tests.{lt-leb, le-leb, lt-ltb, le-ltb}
+use borrow.Author.Tests.{lt-leb, lt-ltb, le-ltb}
 use lib.Dec.{ltb}
+use lib.Ieee.{unlike}
 use Rattle.terms.specs.declared.Mode.{Mode}
 use Rattle.terms.specs.declared.Mode.the-variants.{Am9511A, Am9511}
-use Rattle.terms.specs.Settings.{Settings}
 use Rattle.terms.specs.declared.Rule.{Rule}
-use Rattle.terms.specs.declared.Refusal.the-variants.{UnknownCode, DerivedCode, HalfWord, Improper, BadState}
+use Rattle.terms.specs.declared.Refusal.the-variants.{UnknownCode, DerivedCode, HalfWord, Improper}
 use Rattle.terms.specs.declared.Width.{Width}
 use Rattle.terms.specs.Refusal.{numberOf}
 use Rattle.stack.specs.declared.Stack.{Stack}
@@ -23,11 +24,10 @@ use Rattle.codes.specs.declared.MoveOp.{MoveOp}
 use Rattle.codes.specs.declared.MoveOp.the-variants.{Pto as PtoOp, Pop as PopOp, Xch as XchOp}
 use Rattle.codes.specs.Command.{Command, Kind, Known, Derived, Unknown, fixedIn, moveIn, kindIn}
 use Rattle.codes.specs.Codes.{sr, decoded}
-use Rattle.chip.specs.State.{State, Answer, left, afterReset, acknowledged, settled}
-use Rattle.chip.specs.Event.{Event, Push, Pop, Command as CommandEvent, Status, Reset, Acknowledge}
+use Rattle.chip.specs.State.{State, left, afterReset, acknowledged, settled}
 use Rattle.chip.specs.declared.commands.Obeyed.{Obeyed}
 use Rattle.chip.specs.Commands.{outcomeOf, properOperands}
-use Rattle.chip.specs.Step.{done, refused, pushOf, popOf, resetOf, acknowledgeOf, readOf, carried, commandUnder, answerTo}
+use Rattle.chip.specs.Step.{done, refused, resetOf, acknowledgeOf, readOf, carried, commandUnder}
 use Rattle.chip.specs.Held.{held, flipped, Settles, SettlesEither, Obeys, Performs, halfWord, refusalOf, answerAs, Commanded}
 use Rattle.chip.proofs.Answers.{carried-half, carried-improper, carried-done, command-by}
 use Rattle.chip.proofs.InTurn.{turned}
@@ -43,6 +43,13 @@ flips (suc (suc n)) p =
     twice : (q : Bool) → q ≡ not (not q)
     twice true = refl
     twice false = refl
+
+-- a flag that another turns
+pub turned-if : (p q : Bool) → unlike p q ≡ cond q (not p) p
+turned-if true true = refl
+turned-if true false = refl
+turned-if false true = refl
+turned-if false false = refl
 
 -- ---- events of a state that is not busy
 module _ (s : State) (h : s .status < 128) where
@@ -63,16 +70,6 @@ pub reset-held : (mode : Mode) (s : State) {stack : List ℕ} → stack ≡ afte
 reset-held Am9511A s e = ap (λ (l : List ℕ). held l false 0 false) e
 reset-held Am9511 s e = ap (λ (l : List ℕ). held l false 0 false) e
 
--- a busy state is handed back by every event
-pub busy-event : (on : Settings) (s : State) (e : Event) → 128 ≤ s .status → refused BadState s ≡ answerTo on s e
-unfolding pushOf popOf resetOf acknowledgeOf readOf commandUnder
-busy-event on s (Push b) h = rw (le-leb 128 (s .status) h)
-busy-event on s Pop h = rw (le-leb 128 (s .status) h)
-busy-event on s (CommandEvent code) h = rw (le-leb 128 (s .status) h)
-busy-event on s Status h = rw (le-leb 128 (s .status) h)
-busy-event on s Reset h = rw (le-leb 128 (s .status) h)
-busy-event on s Acknowledge h = rw (le-leb 128 (s .status) h)
-
 -- ---- a code
 module _ (rule : Rule) (command : Command) (stack : Stack) (o : Obeyed) where
   pub done-by : properOperands command (bytesIn stack) ≡ true → Settles (outcomeOf rule command (bytesIn stack)) o → Obeys rule command stack o
@@ -88,10 +85,12 @@ module _ (s : State) (code : ℕ) (o : Obeyed) where
   pub as-refused : 256 ≤ o .answer → answerAs s code o ≡ refused (refusalOf (o .answer / 256)) s
   as-refused h = rw (le-ltb (o .answer) 256 h)
 
-  as-number : (n : ℕ) → o .answer ≡ n → answerAs s code o ≡ cond (ltb n 256) (done 0 (settled s (sr code) (left (bytesIn (o .stack)) n))) (refused (refusalOf (n / 256)) s)
+  as-number : (n : ℕ) → o .answer ≡ n → answerAs s code o ≡ cond (ltb n 256) (done 0 (settled s (sr code) (left (bytesIn (o .stack)) n)))
+      (refused (refusalOf (n / 256)) s)
   as-number n e = ap (λ (x : ℕ). cond (ltb x 256) (done 0 (settled s (sr code) (left (bytesIn (o .stack)) x))) (refused (refusalOf (x / 256)) s)) e
 
-  known-one : (rule : Rule) (command : Command) (stack : Stack) → s .stack ≡ bytesIn stack → s .pending ≡ false → Obeys rule command stack o → answerAs s code o ≡ carried rule s (sr code) command
+  known-one : (rule : Rule) (command : Command) (stack : Stack) → s .stack ≡ bytesIn stack → s .pending ≡ false → Obeys rule command stack o
+      → answerAs s code o ≡ carried rule s (sr code) command
   known-one rule command stack es ep w =
       ⊎-elim
       (λ (d : (properOperands command (bytesIn stack) ≡ true) × Settles (outcomeOf rule command (bytesIn stack)) o).
@@ -123,7 +122,8 @@ works-as w s o e = subst (λ (x : FixedOp). SettlesEither (fixedIn x w) s o) (sy
 pub moves-as : (w : Width) (s : Stack) (o : Obeyed) {k l : MoveOp} → k ≡ l → SettlesEither (moveIn l w) s o → SettlesEither (moveIn k w) s o
 moves-as w s o e = subst (λ (x : MoveOp). SettlesEither (moveIn x w) s o) (sym e)
 
-pub by-rule : (pending : Bool) (code : ℕ) (stack : Stack) {rule r : Rule} {o x : Obeyed} → rule ≡ r → o ≡ x → Commanded r pending code stack x → Commanded rule pending code stack o
+pub by-rule : (pending : Bool) (code : ℕ) (stack : Stack) {rule r : Rule} {o x : Obeyed} → rule ≡ r → o ≡ x → Commanded r pending code stack x
+    → Commanded rule pending code stack o
 by-rule pending code stack e f h = rw (e, f) h
 
 -- operands are asked for by no fixed-point operation and no move

@@ -1,4 +1,5 @@
--- Bytes pushed and popped in turn on a state that is not busy: each is answered 0, a word pushed low byte first lies on top with the rest moved down and nothing more pending,
+-- Bytes pushed and popped in turn on a state that is not busy: each is answered 0, a word pushed low byte first lies on top with the rest moved down and
+-- nothing more pending,
 -- pops hand out the top bytes, and after an accepted command they hand out R. Assumes nothing.
 use mathlib.Core.Path.{_≡_, refl, ap, ap₂, _∙_}
 use mathlib.Core.Bool.{Bool, true, false, not}
@@ -77,7 +78,13 @@ lies Double r s = pushes-lay 3 r s (lit≤ tt)
 
 -- its bytes pushed low first lie on top, the rest moves down, and pending is as it was
 pub word-pushed : (w : Width) (r : ℕ) (s : State) → s .status < 128
-    → afterPushes s (lowFirst (sizeOf w) r) ≡ record { stack = bytesOf (sizeOf w) r ++ take (16 - sizeOf w) (s .stack); pending = s .pending; status = s .status; service = s .service }
+    → afterPushes s (lowFirst (sizeOf w) r) ≡ record {
+      stack = bytesOf (sizeOf w) r ++ take (16 - sizeOf w)
+          (s .stack);
+      pending = s .pending;
+      status = s .status;
+      service = s .service;
+    }
 word-pushed w r s h =
     pushes-state (lowFirst (sizeOf w) r) s h
     ∙ ap₂ (λ (l : List ℕ) (p : Bool). record { stack = l; pending = p; status = s .status; service = s .service }) (lies w r (s .stack))
@@ -87,11 +94,18 @@ word-pushed w r s h =
 pub word-popped : (w : Width) (r : ℕ) (s : State) → s .status < 128 → bytesPopped (sizeOf w) (afterPushes s (lowFirst (sizeOf w) r)) ≡ bytesOf (sizeOf w) r
 word-popped w r s h =
     ap (bytesPopped (sizeOf w)) (word-pushed w r s h)
-    ∙ pops-bytes (sizeOf w) (record { stack = bytesOf (sizeOf w) r ++ take (16 - sizeOf w) (s .stack); pending = s .pending; status = s .status; service = s .service }) h
+    ∙ pops-bytes (sizeOf w) (record {
+      stack = bytesOf (sizeOf w) r ++ take (16 - sizeOf w)
+          (s .stack);
+      pending = s .pending;
+      status = s .status;
+      service = s .service;
+    }) h
     ∙ pops-read (sizeOf w) r (take (16 - sizeOf w) (s .stack))
 
 -- ---- after an accepted command the pops hand out R's bytes
-pub result-popped : (rule : Rule) (s : State) (code : ℕ) (k : Command) → IsStack (s .stack) → decoded (code % 128) ≡ Known k → (commandUnder rule s code) .refusal ≡ Done
+pub result-popped : (rule : Rule) (s : State) (code : ℕ) (k : Command) → IsStack (s .stack) → decoded (code % 128) ≡ Known k
+    → (commandUnder rule s code) .refusal ≡ Done
     → bytesPopped (length (resultBytes rule k (s .stack))) ((commandUnder rule s code) .state) ≡ resultBytes rule k (s .stack)
 result-popped rule s code k S e d =
     let a = accepted rule s code d in

@@ -30,23 +30,23 @@ keeps-cond s false x y p q = q
 unless-busy : (s : State) (x : Answer) → Keeps s x → Keeps s (unlessBusy s x)
 unless-busy s x p = keeps-cond s (busy s) (refused BadState s) x (inr refl) p
 
-pub push-keeps : (s : State) (b : ℕ) → Keeps s (pushOf s b)
+push-keeps : (s : State) (b : ℕ) → Keeps s (pushOf s b)
 unfolding pushOf
 push-keeps s b = unless-busy s _ (inl refl)
 
-pub pop-keeps : (s : State) → Keeps s (popOf s)
+pop-keeps : (s : State) → Keeps s (popOf s)
 unfolding popOf
 pop-keeps s = unless-busy s _ (inl refl)
 
-pub reset-keeps : (mode : Mode) (s : State) → Keeps s (resetOf mode s)
+reset-keeps : (mode : Mode) (s : State) → Keeps s (resetOf mode s)
 unfolding resetOf
 reset-keeps mode s = unless-busy s _ (inl refl)
 
-pub acknowledge-keeps : (s : State) → Keeps s (acknowledgeOf s)
+acknowledge-keeps : (s : State) → Keeps s (acknowledgeOf s)
 unfolding acknowledgeOf
 acknowledge-keeps s = unless-busy s _ (inl refl)
 
-pub read-keeps : (s : State) → Keeps s (readOf s)
+read-keeps : (s : State) → Keeps s (readOf s)
 unfolding readOf
 read-keeps s = unless-busy s _ (inl refl)
 

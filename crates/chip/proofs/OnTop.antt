@@ -26,7 +26,8 @@ idle l u v = record { stack = l; pending = false; status = u; service = v }
 module _ (rule : Rule) where
   pub floated : (op : FloatOp) (code b a : ℕ) (t : List ℕ) (u : ℕ) (v : Bool) → decoded (code % 128) ≡ Known (Float op) → u < 128 → FloatWord b → FloatWord a
       → commandUnder rule (idle (bytesOf 4 a ++ (bytesOf 4 b ++ t)) u v) code
-      ≡ done 0 (idle (bytesOf 4 ((floatOf rule op b a) .word) ++ (t ++ zeros 4)) (statusOf Double (bytesOf 4 ((floatOf rule op b a) .word) ++ (t ++ zeros 4)) ((floatOf rule op b a) .error) false) (sr code))
+      ≡ done 0 (idle (bytesOf 4 ((floatOf rule op b a) .word) ++ (t ++ zeros 4))
+      (statusOf Double (bytesOf 4 ((floatOf rule op b a) .word) ++ (t ++ zeros 4)) ((floatOf rule op b a) .error) false) (sr code))
   unfolding commandUnder carried floats
   floated op code b a t u v k h B A = rw (lt-leb 128 u h, k, number-bytes 4 b (B .fits), number-bytes 4 a (A .fits), B .is-proper, A .is-proper)
 
@@ -37,6 +38,7 @@ module _ (rule : Rule) where
   exchanged-words code b a t u v k h = rw (lt-leb 128 u h, k)
 
   pub sign-changed : (code a : ℕ) (t : List ℕ) (u : ℕ) (v : Bool) → decoded (code % 128) ≡ Known Chsf → u < 128 → FloatWord a
-      → commandUnder rule (idle (bytesOf 4 a ++ t) u v) code ≡ done 0 (idle (bytesOf 4 (chsf a) ++ t) (statusOf Double (bytesOf 4 (chsf a) ++ t) 0 false) (sr code))
+      → commandUnder rule (idle (bytesOf 4 a ++ t) u v) code ≡ done 0
+      (idle (bytesOf 4 (chsf a) ++ t) (statusOf Double (bytesOf 4 (chsf a) ++ t) 0 false) (sr code))
   unfolding commandUnder carried
   sign-changed code a t u v k h A = rw (lt-leb 128 u h, k, number-bytes 4 a (A .fits))

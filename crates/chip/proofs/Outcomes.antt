@@ -20,15 +20,18 @@ use Rattle.float.specs.Convert.{flts, fltd, fixs, fixd, chsf}
 use Rattle.float.specs.Root.{sqrt}
 use Rattle.float.proofs.Results.{fltd-result, flts-result}
 use Rattle.float.proofs.RootExact.{root-result}
-use Rattle.stack.specs.Stack.{IsStack, bytesOf, zeros, tos, nos, rotated, overA, overZero, replaced, copied, exchanged, pushedWord, converted, widened, narrowed, handedOut}
+use Rattle.stack.specs.Stack.{IsStack, bytesOf, zeros, tos, nos, rotated, overA, overZero, replaced, copied, exchanged, pushedWord, converted, widened}
+use Rattle.stack.specs.Stack.{narrowed, handedOut}
 use Rattle.stack.proofs.Words.{tos-lt, nos-lt, length-bytes}
-use Rattle.stack.proofs.Layouts.{two-fit, overA-stack, overZero-stack, replaced-stack, rotated-stack, exchanged-stack, copied-stack, pushedWord-stack, converted-stack, widened-stack, narrowed-stack}
+use Rattle.stack.proofs.Layouts.{two-fit, overA-stack, overZero-stack, replaced-stack, rotated-stack, exchanged-stack, copied-stack, pushedWord-stack}
+use Rattle.stack.proofs.Layouts.{converted-stack, widened-stack, narrowed-stack}
 use Rattle.stack.proofs.Moves.{pops-hand, pops-read}
 use Rattle.codes.specs.Command.{Command}
 use Rattle.codes.specs.Command.{Nop, Add, Sub, Mul, Muu, Div, Chs, Float, Chsf, Flt, Fix, Pto, Pop, Xch, Pupi, Sqrt}
 use Rattle.chip.specs.State.{CommandOutcome}
 use Rattle.chip.specs.Status.{sign, zeroBits, statusOf, errorOf}
-use Rattle.chip.specs.Commands.{piOf, wordA, wordB, halfOf, ends, keepsA, losesA, changesA, floats, converts, widens, narrows, roots, floatOf, outcomeOf, properOperands}
+use Rattle.chip.specs.Commands.{piOf, wordA, wordB, halfOf, ends, keepsA, losesA, changesA, floats, converts, widens, narrows, roots, floatOf}
+use Rattle.chip.specs.Commands.{outcomeOf, properOperands}
 use Rattle.chip.specs.InTurn.{resultBytes}
 use Rattle.chip.proofs.Errors.{float-result, fix-error}
 use Rattle.chip.proofs.Rows.{both-of}
@@ -125,7 +128,8 @@ module _ (s : List ℕ) (S : IsStack s) where
   outcome-fair rule (Chs w) p = changes-fair w (chs (halfOf w) (wordA w s)) (chs-few (halfOf w) (wordA w s))
   outcome-fair rule (Float op) p =
       floats-fair (floatOf rule op (wordB Double s) (wordA Double s))
-      (float-result rule op (wordB Double s) (wordA Double s) (record { fits = b-fits; is-proper = both-of (proper (wordB Double s)) (proper (wordA Double s)) p .0 }) .small)
+      (float-result rule op (wordB Double s) (wordA Double s)
+      (record { fits = b-fits; is-proper = both-of (proper (wordB Double s)) (proper (wordA Double s)) p .0 }) .small)
   outcome-fair rule Chsf p = fair Double (replaced 4 s (chsf (wordA Double s))) 0 false (replaced-stack s S 4 (one Double) (chsf (wordA Double s))) (lit< tt)
   outcome-fair rule (Flt Double) p = converts-fair (fltd rule (wordA Double s)) (fltd-result rule (wordA Double s) .small)
   outcome-fair rule (Flt Single) p = widens-fair (flts (wordA Single s)) (flts-result (wordA Single s) .small)
@@ -173,16 +177,20 @@ module _ (s : List ℕ) (S : IsStack s) where
   unfolding narrows
   narrows-hand r = go (eqb (r .error) 0)
     where
-      go : (x : Bool) → handedOut (cond x 2 4) ((cond {A = CommandOutcome} x (ends Single (narrowed s (r .word)) 0 false) (ends Double (converted s (r .word)) (r .error) false)) .stack) ≡ bytesOf (cond x 2 4) (r .word)
+      go : (x : Bool) → handedOut (cond x 2 4) ((cond {A = CommandOutcome} x (ends Single (narrowed s (r .word)) 0 false)
+          (ends Double (converted s (r .word)) (r .error) false)) .stack) ≡ bytesOf (cond x 2 4) (r .word)
       go true = pops-read 2 (r .word) (take 8 (drop 4 s) ++ zeros 6)
       go false = pops-read 4 (r .word) (take 8 (drop 4 s) ++ zeros 4)
 
-  roots-hand : (r : Flagged) → handedOut (length (cond (eqb (r .error) 0) (bytesOf 4 (r .word)) (take 4 s))) ((roots s r) .stack) ≡ cond (eqb (r .error) 0) (bytesOf 4 (r .word)) (take 4 s)
+  roots-hand : (r : Flagged) → handedOut (length (cond (eqb (r .error) 0) (bytesOf 4 (r .word)) (take 4 s))) ((roots s r) .stack) ≡ cond (eqb (r .error) 0)
+      (bytesOf 4 (r .word)) (take 4 s)
   unfolding roots
   roots-hand r = go (eqb (r .error) 0)
     where
       go : (x : Bool)
-          → handedOut (length (cond x (bytesOf 4 (r .word)) (take 4 s))) ((cond {A = CommandOutcome} x (ends Double (converted s (r .word)) 0 false) (ends Double s (r .error) false)) .stack) ≡ cond x (bytesOf 4 (r .word)) (take 4 s)
+          → handedOut (length (cond x (bytesOf 4 (r .word)) (take 4 s)))
+          ((cond {A = CommandOutcome} x (ends Double (converted s (r .word)) 0 false) (ends Double s (r .error) false)) .stack) ≡ cond x
+          (bytesOf 4 (r .word)) (take 4 s)
       go true = pops-read 4 (r .word) (take 8 (drop 4 s) ++ zeros 4)
       go false = let e = S .sixteen in rw (length-take-le 4 s (omega arith)) (pops-hand 4 s (omega arith))
 
@@ -214,6 +222,7 @@ module _ (s : List ℕ) (S : IsStack s) where
       let l : sizeOf w ≤ length (drop (sizeOf w) s) = simp length-drop (omega arith) in
       let m : sizeOf w ≤ length (rotated (sizeOf w) s) = simp (length-append, length-drop, length-take) (omega arith) in
       rw (b-bytes w) (pops-hand (sizeOf w) (rotated (sizeOf w) s) m ∙ take-append-le (sizeOf w) (drop (sizeOf w) s) (take (sizeOf w) s) l)
-  outcome-hands rule (Xch w) = rw (b-bytes w) (on-top (sizeOf w) (take (sizeOf w) (drop (sizeOf w) s)) (take (sizeOf w) s ++ drop (sizeOf w + sizeOf w) s) (b-bytes w))
+  outcome-hands rule (Xch w) =
+      rw (b-bytes w) (on-top (sizeOf w) (take (sizeOf w) (drop (sizeOf w) s)) (take (sizeOf w) s ++ drop (sizeOf w + sizeOf w) s) (b-bytes w))
   outcome-hands rule Pupi = pops-read 4 (piOf rule) (take 12 s)
   outcome-hands rule Sqrt = roots-hand (sqrt rule (wordA Double s))

@@ -1,4 +1,5 @@
--- Several bytes pushed or popped in turn, each by an event of its own, and the bytes of R that pops hand out after a command. Definitions only. Assumes nothing.
+-- Several bytes pushed or popped in turn, each by an event of its own, and the bytes of R that pops hand out after a command. Definitions only. Assumes
+-- nothing.
 use Prim.Native.Nat.{ℕ, zero, suc}
 use mathlib.Core.Bool.{cond}
 use mathlib.Core.List.{List, [], _∷_}

@@ -34,7 +34,8 @@ moved s stack = record { stack = stack; pending = not (s .pending); status = s .
 abbrev pub resetState : State
 resetState = record { stack = zeros 16; pending = false; status = 0; service = false }
 
--- 02, ask 6: in the older mode "reset keeps all 16 bytes if no half word is pending. If one is, the top byte goes to the bottom and the bottom two bytes become zero"
+-- 02, ask 6: in the older mode "reset keeps all 16 bytes if no half word is pending. If one is, the top byte goes to the bottom and the bottom two bytes
+-- become zero"
 abbrev pub keptStack : Bool → List ℕ → List ℕ
 keptStack pending stack = cond pending (take 14 (popped stack) ++ zeros 2) stack
 

@@ -1,7 +1,8 @@
--- Figure 8 by the bits of a code: what an operation's number, or a part of its bits, stands for in each format, each law by one computation over its numbers. Assumes nothing.
-use mathlib.Core.Path.{_≡_, refl, sym, ap, ap₂, _∙_}
+-- Figure 8 by the bits of a code: what an operation's number, or a part of its bits, stands for in each format, each law by one computation over its
+-- numbers. Assumes nothing.
+use mathlib.Core.Path.{_≡_, refl, sym, ap, _∙_}
 use mathlib.Core.Logic.{⊎-elim}
-use mathlib.Core.Bool.{Bool, _||_, cond}
+use mathlib.Core.Bool.{_||_, cond}
 use mathlib.Core.List.{List, [], _∷_}
 use Prim.Native.Nat.{ℕ, zero, suc, _+_, _-_, _*_, _/_, _%_, _≤_, _<_}
 use native.Mathlib.Nat.{eq-or-lt-of-le}
@@ -10,7 +11,7 @@ use lib.Dec.{eqb}
 use borrow.Author.Tests.{eq-eqb, ne-eqb}
 use Rattle.terms.specs.declared.Width.{Width}
 use Rattle.terms.specs.declared.Width.the-variants.{Single, Double}
-use Rattle.codes.specs.Command.{Add, Sub, Mul, Div, Flt, Fix}
+use Rattle.codes.specs.Command.{Flt, Fix}
 use Rattle.codes.specs.Command.{Kind}
 use Rattle.codes.specs.Command.{Known, Derived, Unknown}
 use Rattle.codes.specs.Codes.{decoded}
@@ -46,19 +47,12 @@ fixed-format Double n h = agree (λ (k : ℕ). decoded (fixedCode Double k)) (op
 pub operation-is : (w : Width) (n m : ℕ) → n < 32 → n ≡ m → operationIn operations w m ≡ decoded (fixedCode w n)
 operation-is w n m h e = sym (fixed-format w n h ∙ ap (operationIn operations w) e)
 
--- 0C to 0F: bit 1 is 0 for ADD and SUB, 1 for MUL and DIV
-pub arithmetic-is : (w : Width) (low : ℕ) → low < 4
-    → cond (eqb (low / 2) 1) (cond (eqb (low % 2) 1) (Known (Div w)) (Known (Mul w))) (cond (eqb (low % 2) 1) (Known (Sub w)) (Known (Add w))) ≡ decoded (fixedCode w (12 + low))
-arithmetic-is w low h =
-    agree (λ (k : ℕ). cond (eqb (k / 2) 1) (cond (eqb (k % 2) 1) (Known (Div w)) (Known (Mul w))) (cond (eqb (k % 2) 1) (Known (Sub w)) (Known (Add w))))
-    (λ (k : ℕ). operationIn operations w (12 + k)) 0 4 refl low (omega arith) h
-    ∙ operation-is w (12 + low) (12 + low) (omega arith) refl
-
 -- below 17 those are unknown that are none of 0C to 0F, 14 and 16; above 19 all are
 pub fixed-low : (w : Width) (n : ℕ) → n < 0x17 → (n / 4 ≡ 3 → ⊥) → (n ≡ 0x14 → ⊥) → (n ≡ 0x16 → ⊥) → Unknown ≡ decoded (fixedCode w n)
 fixed-low w n h a b c =
     sym (fixed-format w n (omega arith)
-    ∙ agree (operationIn operations w) (λ (k : ℕ). cond (eqb (k / 4) 3 || eqb k 0x14 || eqb k 0x16) (operationIn operations w k) Unknown) 0 0x17 refl n (omega arith) h
+    ∙ agree (operationIn operations w) (λ (k : ℕ). cond (eqb (k / 4) 3 || eqb k 0x14 || eqb k 0x16) (operationIn operations w k) Unknown) 0 0x17 refl n
+    (omega arith) h
     ∙ rw (ne-eqb (n / 4) 3 a, ne-eqb n 0x14 b, ne-eqb n 0x16 c))
 
 pub fixed-high : (w : Width) (n : ℕ) → n < 32 → 0x1a ≤ n → Unknown ≡ decoded (fixedCode w n)
@@ -92,7 +86,8 @@ float-moves n l h = agree (λ (k : ℕ). decoded (fixedCode Double k)) decoded 0
 pub conversion-is : (low : ℕ) → low < 4 → cond (eqb (low / 2) 1) (Known (Fix (widthOf (low % 2)))) (Known (Flt (widthOf (low % 2)))) ≡ decoded (0x1c + low)
 unfolding decoded
 conversion-is low h =
-    agree (λ (k : ℕ). cond (eqb (k / 2) 1) (Known (Fix (widthOf (k % 2)))) (Known (Flt (widthOf (k % 2))))) (λ (k : ℕ). decoded (0x1c + k)) 0 4 refl low (omega arith) h
+    agree (λ (k : ℕ). cond (eqb (k / 2) 1) (Known (Fix (widthOf (k % 2)))) (Known (Flt (widthOf (k % 2))))) (λ (k : ℕ). decoded (0x1c + k)) 0 4 refl low
+    (omega arith) h
 
 -- ---- bits 6 and 5
 -- bit 6 without bit 5 is no format

@@ -1,12 +1,11 @@
--- Of the 128 codes without bit 7, 33 are carried, 10 derived and 85 unknown, by one count; and bit 7 changes the service line alone. Assumes nothing.
+-- Of the 128 codes without bit 7, 33 are carried, 10 derived and 85 unknown, by one count; and bit 7 changes none. Assumes nothing.
 use mathlib.Core.Path.{_≡_, refl, ap}
-use mathlib.Core.Bool.{true, false, cond}
-use Prim.Native.Nat.{ℕ, zero, suc, _+_, _%_, _<_}
+use mathlib.Core.Bool.{cond}
+use Prim.Native.Nat.{ℕ, zero, suc, _+_, _%_}
 use native.Mathlib.Omega.{arith}
 use lib.Dec.{eqb}
-use borrow.Author.Tests.{le-leb, lt-leb}
 use Rattle.terms.specs.Refusal.{numberOf}
-use Rattle.codes.specs.Codes.{sr, decoded, refusalOf}
+use Rattle.codes.specs.Codes.{decoded, refusalOf}
 
 -- how many of the codes below n are answered with a refusal's number
 abbrev pub howMany : ℕ → ℕ → ℕ
@@ -21,7 +20,3 @@ counted = (refl, refl, refl)
 -- a code with bit 7 and without is of one kind
 pub either-way : (code : ℕ) → decoded ((code + 128) % 128) ≡ decoded (code % 128)
 either-way code = ap decoded (omega arith)
-
--- and its service line is high with bit 7, low without
-pub service-line : (code : ℕ) → code < 128 → (sr (code + 128) ≡ true) × (sr code ≡ false)
-service-line code h = (le-leb 128 (code + 128) (omega arith), lt-leb 128 code h)

@@ -1,4 +1,5 @@
--- What a command code stands for, read from Figure 8 of document 001 (Table 1 of 000 is the same), and what becomes of each kind. Definitions only. Assumes nothing.
+-- What a command code stands for, read from Figure 8 of document 001 (Table 1 of 000 is the same), and what becomes of each kind. Definitions only.
+-- Assumes nothing.
 use Prim.Native.Nat.{ℕ}
 use mathlib.Core.Bool.{Bool, cond}
 use mathlib.Core.List.{List, [], _∷_, _++_}

@@ -1,4 +1,5 @@
--- The commands that are carried, by the names of the sheets, and what a code stands for; and which of these the code's groups are. Definitions only. Assumes nothing.
+-- The commands that are carried, by the names of the sheets, and what a code stands for; and which of these the code's groups are. Definitions only.
+-- Assumes nothing.
 use Rattle.terms.specs.declared.Width.{Width}
 use Rattle.codes.specs.declared.FixedOp.{FixedOp}
 use Rattle.codes.specs.declared.FixedOp.the-variants.{Add as AddOp, Sub as SubOp, Mul as MulOp, Muu as MuuOp, Div as DivOp, Chs as ChsOp}
@@ -6,7 +7,9 @@ use Rattle.codes.specs.declared.FloatOp.{FloatOp}
 use Rattle.codes.specs.declared.MoveOp.{MoveOp}
 use Rattle.codes.specs.declared.MoveOp.the-variants.{Pto as PtoOp, Pop as PopOp, Xch as XchOp}
 use Rattle.codes.specs.declared.Kind.{Kind as Coded}
-use Rattle.codes.specs.declared.Kind.the-variants.{Nop as NopCode, Fixed as FixedCode, Float as FloatCode, Chsf as ChsfCode, Flt as FltCode, Fix as FixCode, Move as MoveCode, Pupi as PupiCode, Sqrt as SqrtCode, Derived as DerivedCode, Unknown as UnknownCode}
+use Rattle.codes.specs.declared.Kind.the-variants.{Nop as NopCode, Fixed as FixedCode, Float as FloatCode, Chsf as ChsfCode, Flt as FltCode}
+use Rattle.codes.specs.declared.Kind.the-variants.{Fix as FixCode, Move as MoveCode, Pupi as PupiCode, Sqrt as SqrtCode, Derived as DerivedCode}
+use Rattle.codes.specs.declared.Kind.the-variants.{Unknown as UnknownCode}
 
 -- the carried commands; the D and F forms of PTO, POP and XCH do the same and are one
 pub data Command : Type 0 where

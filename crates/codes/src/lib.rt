@@ -7,13 +7,14 @@ ghost use Rattle.codes.specs.Codes.{sr, decoded};
 ghost use Rattle.codes.specs.Format.{widthOf, fixedCode};
 use terms::Width;
 
-// The fixed-point operations, of 16 bits or of 32: those on B and A, and CHS on A.
+// The fixed-point operations, of 16 bits or of 32: those on B and A, and CHS on A. The first four are in the order of
+// their codes, so that no table is needed.
 pub enum FixedOp {
     Add,
     Sub,
     Mul,
-    Muu,
     Div,
+    Muu,
     Chs,
 }
 
@@ -75,17 +76,11 @@ fn arithmetic(low: u8, width: Width) -> Kind
     requires { ⌜ low < 4 ⌝ }
     ensures { λ r. ⌜ kindIn r ≡ decoded (fixedCode width (0x0c + low)) ⌝ }
 {
-    let odd = low % 2 == 1;
-    if low / 2 == 1 {
-        if odd {
-            Kind::Fixed(FixedOp::Div, width)
-        } else {
-            Kind::Fixed(FixedOp::Mul, width)
-        }
-    } else if odd {
-        Kind::Fixed(FixedOp::Sub, width)
-    } else {
-        Kind::Fixed(FixedOp::Add, width)
+    match low {
+        0 => Kind::Fixed(FixedOp::Add, width),
+        1 => Kind::Fixed(FixedOp::Sub, width),
+        2 => Kind::Fixed(FixedOp::Mul, width),
+        _ => Kind::Fixed(FixedOp::Div, width),
     }
 }
 

@@ -24,23 +24,26 @@ starts text = record { leads = refl; within = omega arith; small = omega arith }
 pub narrow : (text : List ℕ) (value i : ℕ) → Reading text value i → length text ≤ 8 → value < 4294967296
 narrow text value i r l = lt-of-lt-of-le (r .small) (pow-le-pow-right {n = 16} (omega arith) {i = i} {j = 8} (let w = r .within in omega arith))
 
+-- one digit more, and a character that is none
+pub on : (text : List ℕ) (value i d : ℕ) → i < length text → d ≡ digitValue (getD text i 0) → d < 16
+    → hexFrom value (drop i text) ≡ hexFrom (value * 16 + d) (drop (i + 1) text)
+unfolding hexFrom
+on text value i d l e h = rw (drop-cons text i 0 l, ← e, lt-ltb d 16 h, add-one i)
+
+pub off : (text : List ℕ) (value i d : ℕ) → i < length text → d ≡ digitValue (getD text i 0) → 16 ≤ d → hexFrom value (drop i text) ≡ Unread
+unfolding hexFrom
+off text value i d l e h = rw (drop-cons text i 0 l, ← e, le-ltb d 16 h)
+
 pub reads-on : (text : List ℕ) (value i d : ℕ) → Reading text value i → i < length text → d ≡ digitValue (getD text i 0) → d < 16 → Reading text
     (value * 16 + d) (i + 1)
 reads-on text value i d r l e h = record {
-  leads = sym on ∙ r .leads;
+  leads = sym (on text value i d l e h) ∙ r .leads;
   within = omega arith;
   small = let p = ap (λ (n : ℕ). 16 ^ n) (add-one i) ∙ pow-suc 16 i in let s = r .small in omega arith;
 }
-  where
-    on : hexFrom value (drop i text) ≡ hexFrom (value * 16 + d) (drop (i + 1) text)
-    on = unfold hexFrom in
-        rw (drop-cons text i 0 l, ← e, lt-ltb d 16 h, add-one i)
 
 pub unreadable : (text : List ℕ) (value i d : ℕ) → Reading text value i → i < length text → d ≡ digitValue (getD text i 0) → 16 ≤ d → Unread ≡ hexFrom 0 text
-unreadable text value i d r l e h = sym off ∙ r .leads
-  where
-    off : hexFrom value (drop i text) ≡ Unread
-    off = unfold hexFrom in rw (drop-cons text i 0 l, ← e, le-ltb d 16 h)
+unreadable text value i d r l e h = sym (off text value i d l e h) ∙ r .leads
 
 pub all-read : (text : List ℕ) (value i : ℕ) → Reading text value i → length text ≤ i → Number value ≡ hexFrom 0 text
 all-read text value i r l = sym done ∙ r .leads

@@ -2,7 +2,8 @@
 use mathlib.Core.Path.{_≡_, refl, sym, ap, _∙_, subst₂}
 use mathlib.Core.Bool.{Bool, true, false}
 use Prim.Native.Nat.{ℕ, _+_, _-_, _*_, _/_, _%_, _^_, _≤_, _<_}
-use native.Mathlib.Nat.{add-zero, one-mul, zero-mul, mul-comm, mul-le-mul-right, mul-lt-mul-of-pos-right, lt-of-mul-lt-mul-right, le-div-iff-mul-le, mul-div-cancel, div-add-mod', eq-of-mul-eq-mul-right, mul-mod-left, pow-le-pow-right}
+use native.Mathlib.Nat.{add-zero, one-mul, zero-mul, mul-comm, mul-le-mul-right, mul-lt-mul-of-pos-right, lt-of-mul-lt-mul-right, le-div-iff-mul-le}
+use native.Mathlib.Nat.{mul-div-cancel, div-add-mod', eq-of-mul-eq-mul-right, mul-mod-left, pow-le-pow-right}
 use native.Mathlib.Omega.{arith}
 use borrow.Author.Tests.{le-ltb, lt-ltb, le-leb, lt-leb, leb-true, leb-false, ltb-true, ltb-false, eqb-true, eqb-false, eq-eqb, ne-eqb}
 use lib.Dec.{ltb, leb, eqb}

@@ -9,6 +9,7 @@ pub mod Scanning
 pub mod Parsing
 pub mod Shortest
 pub mod HexReading
+pub mod SumReading
 pub mod Lines
 pub mod Fractions
 pub mod Texts

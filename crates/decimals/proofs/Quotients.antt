@@ -3,7 +3,8 @@
 use mathlib.Core.Path.{_≡_, refl, sym, ap, ap₂, _∙_, subst, subst₂}
 use mathlib.Core.Logic.{_⊎_, inl, inr}
 use Prim.Native.Nat.{ℕ, zero, suc, _+_, _-_, _*_, _/_, _%_, _^_, _≤_, _<_}
-use native.Mathlib.Nat.{le-trans, le-of-eq, lt-of-not-le, mul-assoc, mul-comm, mul-mul-mul-comm, mul-le-mul, mul-le-mul-left, mul-le-mul-right, div-le-self, div-add-mod', mod-lt, pow-suc, pow-le-pow-right, lt-of-le-of-lt, zero-mul, mul-pos}
+use native.Mathlib.Nat.{le-trans, le-of-eq, lt-of-not-le, mul-assoc, mul-comm, mul-mul-mul-comm, mul-le-mul, mul-le-mul-left, mul-le-mul-right, div-le-self}
+use native.Mathlib.Nat.{div-add-mod', mod-lt, pow-suc, pow-le-pow-right, lt-of-le-of-lt, zero-mul, mul-pos}
 use native.Mathlib.Numerals.{add-one}
 use native.Mathlib.Omega.{arith}
 use lib.Dec.{lit<}

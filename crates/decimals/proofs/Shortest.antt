@@ -2,7 +2,8 @@
 use mathlib.Core.Path.{_≡_, refl, sym, ap, ap₂, _∙_, subst}
 use mathlib.Core.Bool.{Bool, true, false, cond, _&&_}
 use Prim.Native.Nat.{ℕ, zero, suc, _+_, _-_, _*_, _/_, _%_, _^_, _≤_, _<_}
-use native.Mathlib.Nat.{mul-assoc, mul-one, div-eq-of-lt, div-eq-of-lt-le, div-add-mod', mod-eq-of-lt, mod-lt, div-lt-iff-lt-mul, mul-lt-mul-of-pos-right, mul-comm, pow-suc}
+use native.Mathlib.Nat.{mul-assoc, mul-one, div-eq-of-lt, div-eq-of-lt-le, div-add-mod', mod-eq-of-lt, mod-lt, div-lt-iff-lt-mul, mul-lt-mul-of-pos-right}
+use native.Mathlib.Nat.{mul-comm, pow-suc}
 use native.Mathlib.Numerals.{add-one}
 use native.Mathlib.Omega.{arith}
 use borrow.Author.Tests.{lt-ltb, le-ltb, ltb-true, ltb-false, eq-eqb, ne-eqb, eqb-true, eqb-false, leb-true, leb-false, le-leb, lt-leb}

@@ -6,4 +6,5 @@ pub mod Read
 pub mod Short
 pub mod Hex
 pub mod Line
+pub mod Sum
 pub mod Meaning

@@ -88,12 +88,9 @@ faultText ManyDigits = blank ∷ 100 ∷ 105 ∷ 103 ∷ 105 ∷ 116 ∷ 115 ∷
 faultText ManyPlaces = blank ∷ 112 ∷ 108 ∷ 97 ∷ 99 ∷ 101 ∷ 115 ∷ []
 faultText NoEnd = blank ∷ 101 ∷ 110 ∷ 100 ∷ []
 
--- the lines of a decimal that is the word's value, of one that was brought to it, of a refusal, of a text that is no decimal
-abbrev pub exactLine : ℕ → List ℕ → List ℕ
-exactLine w text = wordText w ++ (blank ∷ (text ++ (newline ∷ [])))
-
-abbrev pub roundedLine : Rule → ℕ → List ℕ → List ℕ
-roundedLine rule w text = wordText w ++ (blank ∷ (text ++ (ruleMark rule ++ (newline ∷ []))))
+-- the lines of a decimal that was brought to a word, of a refusal, of a text that is no decimal
+abbrev pub broughtLine : Rule → ℕ → List ℕ → Brought → List ℕ
+broughtLine rule w text brought = wordText w ++ (blank ∷ (text ++ (markOf rule brought ++ (newline ∷ []))))
 
 abbrev pub refusedLine : Refusal → List ℕ
 refusedLine r = refusedText ++ (field (numberOf r) ++ (newline ∷ []))
@@ -103,8 +100,8 @@ wrongLine fault place = wrongText ++ (field (place + 1) ++ (faultText fault ++ (
 
 -- the line of a reading of a text
 abbrev pub readLine : Rule → List ℕ → Reading → List ℕ
-readLine rule text (Exact w) = exactLine w text
-readLine rule text (Rounded w) = roundedLine rule w text
+readLine rule text (Exact w) = broughtLine rule w text (Is w)
+readLine rule text (Rounded w) = broughtLine rule w text (Near w)
 readLine rule text (Refused r) = refusedLine r
 readLine rule text (Wrong fault place) = wrongLine fault place
 

@@ -11,7 +11,7 @@ pub enum Hex {
 }
 
 // The value of a hex digit of either case, 16 for a character that is none.
-fn digit_value(c: u8) -> u8
+pub fn digit_value(c: u8) -> u8
     ensures { λ r. ⌜ (r ≡ digitValue c) × (r ≤ 16) ⌝ }
 {
     if c < 48 {

@@ -7,3 +7,4 @@ pub mod line;
 pub mod magnitude;
 pub mod read;
 pub mod short;
+pub mod sum;

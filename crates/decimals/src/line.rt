@@ -33,7 +33,7 @@ ghost use Rattle.decimals.specs.Exact.{minus, exactText};
 ghost use Rattle.decimals.specs.Short.{Brief, shortOf};
 ghost use Rattle.decimals.specs.Read.{Placed};
 ghost use Rattle.decimals.specs.Line.{digitsTo, wordText, decimalText, ruleMark, markOf, markedText, shortText};
-ghost use Rattle.decimals.specs.Line.{valueText, wordLine, exactLine, roundedLine, refusedLine, faultText};
+ghost use Rattle.decimals.specs.Line.{valueText, wordLine, broughtLine, refusedLine, faultText};
 ghost use Rattle.decimals.specs.Line.{wrongLine, readLine, textLine, hexLine, lineOf};
 
 // Room for the line of any text.
@@ -42,7 +42,7 @@ pub const LINE_ROOM: usize = 256;
 const MOST_TEXT: usize = 64;
 
 // The last digits of a number to a base, so many of them.
-fn add_digits(out: &mut [u8], place: usize, n: u64, base: u64, count: usize) -> usize
+pub fn add_digits(out: &mut [u8], place: usize, n: u64, base: u64, count: usize) -> usize
     requires { ⌜ (0 < base) × (base ≤ 16) × (place + count ≤ length (now out)) ⌝ }
     ensures { λ r. ⌜ Adds (digitsTo base count n) (now (out .entry)) (now (out .exit)) place r ⌝ }
 {
@@ -191,26 +191,16 @@ fn add_word_line(out: &mut [u8], rule: Rule, exact: bool, word: u32) -> usize
     add(out, c, b"\n")
 }
 
-// The line of a decimal that is the word's value.
-fn add_exact_line(out: &mut [u8], word: u32, text: &[u8]) -> usize
+// The line of a decimal that was brought to the word, with its mark.
+fn add_brought_line(out: &mut [u8], rule: Rule, word: u32, text: &[u8], brought: Brought) -> usize
     requires { ⌜ (length (now text) ≤ 64) × (256 ≤ length (now out)) ⌝ }
-    ensures { λ r. ⌜ Adds (exactLine word (now (text .entry))) (now (out .entry)) (now (out .exit)) 0 r ⌝ }
+    ensures { λ r. ⌜ Adds (broughtLine rule word (now (text .entry)) brought) (now (out .entry))
+        (now (out .exit)) 0 r ⌝ }
 {
     let a = add_digits(out, 0, word as u64, 16, 8);
     let b = add(out, a, b" ");
     let c = add(out, b, text);
-    add(out, c, b"\n")
-}
-
-// The line of a decimal that was brought to the word.
-fn add_rounded_line(out: &mut [u8], rule: Rule, word: u32, text: &[u8]) -> usize
-    requires { ⌜ (length (now text) ≤ 64) × (256 ≤ length (now out)) ⌝ }
-    ensures { λ r. ⌜ Adds (roundedLine rule word (now (text .entry))) (now (out .entry)) (now (out .exit)) 0 r ⌝ }
-{
-    let a = add_digits(out, 0, word as u64, 16, 8);
-    let b = add(out, a, b" ");
-    let c = add(out, b, text);
-    let d = add_rule(out, c, rule);
+    let d = add_mark(out, c, rule, brought);
     add(out, d, b"\n")
 }
 
@@ -255,8 +245,8 @@ fn add_read_line(out: &mut [u8], rule: Rule, text: &[u8], reading: Reading) -> u
     ensures { λ r. ⌜ Adds (readLine rule (now (text .entry)) reading) (now (out .entry)) (now (out .exit)) 0 r ⌝ }
 {
     match reading {
-        Reading::Exact(word) => add_exact_line(out, word, text),
-        Reading::Rounded(word) => add_rounded_line(out, rule, word, text),
+        Reading::Exact(word) => add_brought_line(out, rule, word, text, Brought::Exact(word)),
+        Reading::Rounded(word) => add_brought_line(out, rule, word, text, Brought::Rounded(word)),
         Reading::Refused(refusal) => add_refused(out, refusal),
         Reading::Wrong(fault, at) => add_wrong(out, fault, at),
     }

@@ -66,7 +66,7 @@ fn is_digit(c: u8) -> bool
 }
 
 // The digits at the front of a text.
-fn scan(text: &[u8]) -> Scanned
+pub fn scan(text: &[u8]) -> Scanned
     ensures { λ r. ⌜ (r ≡ scanOf (now (text .entry))) × Scans (now (text .entry)) r ⌝ }
 {
     let mut value: u64 = 0;

@@ -1,4 +1,5 @@
--- What stands for a chip with its memory stands for one after every event: a command that leaves an error has a code, and bits joined are bits of the same places. Assumes nothing.
+-- What stands for a chip with its memory stands for one after every event: a command that leaves an error has a code, and bits joined are bits of the
+-- same places. Assumes nothing.
 use mathlib.Core.Path.{_≡_, refl, ap, ap₂, _∙_}
 use mathlib.Core.Logic.{_⊎_, inl, inr, ⊎-elim}
 use mathlib.Core.Bool.{Bool, true, false, cond, not, false≢true}
@@ -73,7 +74,8 @@ or-reaches a b =
 
 module _ (m : Memory) (code status : ℕ) where
   -- where a command that leaves an error has a code
-  remembered-stands : isMemory (m .bits) (m .code) ≡ true → ((errorsOf status ≡ 0 → ⊥) → code % 128 ≡ 0 → ⊥) → isMemory (remembered m code status .bits) (remembered m code status .code) ≡ true
+  remembered-stands : isMemory (m .bits) (m .code) ≡ true → ((errorsOf status ≡ 0 → ⊥) → code % 128 ≡ 0 → ⊥)
+      → isMemory (remembered m code status .bits) (remembered m code status .code) ≡ true
   remembered-stands h g = ⊎-elim empty marked (memory-cases (m .bits) (m .code) h)
     where
       first : (x : Bool) → eqb (errorsOf status) 0 ≡ x → isMemory (errorsOf status) (cond x 0 (code % 128)) ≡ true
@@ -92,7 +94,8 @@ module _ (m : Memory) (code status : ℕ) where
           let below : bitOr (m .bits) (errorsOf status) < 32 = or-lt 5 (m .bits) (errorsOf status) (omega (arith, k .in-places)) (omega arith) in
           let even = or-even (m .bits) (errorsOf status) (k .even) (omega arith) in
           rw (ne-eqb (m .code) 0 (k .coded))
-          (marked-memory (bitOr (m .bits) (errorsOf status)) (m .code) (record { in-places = omega arith; even = even; some = λ z. some (omega arith); coded = k .coded }))
+          (marked-memory (bitOr (m .bits) (errorsOf status)) (m .code)
+          (record { in-places = omega arith; even = even; some = λ z. some (omega arith); coded = k .coded }))
 
   remembered-byte : m .code < 256 → remembered m code status .code < 256
   remembered-byte h = by (eqb (m .code) 0) (eqb (errorsOf status) 0)
@@ -129,7 +132,8 @@ pub memory-stays-good : (c : Card) (e : Event) → GoodMemory (c .memory) → Go
 memory-stays-good c (Chip e) h = chip-good (c .on) (c .chip) (c .memory) e h
 memory-stays-good c Recall h = either-way (λ (a : CardAnswer). GoodMemory (a .card .memory)) c (record { refusal = Done; byte = c .memory .bits; card = c }) h h
 memory-stays-good c Forget h =
-    either-way (λ (a : CardAnswer). GoodMemory (a .card .memory)) c (record { refusal = Done; byte = 0; card = cardWith (c .on) (c .chip) emptyMemory }) h empty-good
+    either-way (λ (a : CardAnswer). GoodMemory (a .card .memory)) c
+    (record { refusal = Done; byte = 0; card = cardWith (c .on) (c .chip) emptyMemory }) h empty-good
 
 pub memory-stays-good-all : (c : Card) (es : List Event) → GoodMemory (c .memory) → GoodMemory (afterAll c es .memory)
 memory-stays-good-all c [] h = h

@@ -8,7 +8,9 @@ use lib.Bits.{bitOr}
 use lib.Dec.{eqb}
 use borrow.Author.Tests.{ne-eqb, eqb-true, eqb-false}
 use Rattle.terms.specs.declared.Refusal.{Refusal}
-use Rattle.terms.specs.declared.Refusal.the-variants.{Done, UnknownCode, DerivedCode, HalfWord, Improper, NoSuchKind, CutShort, BadLength, NoRoom, InputTooLong, NotFinite, TooLarge, TooSmall, BadState, BadReport, MinusZero, BadMode, BadRule, PartEntry}
+use Rattle.terms.specs.declared.Refusal.the-variants.{Done, UnknownCode, DerivedCode, HalfWord, Improper, NoSuchKind, CutShort, BadLength, NoRoom}
+use Rattle.terms.specs.declared.Refusal.the-variants.{InputTooLong, NotFinite, TooLarge, TooSmall, BadState, BadReport, MinusZero, BadMode, BadRule}
+use Rattle.terms.specs.declared.Refusal.the-variants.{PartEntry}
 use Rattle.terms.specs.Refusal.{numberOf}
 use Rattle.terms.specs.declared.Rule.{Rule}
 use Rattle.terms.specs.Settings.{Settings}
@@ -74,30 +76,36 @@ abbrev Coded : List Told → Type 0
 Coded [] = Unit
 Coded (t ∷ ts) = ((errorsOf (t .status) ≡ 0 → ⊥) → t .code % 128 ≡ 0 → ⊥) × Coded ts
 
-coded-more : (ts : List Told) (code status : ℕ) → Coded ts → ((errorsOf status ≡ 0 → ⊥) → code % 128 ≡ 0 → ⊥) → Coded (ts ++ (record { code = code; status = status } ∷ []))
+coded-more : (ts : List Told) (code status : ℕ) → Coded ts → ((errorsOf status ≡ 0 → ⊥) → code % 128 ≡ 0 → ⊥)
+    → Coded (ts ++ (record { code = code; status = status } ∷ []))
 coded-more [] code status h g = (g, tt)
 coded-more (t ∷ ts) code status h g = (h .0, coded-more ts code status (h .1) g)
 
 -- one command more, told at the end
-bits-more : (b : ℕ) (ts : List Told) (code status : ℕ) → bitOr (joinedBits b ts) (errorsOf status) ≡ joinedBits b (ts ++ (record { code = code; status = status } ∷ []))
+bits-more : (b : ℕ) (ts : List Told) (code status : ℕ)
+    → bitOr (joinedBits b ts) (errorsOf status) ≡ joinedBits b (ts ++ (record { code = code; status = status } ∷ []))
 bits-more b [] code status = refl
 bits-more b (t ∷ ts) code status = bits-more (bitOr b (errorsOf (t .status))) ts code status
 
-first-more : (ts : List Told) (code status : ℕ) → Coded ts → firstCode (firstOf ts) (errorsOf status) code ≡ firstOf (ts ++ (record { code = code; status = status } ∷ []))
+first-more : (ts : List Told) (code status : ℕ) → Coded ts
+    → firstCode (firstOf ts) (errorsOf status) code ≡ firstOf (ts ++ (record { code = code; status = status } ∷ []))
 first-more [] code status h = refl
 first-more (t ∷ ts) code status h = by (first-more ts code status (h .1)) (eqb (errorsOf (t .status)) 0) refl
   where
     by : firstCode (firstOf ts) (errorsOf status) code ≡ firstOf (ts ++ (record { code = code; status = status } ∷ []))
         → (x : Bool) → eqb (errorsOf (t .status)) 0 ≡ x
-        → firstCode (cond x (firstOf ts) (t .code % 128)) (errorsOf status) code ≡ cond x (firstOf (ts ++ (record { code = code; status = status } ∷ []))) (t .code % 128)
+        → firstCode (cond x (firstOf ts) (t .code % 128)) (errorsOf status) code ≡ cond x (firstOf (ts ++ (record { code = code; status = status } ∷ [])))
+        (t .code % 128)
     by more true e = more
     by more false e = rw (ne-eqb (t .code % 128) 0 (h .0 (eqb-false (errorsOf (t .status)) 0 e)))
 
 code-more : (start : ℕ) (ts : List Told) (code status : ℕ) → Coded ts
-    → firstCode (cond (eqb start 0) (firstOf ts) start) (errorsOf status) code ≡ cond (eqb start 0) (firstOf (ts ++ (record { code = code; status = status } ∷ []))) start
+    → firstCode (cond (eqb start 0) (firstOf ts) start) (errorsOf status) code ≡ cond (eqb start 0)
+    (firstOf (ts ++ (record { code = code; status = status } ∷ []))) start
 code-more start ts code status h = by (eqb start 0) refl
   where
-    by : (x : Bool) → eqb start 0 ≡ x → firstCode (cond x (firstOf ts) start) (errorsOf status) code ≡ cond x (firstOf (ts ++ (record { code = code; status = status } ∷ []))) start
+    by : (x : Bool) → eqb start 0 ≡ x → firstCode (cond x (firstOf ts) start) (errorsOf status) code ≡ cond x
+        (firstOf (ts ++ (record { code = code; status = status } ∷ []))) start
     by true e = first-more ts code status h
     by false e = rw e
 
@@ -118,12 +126,15 @@ starts m = record { says = by (eqb (m .code) 0) refl; coded = tt }
     by false e = rw e
 
 -- an accepted command
-command-agrees : (rule : Rule) (s : State) (code : ℕ) (m : Memory) (h : History) → Agrees m h → Agrees (keptAfter m (Command code) (commandUnder rule s code)) (chipTells (Command code) (commandUnder rule s code) h)
+command-agrees : (rule : Rule) (s : State) (code : ℕ) (m : Memory) (h : History) → Agrees m h
+    → Agrees (keptAfter m (Command code) (commandUnder rule s code)) (chipTells (Command code) (commandUnder rule s code) h)
 command-agrees rule s code m h g = by (accepted (commandUnder rule s code)) refl
   where
-    by : (x : Bool) → accepted (commandUnder rule s code) ≡ x → Agrees (cond x (remembered m code (commandUnder rule s code .state .status)) m) (cond x (told h code (commandUnder rule s code .state .status)) h)
+    by : (x : Bool) → accepted (commandUnder rule s code) ≡ x
+        → Agrees (cond x (remembered m code (commandUnder rule s code .state .status)) m) (cond x (told h code (commandUnder rule s code .state .status)) h)
     by true e = record {
-      says = ap (λ (n : Memory). remembered n code (commandUnder rule s code .state .status)) (g .says) ∙ told-more h code (commandUnder rule s code .state .status) (g .coded);
+      says = ap (λ (n : Memory). remembered n code (commandUnder rule s code .state .status)) (g .says)
+          ∙ told-more h code (commandUnder rule s code .state .status) (g .coded);
       coded = coded-more (h .since) code (commandUnder rule s code .state .status) (g .coded)
           (λ some z. some (ap errorsOf (nop-clear rule s code (done-of (commandUnder rule s code .refusal) (eqb-true _ _ e)) z)));
     }
@@ -136,7 +147,8 @@ reset-agrees a m h g = by (accepted a)
     by true = starts emptyMemory
     by false = g
 
-chip-agrees : (on : Settings) (s : State) (e : ChipEvent) (m : Memory) (h : History) → Agrees m h → Agrees (keptAfter m e (answerTo on s e)) (chipTells e (answerTo on s e) h)
+chip-agrees : (on : Settings) (s : State) (e : ChipEvent) (m : Memory) (h : History) → Agrees m h
+    → Agrees (keptAfter m e (answerTo on s e)) (chipTells e (answerTo on s e) h)
 chip-agrees on s (Push b) m h g = g
 chip-agrees on s Pop m h g = g
 chip-agrees on s (Command code) m h g = command-agrees (on .rule) s code m h g
@@ -148,12 +160,14 @@ event-agrees : (c : Card) (e : Event) (h : History) → Agrees (c .memory) h →
 event-agrees c (Chip e) h g = chip-agrees (c .on) (c .chip) e (c .memory) h g
 event-agrees c Recall h g = by (busy (c .chip))
   where
-    by : (x : Bool) → Agrees (cond {A = CardAnswer} x (record { refusal = BadState; byte = 0; card = c }) (record { refusal = Done; byte = c .memory .bits; card = c }) .card .memory) h
+    by : (x : Bool) → Agrees (cond {A = CardAnswer} x (record { refusal = BadState; byte = 0; card = c })
+        (record { refusal = Done; byte = c .memory .bits; card = c }) .card .memory) h
     by true = g
     by false = g
 event-agrees c Forget h g = by (busy (c .chip))
   where
-    by : (x : Bool) → Agrees (cond {A = CardAnswer} x (record { refusal = BadState; byte = 0; card = c }) (record { refusal = Done; byte = 0; card = cardWith (c .on) (c .chip) emptyMemory }) .card .memory) (cond x h (from emptyMemory))
+    by : (x : Bool) → Agrees (cond {A = CardAnswer} x (record { refusal = BadState; byte = 0; card = c })
+        (record { refusal = Done; byte = 0; card = cardWith (c .on) (c .chip) emptyMemory }) .card .memory) (cond x h (from emptyMemory))
     by true = g
     by false = starts emptyMemory
 

@@ -35,7 +35,8 @@ either-way P c a p q = by (busy (c .chip))
 pub settings-stay : (c : Card) (e : Event) → eventIn c e .card .on ≡ c .on
 settings-stay c (Chip e) = refl
 settings-stay c Recall = either-way (λ (a : CardAnswer). a .card .on ≡ c .on) c (record { refusal = Done; byte = c .memory .bits; card = c }) refl refl
-settings-stay c Forget = either-way (λ (a : CardAnswer). a .card .on ≡ c .on) c (record { refusal = Done; byte = 0; card = cardWith (c .on) (c .chip) emptyMemory }) refl refl
+settings-stay c Forget =
+    either-way (λ (a : CardAnswer). a .card .on ≡ c .on) c (record { refusal = Done; byte = 0; card = cardWith (c .on) (c .chip) emptyMemory }) refl refl
 
 pub settings-stay-all : (c : Card) (es : List Event) → afterAll c es .on ≡ c .on
 settings-stay-all c [] = refl
@@ -59,14 +60,16 @@ on-one-chip on s m n (Chip e) = record { refusal-same = refl; chip-same = refl; 
 on-one-chip on s m n Recall = by (busy s)
   where
     by : (x : Bool)
-        → Alike Recall (cond x (record { refusal = BadState; byte = 0; card = cardWith on s m }) (record { refusal = Done; byte = m .bits; card = cardWith on s m }))
+        → Alike Recall (cond x (record { refusal = BadState; byte = 0; card = cardWith on s m })
+        (record { refusal = Done; byte = m .bits; card = cardWith on s m }))
         (cond x (record { refusal = BadState; byte = 0; card = cardWith on s n }) (record { refusal = Done; byte = n .bits; card = cardWith on s n }))
     by true = record { refusal-same = refl; chip-same = refl; byte-same = λ z. refl }
     by false = record { refusal-same = refl; chip-same = refl; byte-same = λ z. absurd (z refl) }
 on-one-chip on s m n Forget = by (busy s)
   where
     by : (x : Bool)
-        → Alike Forget (cond x (record { refusal = BadState; byte = 0; card = cardWith on s m }) (record { refusal = Done; byte = 0; card = cardWith on s emptyMemory }))
+        → Alike Forget (cond x (record { refusal = BadState; byte = 0; card = cardWith on s m })
+        (record { refusal = Done; byte = 0; card = cardWith on s emptyMemory }))
         (cond x (record { refusal = BadState; byte = 0; card = cardWith on s n }) (record { refusal = Done; byte = 0; card = cardWith on s emptyMemory }))
     by true = record { refusal-same = refl; chip-same = refl; byte-same = λ z. refl }
     by false = record { refusal-same = refl; chip-same = refl; byte-same = λ z. refl }
@@ -80,7 +83,8 @@ event-alike c d e k h =
 -- events in turn
 pub same-chip : (c d : Card) (es : List Event) → c .on ≡ d .on → c .chip ≡ d .chip → afterAll c es .chip ≡ afterAll d es .chip
 same-chip c d [] k h = h
-same-chip c d (e ∷ es) k h = same-chip (eventIn c e .card) (eventIn d e .card) es (settings-stay c e ∙ k ∙ sym (settings-stay d e)) (event-alike c d e k h .chip-same)
+same-chip c d (e ∷ es) k h =
+    same-chip (eventIn c e .card) (eventIn d e .card) es (settings-stay c e ∙ k ∙ sym (settings-stay d e)) (event-alike c d e k h .chip-same)
 
 -- ---- a refused event
 -- of the chip, it leaves the memory

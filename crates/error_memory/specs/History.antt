@@ -1,4 +1,5 @@
--- 02, ask 3: "The bits are to be proved equal to what the history of statuses says." The history of a list of events, and the memory that it stands for. Definitions only. Assumes nothing.
+-- 02, ask 3: "The bits are to be proved equal to what the history of statuses says." The history of a list of events, and the memory that it stands for.
+-- Definitions only. Assumes nothing.
 use Prim.Native.Nat.{ℕ, _%_}
 use mathlib.Core.Bool.{cond}
 use mathlib.Core.List.{List, [], _∷_, _++_}

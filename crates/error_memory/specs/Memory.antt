@@ -52,7 +52,8 @@ pub record CardAnswer : Type 0 where
   pub byte : ℕ
   pub card : Card
 
--- what an event of the chip leaves remembered, by the number of its refusal and the status that it left: an accepted command adds, an accepted reset empties, nothing else counts
+-- what an event of the chip leaves remembered, by the number of its refusal and the status that it left: an accepted command adds, an accepted reset
+-- empties, nothing else counts
 abbrev pub keptBy : Memory → ChipEvent → ℕ → ℕ → Memory
 keptBy m (Push b) n status = m
 keptBy m Pop n status = m

@@ -20,7 +20,8 @@ rows =
     ∷ chs (half 32) 0x80000000
     ∷ []
 
-pub bench : rows ≡ outcome 0x8000 1 false ∷ outcome 0x0000 1 true ∷ outcome 0xFFFF 0 true ∷ outcome 0xFFFD 0 false ∷ outcome 0x0007 8 false ∷ outcome 0x0000 1 false ∷ outcome 0x7FFF 1 false ∷ outcome 0x8000 1 false ∷ outcome 0x8000 8 false ∷ outcome 0x80000000 1 false ∷ []
+pub bench : rows ≡ outcome 0x8000 1 false ∷ outcome 0x0000 1 true ∷ outcome 0xFFFF 0 true ∷ outcome 0xFFFD 0 false ∷ outcome 0x0007 8 false ∷ outcome 0x0000 1
+    false ∷ outcome 0x7FFF 1 false ∷ outcome 0x8000 1 false ∷ outcome 0x8000 8 false ∷ outcome 0x80000000 1 false ∷ []
 unfolding rows low add sub div chs
 bench = refl
 
@@ -36,6 +37,7 @@ product-rows =
     ∷ muu (half 32) 0x7FFFFFFF 0x7FFFFFFF
     ∷ []
 
-pub product-bench : product-rows ≡ outcome 0x0000 1 false ∷ outcome 0x8000 1 false ∷ outcome 0xFFFF 0 false ∷ outcome 0x8000 1 false ∷ outcome 0xFFFF 0 false ∷ outcome 0x3FFFFFFF 0 false ∷ []
+pub product-bench : product-rows ≡ outcome 0x0000 1 false ∷ outcome 0x8000 1 false ∷ outcome 0xFFFF 0 false ∷ outcome 0x8000 1 false ∷ outcome 0xFFFF 0 false
+    ∷ outcome 0x3FFFFFFF 0 false ∷ []
 unfolding product-rows low mul muu
 product-bench = refl

@@ -16,7 +16,8 @@ use Rattle.whole.proofs.Signs.{opposite}
 use Rattle.fixed.specs.declared.Fixed.{Fixed}
 use Rattle.whole.proofs.Signs.{size-of-signed}
 use Rattle.fixed.specs.Parts.{Words, negativeAt, magnitudeAt}
-use Rattle.fixed.specs.Fixed.{signed, fits, low, overflowIf, outcome, eitherLeast, addOverflow, subOverflow, mulOverflow, add, sub, mul, muu, div, chs, isLeast, unlessLeast}
+use Rattle.fixed.specs.Fixed.{signed, fits, low, overflowIf, outcome, eitherLeast, addOverflow, subOverflow, mulOverflow, add, sub, mul, muu, div, chs}
+use Rattle.fixed.specs.Fixed.{isLeast, unlessLeast}
 use Rattle.fixed.proofs.LowBits.{fits-mag, low-lt, kept, parted}
 use Rattle.fixed.proofs.Products.{upper-lt, signed-withSign, product, quotient, product-few, abs-some}
 
@@ -105,7 +106,8 @@ div-exact h b a W e = go (eqb a 0) e
     z : ℤ
     z = quotZ (signed h b) (signed h a)
 
-    go : (t : Bool) → cond t (outcome b 8 false) (unlessLeast h b a (outcome (low h z) 0 false)) .error ≡ 0 → signed h (cond t (outcome b 8 false) (unlessLeast h b a (outcome (low h z) 0 false)) .word) ≡ z
+    go : (t : Bool) → cond t (outcome b 8 false) (unlessLeast h b a (outcome (low h z) 0 false)) .error ≡ 0 → signed h
+        (cond t (outcome b 8 false) (unlessLeast h b a (outcome (low h z) 0 false)) .word) ≡ z
     go true e = absurd (omega (arith, e))
     go false e =
         let u = unless h b a (outcome (low h z) 0 false) e in
@@ -116,7 +118,9 @@ unfolding chs
 chs-exact h a p l e =
     let m = small h a (eqb-false a h (no-overflow (isLeast h a) e)) l in
     kept h (negℤ (signed h a))
-    (ap (λ (z : ℤ). fits h (negℤ z)) (signed-withSign h a l) ∙ ap (fits h) (opposite (negativeAt h a) (magnitudeAt h a)) ∙ fits-mag h (withSign (not (negativeAt h a)) (magnitudeAt h a)) ∙ lt-ltb (mag (withSign (not (negativeAt h a)) (magnitudeAt h a))) h (lt-of-le-of-lt (mag-withSign (not (negativeAt h a)) (magnitudeAt h a)) m))
+    (ap (λ (z : ℤ). fits h (negℤ z)) (signed-withSign h a l) ∙ ap (fits h) (opposite (negativeAt h a) (magnitudeAt h a))
+    ∙ fits-mag h (withSign (not (negativeAt h a)) (magnitudeAt h a)) ∙ lt-ltb (mag (withSign (not (negativeAt h a)) (magnitudeAt h a))) h
+    (lt-of-le-of-lt (mag-withSign (not (negativeAt h a)) (magnitudeAt h a)) m))
 
 -- MUU and MUL together hold the whole product
 pub muu-exact : (h b a : ℕ) → Words h b a → muu h b a .error ≡ 0 → signed h b *ℤ signed h a ≡ signed h (muu h b a .word) *ℤ pos (2 * h) +ℤ pos (mul h b a .word)
@@ -131,7 +135,11 @@ muu-exact h b a W e =
 
 pub div-nonzero : (h b a : ℕ) → div h b a .error ≡ 0 → a ≡ 0 → ⊥
 unfolding div
-div-nonzero h b a e z = absurd (omega (arith, sym (ap (λ (t : Bool). cond t (outcome b 8 false) (unlessLeast h b a (outcome (low h (quotZ (signed h b) (signed h a))) 0 false)) .error) (eq-eqb a 0 z)) ∙ e))
+div-nonzero h b a e z = absurd (omega (
+  arith,
+  sym
+      (ap (λ (t : Bool). cond t (outcome b 8 false) (unlessLeast h b a (outcome (low h (quotZ (signed h b) (signed h a))) 0 false)) .error) (eq-eqb a 0 z)) ∙ e,
+))
 
 -- ---- the quotient is cut toward zero
 
@@ -144,7 +152,8 @@ pub record CutTowardZero (q : ℤ) (oneNegative : Bool) (b a : ℤ) : Type 0 whe
 cut-between : (m n : ℕ) → 0 < n → (m / n * n ≤ m) × (m < (m / n + 1) * n)
 cut-between m n p = let e = div-add-mod' m n in let l = mod-lt m p in (omega arith, omega arith)
 
-pub div-cut : (h b a : ℕ) → Words h b a → div h b a .error ≡ 0 → CutTowardZero (signed h (div h b a .word)) (unlike (negativeAt h b) (negativeAt h a)) (signed h b) (signed h a)
+pub div-cut : (h b a : ℕ) → Words h b a → div h b a .error ≡ 0 → CutTowardZero (signed h (div h b a .word)) (unlike (negativeAt h b) (negativeAt h a))
+    (signed h b) (signed h a)
 div-cut h b a W e = subst (λ (z : ℤ). CutTowardZero z s (signed h b) (signed h a)) (sym (div-exact h b a W e ∙ quotient h b a W)) shaped
   where
     s : Bool
@@ -197,7 +206,8 @@ module _ (h b a : ℕ) (W : Words h b a) where
 
   pub div-word : div h b a .word < 2 * h
   unfolding div
-  div-word = cond-lt (eqb a 0) (outcome b 8 false) (unlessLeast h b a (outcome (low h (quotZ (signed h b) (signed h a))) 0 false)) (2 * h) (W .left) (unless-word _ (low-lt h (quotZ (signed h b) (signed h a)) (W .some)))
+  div-word = cond-lt (eqb a 0) (outcome b 8 false) (unlessLeast h b a (outcome (low h (quotZ (signed h b) (signed h a))) 0 false)) (2 * h) (W .left)
+      (unless-word _ (low-lt h (quotZ (signed h b) (signed h a)) (W .some)))
 
 pub chs-word : (h a : ℕ) → 0 < h → chs h a .word < 2 * h
 unfolding chs

@@ -132,7 +132,8 @@ module _ (h m : ℕ) (some : 0 < h) where
       let w = mod-add-div' m (2 * h) in
       let l = rest in
       let k : 0 < m % (2 * h) = pos-of-ne-zero n in
-      sym (ap (λ (t : Bool). low h (withSign t m)) f ∙ ap (low h) (neg-pos m) ∙ low-is h 0 m (2 * h - m % (2 * h)) (suc (m / (2 * h))) 0 (omega arith) (omega arith))
+      sym (ap (λ (t : Bool). low h (withSign t m)) f ∙ ap (low h) (neg-pos m) ∙ low-is h 0 m (2 * h - m % (2 * h)) (suc (m / (2 * h))) 0 (omega arith)
+      (omega arith))
 
   pub exceeds-neg : (s : Bool) → s ≡ true → ltb h m ≡ not (fits h (withSign s m))
   exceeds-neg s f =

@@ -21,7 +21,8 @@ upper-lt h m p l = div-lt-iff-lt-mul {k = 2 * h} {x = m} {y = h} (omega arith) .
 
 pub upper-none : (h m : ℕ) (s : Bool) → m ≡ 0 → 0 < h → 0 ≡ low h (shrZ (withSign s m) (2 * h))
 unfolding low
-upper-none h m s e p = sym (ap (λ (k : ℕ). low h (shrZ (withSign s k) (2 * h))) e ∙ ap (λ (z : ℤ). low h (shrZ z (2 * h))) (zero-signed s) ∙ ap (λ (k : ℕ). k % (2 * h)) (zero-div (2 * h)) ∙ zero-mod (2 * h))
+upper-none h m s e p = sym (ap (λ (k : ℕ). low h (shrZ (withSign s k) (2 * h))) e ∙ ap (λ (z : ℤ). low h (shrZ z (2 * h))) (zero-signed s)
+    ∙ ap (λ (k : ℕ). k % (2 * h)) (zero-div (2 * h)) ∙ zero-mod (2 * h))
 
 pub upper-pos : (h m : ℕ) (s : Bool) → s ≡ false → 0 < h → m < 2 * h * h → m / (2 * h) ≡ low h (shrZ (withSign s m) (2 * h))
 unfolding low
@@ -65,10 +66,12 @@ over true true (suc m) (suc n) = refl
 
 module _ (h b a : ℕ) (W : Words h b a) where
   pub product : signed h b *ℤ signed h a ≡ withSign (unlike (negativeAt h b) (negativeAt h a)) (magnitudeAt h b * magnitudeAt h a)
-  product = ap₂ _*ℤ_ (signed-withSign h b (W .left)) (signed-withSign h a (W .right)) ∙ times (negativeAt h b) (negativeAt h a) (magnitudeAt h b) (magnitudeAt h a)
+  product = ap₂ _*ℤ_ (signed-withSign h b (W .left)) (signed-withSign h a (W .right)) ∙ times (negativeAt h b) (negativeAt h a) (magnitudeAt h b)
+      (magnitudeAt h a)
 
   pub quotient : quotZ (signed h b) (signed h a) ≡ withSign (unlike (negativeAt h b) (negativeAt h a)) (magnitudeAt h b / magnitudeAt h a)
-  quotient = ap₂ quotZ (signed-withSign h b (W .left)) (signed-withSign h a (W .right)) ∙ over (negativeAt h b) (negativeAt h a) (magnitudeAt h b) (magnitudeAt h a)
+  quotient = ap₂ quotZ (signed-withSign h b (W .left)) (signed-withSign h a (W .right)) ∙ over (negativeAt h b) (negativeAt h a) (magnitudeAt h b)
+      (magnitudeAt h a)
 
   pub mul-least : (t : Bool) → t ≡ eitherLeast h b a → t ≡ true → outcome h 1 false ≡ mul h b a
   unfolding mul
@@ -87,16 +90,19 @@ module _ (h b a : ℕ) (W : Words h b a) where
   div-least n t e f = rw (ne-eqb a 0 n, sym e ∙ f)
 
   -- what the code has: a sign, the magnitudes, and from them the word and the error
-  module _ (t s : Bool) (x y : ℕ) (E : t ≡ eitherLeast h b a) (F : t ≡ false) (S : s ≡ unlike (negativeAt h b) (negativeAt h a)) (X : x ≡ magnitudeAt h b) (Y : y ≡ magnitudeAt h a) where
+  module _ (t s : Bool) (x y : ℕ) (E : t ≡ eitherLeast h b a) (F : t ≡ false) (S : s ≡ unlike (negativeAt h b) (negativeAt h a)) (X : x ≡ magnitudeAt h b)
+      (Y : y ≡ magnitudeAt h a) where
     exact-product : withSign s (x * y) ≡ signed h b *ℤ signed h a
     exact-product = (λ i. withSign (S i) (X i * Y i)) ∙ sym product
 
     exact-quotient : withSign s (x / y) ≡ quotZ (signed h b) (signed h a)
     exact-quotient = (λ i. withSign (S i) (X i / Y i)) ∙ sym quotient
 
-    pub mul-all : (w e : ℕ) (o : Bool) → w ≡ low h (withSign s (x * y)) → o ≡ not (fits h (withSign s (x * y))) → e ≡ overflowIf o → outcome w e false ≡ mul h b a
+    pub mul-all : (w e : ℕ) (o : Bool) → w ≡ low h (withSign s (x * y)) → o ≡ not (fits h (withSign s (x * y))) → e ≡ overflowIf o → outcome w e false ≡ mul h b
+        a
     unfolding mul
-    mul-all w e o p q r = rw (sym E ∙ F) (λ i. outcome ((p ∙ ap (low h) exact-product) i) ((r ∙ ap overflowIf (q ∙ ap (λ (z : ℤ). not (fits h z)) exact-product)) i) false)
+    mul-all w e o p q r = rw (sym E ∙ F) (λ i. outcome ((p ∙ ap (low h) exact-product) i)
+        ((r ∙ ap overflowIf (q ∙ ap (λ (z : ℤ). not (fits h z)) exact-product)) i) false)
 
     pub muu-all : (w : ℕ) → w ≡ low h (shrZ (withSign s (x * y)) (2 * h)) → outcome w 0 false ≡ muu h b a
     unfolding muu
@@ -106,10 +112,12 @@ module _ (h b a : ℕ) (W : Words h b a) where
     unfolding div
     div-all w n p = rw (ne-eqb a 0 n, sym E ∙ F) (λ i. outcome ((p ∙ ap (low h) exact-quotient) i) 0 false)
 
-pub chs-all : (h a w e x : ℕ) (s : Bool) → a < 2 * h → s ≡ negativeAt h a → x ≡ magnitudeAt h a → w ≡ low h (withSign (not s) x) → e ≡ overflowIf (eqb a h) → outcome w e false ≡ chs h a
+pub chs-all : (h a w e x : ℕ) (s : Bool) → a < 2 * h → s ≡ negativeAt h a → x ≡ magnitudeAt h a → w ≡ low h (withSign (not s) x) → e ≡ overflowIf (eqb a h)
+    → outcome w e false ≡ chs h a
 unfolding chs
 chs-all h a w e x s l S X p q =
-    λ i. outcome ((p ∙ (λ j. low h (withSign (not (S j)) (X j))) ∙ ap (low h) (sym (ap negℤ (signed-withSign h a l) ∙ opposite (negativeAt h a) (magnitudeAt h a)))) i) (q i) false
+    λ i. outcome ((p ∙ (λ j. low h (withSign (not (S j)) (X j)))
+    ∙ ap (low h) (sym (ap negℤ (signed-withSign h a l) ∙ opposite (negativeAt h a) (magnitudeAt h a)))) i) (q i) false
 
 pub abs-some : (h w x : ℕ) → x ≡ magnitudeAt h w → (w ≡ 0 → ⊥) → w < 2 * h → 0 < x
 abs-some h w x e n l =

@@ -53,7 +53,8 @@ module _ (h b a r : ℕ) (W : Words h b a) (R : r ≡ (b + a) % (2 * h)) where
   sum-carry =
       ⊎-elim
       (λ (k : b + a < 2 * h). let e : r ≡ b + a = R ∙ mod-eq-of-lt k in le-ltb r b (omega arith) ∙ sym (lt-leb (2 * h) (b + a) k))
-      (λ (k : 2 * h ≤ b + a). let e : r ≡ b + a - 2 * h = R ∙ mod-eq-sub-mod k ∙ mod-eq-of-lt (omega arith) in lt-ltb r b (omega arith) ∙ sym (le-leb (2 * h) (b + a) k))
+      (λ (k : 2 * h ≤ b + a). let e : r ≡ b + a - 2 * h = R ∙ mod-eq-sub-mod k ∙ mod-eq-of-lt (omega arith) in lt-ltb r b (omega arith)
+      ∙ sym (le-leb (2 * h) (b + a) k))
       (either (b + a) (2 * h))
 
   pub sum-all : (e : ℕ) (o : Bool) → e ≡ overflowIf o → o ≡ addOverflow h b a → outcome r e (ltb r b) ≡ add h b a
@@ -97,10 +98,12 @@ module _ (h b a r : ℕ) (W : Words h b a) (near : r < 2 * h) (R : (r + a) % (2 
   diff-pp n p q = inside h (b + 0 * (2 * h)) (0 * (2 * h) + a) (omega arith) (omega arith) ∙ sym (diff-over 0 0 n (sign-pos h b p) (sign-pos h a q))
 
   pub diff-pn : (a ≡ h → ⊥) → b < h → h ≤ a → leb h r ≡ subOverflow h b a
-  diff-pn n p q = over-up h (b + 1 * (2 * h)) (0 * (2 * h) + a) r (⊎-elim (λ e. omega arith) (λ e. omega arith) exact) ∙ sym (diff-over 0 1 n (sign-pos h b p) (sign-neg h a q))
+  diff-pn n p q = over-up h (b + 1 * (2 * h)) (0 * (2 * h) + a) r (⊎-elim (λ e. omega arith) (λ e. omega arith) exact)
+      ∙ sym (diff-over 0 1 n (sign-pos h b p) (sign-neg h a q))
 
   pub diff-np : (a ≡ h → ⊥) → h ≤ b → a < h → ltb r h ≡ subOverflow h b a
-  diff-np n p q = over-down h (b + 0 * (2 * h)) (1 * (2 * h) + a) r near (⊎-elim (λ e. omega arith) (λ e. omega arith) exact) ∙ sym (diff-over 1 0 n (sign-neg h b p) (sign-pos h a q))
+  diff-np n p q = over-down h (b + 0 * (2 * h)) (1 * (2 * h) + a) r near (⊎-elim (λ e. omega arith) (λ e. omega arith) exact)
+      ∙ sym (diff-over 1 0 n (sign-neg h b p) (sign-pos h a q))
 
   pub diff-nn : (a ≡ h → ⊥) → h ≤ b → h ≤ a → false ≡ subOverflow h b a
   diff-nn n p q = inside h (b + 1 * (2 * h)) (1 * (2 * h) + a) (omega arith) (omega arith) ∙ sym (diff-over 1 1 n (sign-neg h b p) (sign-neg h a q))

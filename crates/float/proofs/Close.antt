@@ -4,7 +4,8 @@ use mathlib.Core.Path.{_≡_, refl, sym, ap, ap₂, _∙_, subst}
 use mathlib.Core.Logic.{_⊎_, inl, inr, ⊎-elim}
 use mathlib.Core.Bool.{Bool, true, false, not}
 use Prim.Native.Nat.{ℕ, _+_, _-_, _*_, _%_, _^_, _≤_, _<_}
-use native.Mathlib.Nat.{le-refl, le-trans, le-of-eq, le-of-lt, lt-of-lt-of-le, not-le-of-lt, eq-zero-or-pos, eq-of-mul-eq-mul-right, mul-assoc, mul-right-comm, mul-one, zero-mul, mul-pos, mul-le-mul, mul-lt-mul-of-pos-right, le-of-mul-le-mul-right, mod-lt}
+use native.Mathlib.Nat.{le-refl, le-trans, le-of-eq, le-of-lt, lt-of-lt-of-le, not-le-of-lt, eq-zero-or-pos, eq-of-mul-eq-mul-right, mul-assoc, mul-right-comm}
+use native.Mathlib.Nat.{mul-one, zero-mul, mul-pos, mul-le-mul, mul-lt-mul-of-pos-right, le-of-mul-le-mul-right, mod-lt}
 use native.Mathlib.Omega.{arith}
 use lib.Dec.{lit<, lit≤}
 use lib.IntN.{ℤ, pos, _+ℤ_, +ℤ-comm}
@@ -51,7 +52,8 @@ kept-whole r s j k P J lo hi =
     let f : M * 2 ^ K ≡ n = st .0 ∙ fits-exact r n 1 j k (le-refl 1) J (sym (mul-one n)) in
     let N : 0 < n = mul-pos P (pow-pos k) in
     let big : 8388608 * 1 ≤ n = le-trans (lit≤ {m = 8388608 * 1} {n = 1 * 2 ^ 112} tt) (mul-le-mul P (pow-mono lo)) in
-    let top : K ≤ 239 = place-most r n 1 239 (le-refl 1) big (le-trans (mul-le-mul (less J) (pow-mono {i = k} {j = 239} (omega arith))) (le-of-eq (sym (mul-one (16777215 * 2 ^ 239))))) in
+    let top : K ≤ 239 = place-most r n 1 239 (le-refl 1) big (le-trans (mul-le-mul (less J) (pow-mono {i = k} {j = 239} (omega arith)))
+    (le-of-eq (sym (mul-one (16777215 * 2 ^ 239))))) in
     subst (λ (x : Flagged). Whole s n x) (sym (cut-stored r s n 1 N)) (
       packed-sign s M K (st .1),
       ⊎-elim
@@ -82,7 +84,8 @@ module _ (s : Bool) (d : ℕ) where
   from-whole x n same (t, inr v) = record {
     exact = λ h. let y = v .0 in absurd (omega arith);
     under = λ h.
-        of-size x s (d * 2 ^ 128) t (eq-of-mul-eq-mul-right (2 ^ 112) (pow-pos 112) (size88 (x .word)) (d * 2 ^ 128) (v .1 ∙ ap (λ (y : ℕ). y * 2 ^ 128) (sym same) ∙ mul-right-comm d (2 ^ 112) (2 ^ 128)))
+        of-size x s (d * 2 ^ 128) t (eq-of-mul-eq-mul-right (2 ^ 112) (pow-pos 112) (size88 (x .word)) (d * 2 ^ 128) (v .1
+        ∙ ap (λ (y : ℕ). y * 2 ^ 128) (sym same) ∙ mul-right-comm d (2 ^ 112) (2 ^ 128)))
         ∙ sym (times s false d (2 ^ 128) ∙ alone s (d * 2 ^ 128));
     no-other = inr (v .0);
   }
@@ -106,7 +109,8 @@ module _ (s : Bool) (d : ℕ) where
           (from-whole (cutSize r s n 1) n same (kept-whole r s j (e + 112) g J (omega arith) (omega arith)))
 
 -- ---- two proper words, v the smaller: their difference is j steps of v's last digit
-steps-of : (w v : ℕ) → 8388608 ≤ mantissa w → 8388608 ≤ mantissa v → size88 v ≤ size88 w → size88 w ≤ 2 * size88 v → (j : ℕ) × (size88 w - size88 v ≡ j * 2 ^ biased v) × (j < 16777216)
+steps-of : (w v : ℕ) → 8388608 ≤ mantissa w → 8388608 ≤ mantissa v → size88 v ≤ size88 w → size88 w ≤ 2 * size88 v → (j : ℕ)
+    × (size88 w - size88 v ≡ j * 2 ^ biased v) × (j < 16777216)
 unfolding size88
 steps-of w v P Q h g =
     let i = biased w in
@@ -115,7 +119,8 @@ steps-of w v P Q h g =
     let x = m * 2 ^ (i - e) in
     let o : e ≤ i = order in
     let s : m * 2 ^ i ≡ x * 2 ^ e = parted m i (i - e) e (omega arith) in
-    let k : x ≤ 2 * mantissa v = le-of-mul-le-mul-right (le-trans (le-of-eq (sym s)) (le-trans g (le-of-eq (sym (mul-assoc 2 (mantissa v) (2 ^ e)))))) (pow-pos e) in
+    let k : x ≤ 2 * mantissa v = le-of-mul-le-mul-right (le-trans (le-of-eq (sym s)) (le-trans g (le-of-eq (sym (mul-assoc 2 (mantissa v) (2 ^ e))))))
+    (pow-pos e) in
     let v24 : mantissa v < 16777216 = mod-lt v (lit< tt) in
     (x - mantissa v, ap (λ (y : ℕ). y - mantissa v * 2 ^ e) s ∙ sym (sub-mul x (mantissa v) (2 ^ e)), omega arith)
   where
@@ -128,7 +133,8 @@ steps-of w v P Q h g =
         far : biased w < biased v → mantissa w * 2 ^ biased w < mantissa v * 2 ^ biased v
         far l =
             let a : mantissa w * 2 ^ biased w < 16777216 * 2 ^ biased w = mul-lt-mul-of-pos-right (mod-lt w (lit< tt)) (pow-pos (biased w)) in
-            let b : 16777216 * 2 ^ biased w ≡ 8388608 * 2 ^ (biased w + 1) = (let c : 2 ^ (biased w + 1) ≡ 2 ^ biased w * 2 = pow-add 2 (biased w) 1 in sym (ap (λ (x : ℕ). 8388608 * x) c ∙ double (2 ^ biased w))) in
+            let b : 16777216 * 2 ^ biased w ≡ 8388608 * 2 ^ (biased w + 1) = (let c : 2 ^ (biased w + 1) ≡ 2 ^ biased w * 2 = pow-add 2 (biased w) 1
+            in sym (ap (λ (x : ℕ). 8388608 * x) c ∙ double (2 ^ biased w))) in
             lt-of-lt-of-le a (le-trans (le-of-eq b) (mul-le-mul Q (pow-mono {i = biased w + 1} {j = biased v} (omega arith))))
 
 -- ---- close words
@@ -136,7 +142,8 @@ module _ (b a : ℕ) (c : Close b a) where
   -- the difference, as a sum of unlike signs
   unlike-sum : exactDifference b a ≡ withSign (negative b) (size88 b) +ℤ withSign (not (negative b)) (size88 a)
   unfolding value
-  unlike-sum = ap (λ (x : ℤ). withSign (negative b) (size88 b) +ℤ x) (opposite (negative a) (size88 a) ∙ ap (λ (s : Bool). withSign (not s) (size88 a)) (sym (c .one-sign)))
+  unlike-sum = ap (λ (x : ℤ). withSign (negative b) (size88 b) +ℤ x) (opposite (negative a) (size88 a) ∙ ap (λ (s : Bool). withSign (not s) (size88 a))
+      (sym (c .one-sign)))
 
   digits : (w : ℕ) → FloatWord w → (w ≡ 0 → ⊥) → 8388608 ≤ mantissa w
   digits w W n = ⊎-elim (λ (z : w ≡ 0). absurd (n z)) (λ (l : 8388608 ≤ mantissa w). l) (proper-cases w (W .is-proper))
@@ -170,5 +177,6 @@ close-difference r b a B A c = ⊎-elim below above (either (size88 b) (size88 a
         let s = not (negative b) in
         let t = steps-below b a c B A h in
         sub-is (withSign s (size88 a - size88 b))
-        (unlike-sum b a c ∙ +ℤ-comm (withSign (negative b) (size88 b)) (withSign s (size88 a)) ∙ sum-unlike s (negative b) (size88 a) (size88 b) (turned (negative b) .1) (le-of-lt h))
+        (unlike-sum b a c ∙ +ℤ-comm (withSign (negative b) (size88 b)) (withSign s (size88 a)) ∙ sum-unlike s (negative b) (size88 a) (size88 b)
+        (turned (negative b) .1) (le-of-lt h))
         (lossless s (size88 a - size88 b) r (t .0) (biased b) (t .1) (t .2) (omega arith))

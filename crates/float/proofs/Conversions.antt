@@ -4,7 +4,8 @@ use mathlib.Core.Path.{_≡_, refl, sym, ap, _∙_, subst}
 use mathlib.Core.Logic.{inl, inr, ⊎-elim}
 use mathlib.Core.Bool.{Bool, true, false, cond}
 use Prim.Native.Nat.{ℕ, zero, suc, _+_, _-_, _*_, _/_, _%_, _^_, _≤_, _<_}
-use native.Mathlib.Nat.{le-refl, le-trans, le-of-eq, lt-of-le-of-lt, mul-one, one-mul, mul-le-mul-right, mod-eq-of-lt, mod-self, div-mul-le-self, lt-div-mul-add, suc-mul, sub-zero}
+use native.Mathlib.Nat.{le-refl, le-trans, le-of-eq, lt-of-le-of-lt, mul-one, one-mul, mul-le-mul-right, mod-eq-of-lt, mod-self, div-mul-le-self}
+use native.Mathlib.Nat.{lt-div-mul-add, suc-mul, sub-zero}
 use native.Mathlib.Numerals.{add-one}
 use native.Mathlib.Omega.{arith}
 use borrow.Author.Tests.{le-leb, lt-leb, leb-true, leb-false}
@@ -33,7 +34,8 @@ use Rattle.float.proofs.Results.{flts-result}
 integer-parts : (half a : ℕ) → a < 2 * half → (s : Bool) × (x : ℕ) × (integer half a ≡ withSign s x) × (x ≤ half)
 integer-parts half a h = go (leb half a) (leb-true half a) (leb-false half a)
   where
-    go : (t : Bool) → (t ≡ true → half ≤ a) → (t ≡ false → a < half) → (s : Bool) × (x : ℕ) × (cond t (withSign true (2 * half - a)) (withSign false a) ≡ withSign s x) × (x ≤ half)
+    go : (t : Bool) → (t ≡ true → half ≤ a) → (t ≡ false → a < half) → (s : Bool) × (x : ℕ)
+        × (cond t (withSign true (2 * half - a)) (withSign false a) ≡ withSign s x) × (x ≤ half)
     go true f g = let l = f refl in (true, 2 * half - a, refl, omega arith)
     go false f g = let l = g refl in (false, a, refl, omega arith)
 
@@ -73,7 +75,8 @@ flts-exact a h =
     let small = p .3 in
     let c : flts a ≡ cutSize Cut s (x * 2 ^ 200) 1 = unfold flts in ap (λ (z : ℤ). cut Cut z 1) (p .2) ∙ cut-sign Cut s x 1 in
     let v = cut-value Cut s (x * 2 ^ 200) 1 (le-refl 1) (sym (ap (λ (y : Flagged). y .error) c) ∙ flts-no-error a h) in
-    let g : grid Cut (x * 2 ^ 200) 1 ≡ x * 2 ^ 200 = fits-exact Cut (x * 2 ^ 200) 1 x 200 (le-refl 1) (lt-of-le-of-lt small (lit< tt)) (sym (mul-one (x * 2 ^ 200))) in
+    let g : grid Cut (x * 2 ^ 200) 1 ≡ x * 2 ^ 200 = fits-exact Cut (x * 2 ^ 200) 1 x 200 (le-refl 1) (lt-of-le-of-lt small (lit< tt))
+    (sym (mul-one (x * 2 ^ 200))) in
     ap (λ (y : Flagged). value (y .word)) c ∙ v .0
     ∙ ap (λ (y : ℕ). withSign s y) (shrink (size88 ((cutSize Cut s (x * 2 ^ 200) 1) .word)) (x * 2 ^ 88) (v .1 ∙ g ∙ parted x 200 88 112 refl))
     ∙ sym (ap (λ (z : ℤ). z *ℤ pos (2 ^ 88)) (p .2) ∙ times s false x (2 ^ 88) ∙ alone s (x * 2 ^ 88))
@@ -96,7 +99,8 @@ pub whole-part : (a : ℕ) → (wholePart a * 2 ^ 88 ≤ size88 a) × (size88 a 
 unfolding wholePart
 whole-part a = (
   div-mul-le-self (size88 a) (2 ^ 88),
-  subst (λ (x : ℕ). size88 a < x) (sym (ap (λ (x : ℕ). x * 2 ^ 88) (add-one (size88 a / 2 ^ 88)) ∙ suc-mul (size88 a / 2 ^ 88) (2 ^ 88))) (lt-div-mul-add (pow-pos 88)),
+  subst (λ (x : ℕ). size88 a < x) (sym (ap (λ (x : ℕ). x * 2 ^ 88) (add-one (size88 a / 2 ^ 88)) ∙ suc-mul (size88 a / 2 ^ 88) (2 ^ 88)))
+      (lt-div-mul-add (pow-pos 88)),
 )
 
 -- the complement of a whole number below half stands for it
@@ -118,7 +122,8 @@ fix-law half a = ⊎-elim within over (either (wholePart a) half)
         let c = complement-is half (wholePart a) (negative a) h in
         let p = whole-part a in
         let f : fix half a ≡ record { word = complement half (negative a) (wholePart a); error = 0 } = unfold fix in rw (lt-leb half (wholePart a) h) in
-        let n : natAbs (integer half (complement half (negative a) (wholePart a))) ≡ wholePart a = ap natAbs (c .0) ∙ size-of-signed (negative a) (wholePart a) in
+        let n : natAbs (integer half (complement half (negative a) (wholePart a))) ≡ wholePart a = ap natAbs (c .0) ∙ size-of-signed (negative a) (wholePart a)
+        in
         inl (
           h,
           subst (λ (r : Flagged). Truncated half a r) (sym f) (record {

@@ -24,7 +24,8 @@ module _ (w m e : ℕ) (M : m ≡ mantissa w) (E : e ≡ biased w) (few : m < 16
       ∙ sym (value ∙ ap (λ (x : ℕ). x / 2 ^ 88) (parted m e (e - 88) 88 (omega arith)) ∙ mul-div-cancel (m * 2 ^ (e - 88)) (pow-pos 88))
 
   pub part-down : e < 88 → m / 2 ^ (88 - e) ≡ wholePart w
-  part-down h = sym (value ∙ ap (λ (x : ℕ). m * 2 ^ e / x) (ap (λ (x : ℕ). 2 ^ x) (count h) ∙ pow-add 2 (88 - e) e) ∙ mul-div-mul-right m (2 ^ (88 - e)) (pow-pos e))
+  part-down h = sym (value ∙ ap (λ (x : ℕ). m * 2 ^ e / x) (ap (λ (x : ℕ). 2 ^ x) (count h) ∙ pow-add 2 (88 - e) e)
+      ∙ mul-div-mul-right m (2 ^ (88 - e)) (pow-pos e))
     where
       count : e < 88 → 88 ≡ 88 - e + e
       count g = omega arith

@@ -4,7 +4,9 @@ use mathlib.Core.Path.{_≡_, refl, sym, ap, _∙_, subst}
 use mathlib.Core.Logic.{_⊎_, inl, inr}
 use mathlib.Core.Bool.{Bool, true, false, not}
 use Prim.Native.Nat.{ℕ, suc, _+_, _-_, _*_, _/_, _%_, _^_, _≤_, _<_, compare, Ordering, Ordering·lt, Ordering·eq, Ordering·gt}
-use native.Mathlib.Nat.{le-refl, le-trans, le-of-eq, lt-of-lt-of-le, lt-of-not-le, not-le-of-lt, mul-comm, mul-assoc, mul-one, one-mul, mul-pos, mul-le-mul-left, mul-le-mul-right, mul-lt-mul-of-pos-right, le-of-mul-le-mul-right, lt-of-mul-lt-mul-right, div-eq-of-lt-le, div-add-mod', mod-lt, add-zero, eq-zero-or-pos, zero-mul}
+use native.Mathlib.Nat.{le-refl, le-trans, le-of-eq, lt-of-lt-of-le, lt-of-not-le, not-le-of-lt, mul-comm, mul-assoc, mul-one, one-mul, mul-pos}
+use native.Mathlib.Nat.{mul-le-mul-left, mul-le-mul-right, mul-lt-mul-of-pos-right, le-of-mul-le-mul-right, lt-of-mul-lt-mul-right, div-eq-of-lt-le}
+use native.Mathlib.Nat.{div-add-mod', mod-lt, add-zero, eq-zero-or-pos, zero-mul}
 use native.Mathlib.Omega.{arith}
 use lib.Dec.{T, isLe, isEq, eqb, eqb-refl, ltb, leb→le, nleb→lt, eqb→eq, ltb→lt, nltb→le, lit<}
 use borrow.Author.Tests.{lt-ltb}
@@ -129,7 +131,8 @@ room t x k h l =
 quarter : ℕ → ℕ → ℕ
 quarter x k = 2 ^ (k - (x + 2))
 
-module _ (r : Rule) (n d t x k : ℕ) (D : 0 < d) (big : 33554432 ≤ t) (odd : t % 2 ≡ 1) (lo : t * (d * 2 ^ x) < n + d * 2 ^ x) (hi : n < t * (d * 2 ^ x) + d * 2 ^ x)
+module _ (r : Rule) (n d t x k : ℕ) (D : 0 < d) (big : 33554432 ≤ t) (odd : t % 2 ≡ 1) (lo : t * (d * 2 ^ x) < n + d * 2 ^ x)
+    (hi : n < t * (d * 2 ^ x) + d * 2 ^ x)
     (below : 8388608 * 2 ^ k ≤ t * 2 ^ x) (above : t * 2 ^ x < 16777216 * 2 ^ k) where
   two-k : 2 ^ k ≡ 4 * quarter x k * 2 ^ x
   unfolding quarter
@@ -146,7 +149,8 @@ module _ (r : Rule) (n d t x k : ℕ) (D : 0 < d) (big : 33554432 ≤ t) (odd : 
   t-low = le-of-mul-le-mul-right (le-trans (le-of-eq (mul-assoc 8388608 (4 * quarter x k) (2 ^ x) ∙ ap (λ (z : ℕ). 8388608 * z) (sym two-k))) below) (pow-pos x)
 
   t-high : t < 16777216 * (4 * quarter x k)
-  t-high = lt-of-mul-lt-mul-right (2 ^ x) (lt-of-lt-of-le above (le-of-eq (ap (λ (z : ℕ). 16777216 * z) two-k ∙ sym (mul-assoc 16777216 (4 * quarter x k) (2 ^ x)))))
+  t-high = lt-of-mul-lt-mul-right (2 ^ x) (lt-of-lt-of-le above (le-of-eq (ap (λ (z : ℕ). 16777216 * z) two-k
+      ∙ sym (mul-assoc 16777216 (4 * quarter x k) (2 ^ x)))))
 
   places : lost n d ≡ k
   places =
@@ -173,7 +177,8 @@ module _ (r : Rule) (n d t x k : ℕ) (D : 0 < d) (big : 33554432 ≤ t) (odd : 
 
 -- t may be cut in the place of n
 pub jam-cut : (r : Rule) (n d t x : ℕ) → 0 < d → 33554432 ≤ t → Jam n (d * 2 ^ x) t → (kept r n d ≡ kept r (t * 2 ^ x) 1) × (lost n d ≡ lost (t * 2 ^ x) 1)
-jam-cut r n d t x D big (inl e) = same-cut r n d (t * 2 ^ x) 1 D (le-refl 1) (mul-one n ∙ e ∙ ap (λ (z : ℕ). t * z) (mul-comm d (2 ^ x)) ∙ sym (mul-assoc t (2 ^ x) d))
+jam-cut r n d t x D big (inl e) = same-cut r n d (t * 2 ^ x) 1 D (le-refl 1) (mul-one n ∙ e ∙ ap (λ (z : ℕ). t * z) (mul-comm d (2 ^ x))
+    ∙ sym (mul-assoc t (2 ^ x) d))
 jam-cut r n d t x D big (inr w) =
     let N = t * 2 ^ x in
     let k = lost N 1 in
@@ -181,8 +186,12 @@ jam-cut r n d t x D big (inr w) =
     let p : 0 < 2 ^ x = pow-pos x in
     let g = cuts-one N 1 (le-refl 1) (le-trans (mul-le-mul-right 1 (small big)) (mul-le-mul-left t p)) in
     let b : 8388608 * 2 ^ k ≤ N = le-trans (mul-le-mul-right (2 ^ k) (g .0)) (le-trans (le-of-eq (ap (λ (z : ℕ). m * z) (sym (one-mul (2 ^ k))))) (g .2)) in
-    let a : N < 16777216 * 2 ^ k = lt-of-lt-of-le (g .3) (le-trans (le-of-eq (ap (λ (z : ℕ). suc m * z) (one-mul (2 ^ k)))) (mul-le-mul-right (2 ^ k) (g .1))) in
-    (keeps r n d t x k D big (w .0) (w .1) (w .2) b a ∙ sym (keeps r N 1 t x k (le-refl 1) big (w .0) (one-lo (2 ^ x) p) (one-hi (2 ^ x) p) b a), places r n d t x k D big (w .0) (w .1) (w .2) b a)
+    let a : N < 16777216 * 2 ^ k = lt-of-lt-of-le (g .3) (le-trans (le-of-eq (ap (λ (z : ℕ). suc m * z) (one-mul (2 ^ k)))) (mul-le-mul-right (2 ^ k) (g .1)))
+    in (
+      keeps r n d t x k D big (w .0) (w .1) (w .2) b a ∙ sym (keeps r N 1 t x k (le-refl 1) big (w .0) (one-lo (2 ^ x) p) (one-hi (2 ^ x) p) b a),
+      places r n d t
+          x k D big (w .0) (w .1) (w .2) b a,
+    )
   where
     small : 33554432 ≤ t → 8388608 ≤ t
     small g = omega arith

@@ -4,7 +4,8 @@ use mathlib.Core.Path.{_≡_, refl, sym, ap, ap₂, _∙_, subst, subst₂}
 use mathlib.Core.Logic.{_⊎_, inl, inr}
 use mathlib.Core.Bool.{Bool, true, false, cond}
 use Prim.Native.Nat.{ℕ, zero, suc, _+_, _-_, _*_, _/_, _%_, _^_, _≤_, _<_, compare}
-use native.Mathlib.Nat.{le-refl, lt-of-lt-of-le, mul-assoc, mul-right-comm, mul-one, one-mul, zero-mul, mul-pos, mul-le-mul-right, mul-lt-mul-of-pos-right, div-one, mod-one, mod-lt}
+use native.Mathlib.Nat.{le-refl, lt-of-lt-of-le, mul-assoc, mul-right-comm, mul-one, one-mul, zero-mul, mul-pos, mul-le-mul-right, mul-lt-mul-of-pos-right}
+use native.Mathlib.Nat.{div-one, mod-one, mod-lt}
 use native.Mathlib.Omega.{arith}
 use borrow.Author.Tests.{leb-true, leb-false}
 use lib.Dec.{leb, lit<}
@@ -39,7 +40,8 @@ kept-whole : (r : Rule) (j k : ℕ) → j < 16777216 → grid r (j * 2 ^ k) 1 �
 kept-whole r j k h =
     let n = j * 2 ^ k in
     let e = lost n 1 in
-    let l : e ≤ k = less (size (n / 1)) k (size-le (n / 1) (24 + k) (subst₂ (λ (x y : ℕ). x < y) (sym (div-one n)) (sym (pow-add 2 24 k)) (mul-lt-mul-of-pos-right h (pow-pos k)))) in
+    let l : e ≤ k = less (size (n / 1)) k (size-le (n / 1) (24 + k) (subst₂ (λ (x y : ℕ). x < y) (sym (div-one n)) (sym (pow-add 2 24 k))
+    (mul-lt-mul-of-pos-right h (pow-pos k)))) in
     let p : n ≡ j * 2 ^ (k - e) * (1 * 2 ^ e) = parted j k (k - e) e (omega arith) ∙ ap (λ (x : ℕ). j * 2 ^ (k - e) * x) (sym (one-mul (2 ^ e))) in
     ap (λ (x : ℕ). x * 2 ^ e) (ap (λ (x : ℕ). whole r x (1 * 2 ^ e)) p ∙ whole-exact r (j * 2 ^ (k - e)) (1 * 2 ^ e) (mul-pos (le-refl 1) (pow-pos e)))
     ∙ sym (parted j k (k - e) e (omega arith))
@@ -59,7 +61,8 @@ own-place r s m k lo hi =
     let U : 0 < 1 * 2 ^ k = mul-pos (le-refl 1) (pow-pos k) in
     let n : m * 2 ^ k ≡ m * (1 * 2 ^ k) = ap (λ (x : ℕ). m * x) (sym (one-mul (2 ^ k))) in
     let l : lost (m * 2 ^ k) 1 ≡ k =
-    lost-is (m * 2 ^ k) 1 k (le-refl 1) (subst (λ (x : ℕ). 8388608 * (1 * 2 ^ k) ≤ x) (sym n) (mul-le-mul-right (1 * 2 ^ k) lo)) (subst (λ (x : ℕ). x < 16777216 * (1 * 2 ^ k)) (sym n) (mul-lt-mul-of-pos-right hi U)) in
+    lost-is (m * 2 ^ k) 1 k (le-refl 1) (subst (λ (x : ℕ). 8388608 * (1 * 2 ^ k) ≤ x) (sym n) (mul-le-mul-right (1 * 2 ^ k) lo))
+    (subst (λ (x : ℕ). x < 16777216 * (1 * 2 ^ k)) (sym n) (mul-lt-mul-of-pos-right hi U)) in
     cut-of r s (m * 2 ^ k) 1 m k (mul-pos (lt-of-lt-of-le (lit< tt) lo) (pow-pos k)) hi
     (ap (λ (x : ℕ). whole r (m * 2 ^ k) (1 * 2 ^ x)) l ∙ ap (λ (x : ℕ). whole r x (1 * 2 ^ k)) n ∙ whole-exact r m (1 * 2 ^ k) U, l)
 
@@ -68,7 +71,8 @@ repacked : (w : ℕ) → w < 4294967296 → packed (negative w) (mantissa w) (bi
 unfolding packed
 repacked w h = go (leb 2147483648 w) (leb-true 2147483648 w) (leb-false 2147483648 w)
   where
-    go : (s : Bool) → (s ≡ true → 2147483648 ≤ w) → (s ≡ false → w < 2147483648) → cond s 2147483648 0 + ((w / 16777216 + 64) % 128 + 112 + 80) % 128 * 16777216 + w % 16777216 ≡ w
+    go : (s : Bool) → (s ≡ true → 2147483648 ≤ w) → (s ≡ false → w < 2147483648) → cond s 2147483648 0 + ((w / 16777216 + 64) % 128 + 112 + 80) % 128 * 16777216
+        + w % 16777216 ≡ w
     go true a b = let c = a refl in omega arith
     go false a b = let c = b refl in omega arith
 
@@ -89,7 +93,8 @@ own-value r w z d W D e = go (proper-cases w (W .is-proper))
 
     sizes : size88 w * d ≡ natAbs z * 2 ^ 88
     sizes =
-        ap (λ (x : ℕ). x * d) (sym sized) ∙ sym (size-of-signed (below0 (value w)) (natAbs (value w) * d)) ∙ ap natAbs signs ∙ size-of-signed (below0 z) (natAbs z * 2 ^ 88)
+        ap (λ (x : ℕ). x * d) (sym sized) ∙ sym (size-of-signed (below0 (value w)) (natAbs (value w) * d)) ∙ ap natAbs signs
+        ∙ size-of-signed (below0 z) (natAbs z * 2 ^ 88)
 
     zeroed : (x : ℕ) → x * 2 ^ 88 ≡ 0 → x ≡ 0
     zeroed x f = omega arith
@@ -114,7 +119,8 @@ own-value r w z d W D e = go (proper-cases w (W .is-proper))
         sign-pos (below0 z) (negative w) (natAbs z * 2 ^ 88) X (sym signs ∙ ap₂ withSign (own h) (ap (λ (x : ℕ). x * d) sized ∙ sizes))
       where
         own : 0 < size88 w → below0 (value w) ≡ negative w
-        own g = unfold value in sign-pos (below0 (value w)) (negative w) (size88 w) g (ap (λ (x : ℕ). withSign (below0 (value w)) x) (sym sized) ∙ sym (signed-parts (value w)))
+        own g = unfold value in sign-pos (below0 (value w)) (negative w) (size88 w) g (ap (λ (x : ℕ). withSign (below0 (value w)) x) (sym sized)
+            ∙ sym (signed-parts (value w)))
 
     go : (w ≡ 0) ⊎ (8388608 ≤ mantissa w) → cut r z d ≡ record { word = w; error = 0 }
     go (inl f) =
@@ -138,4 +144,5 @@ own-value r w z d W D e = go (proper-cases w (W .is-proper))
 pub same-word : (v w : ℕ) → FloatWord v → FloatWord w → value v ≡ value w → v ≡ w
 same-word v w A B e =
     ap (λ (x : Flagged). x .word)
-    (sym (own-value Cut v (value v) (2 ^ 88) A (pow-pos 88) refl) ∙ own-value Cut w (value v) (2 ^ 88) B (pow-pos 88) (ap (λ (z : ℤ). z *ℤ pos (2 ^ 88)) (sym e)))
+    (sym (own-value Cut v (value v) (2 ^ 88) A (pow-pos 88) refl) ∙ own-value Cut w (value v) (2 ^ 88) B (pow-pos 88)
+    (ap (λ (z : ℤ). z *ℤ pos (2 ^ 88)) (sym e)))

@@ -36,7 +36,11 @@ places e = ⊎-elim low (λ h. inr (inl (from 64 0 (omega arith)))) (either (abo
     to a b h = subst (λ (x : ℤ). x ≤ℤ subℕ a b) (sym (parts e)) (le-differences (above e) (beneath e) a b h)
 
     low : above e < beneath e + 64 → ((negℤ (pos 64) ≤ℤ e) × (e ≤ℤ pos 63)) ⊎ ((pos 64 ≤ℤ e) ⊎ (e ≤ℤ negℤ (pos 65)))
-    low h = ⊎-elim (λ (k : above e + 64 < beneath e). inr (inr (to 0 65 (omega arith)))) (λ (k : beneath e ≤ above e + 64). inl (from 0 64 (omega arith), to 63 0 (omega arith))) (either (above e + 64) (beneath e))
+    low h = ⊎-elim (λ (k : above e + 64 < beneath e). inr (inr (to 0 65 (omega arith)))) (λ (k : beneath e ≤ above e + 64). inl (
+      from 0 64 (omega arith),
+      to 63
+          0 (omega arith),
+    )) (either (above e + 64) (beneath e))
 
 module _ (e : ℤ) (r : Flagged) (s : Steps e r) where
   clash : {A : Type 0} (x y : ℕ) → r .error ≡ x → r .error ≡ y → (x ≡ y → ⊥) → A

@@ -1,4 +1,5 @@
--- Results under the nearest rule, computed from the definitions: thirds, ties to the even mantissa both ways, carries into the next exponent, and over- and underflow judged
+-- Results under the nearest rule, computed from the definitions: thirds, ties to the even mantissa both ways, carries into the next exponent, and over- and
+-- underflow judged
 -- after rounding, with the cut of the same operands. Assumes nothing.
 use mathlib.Core.Path.{_≡_, refl}
 use mathlib.Core.List.{List, [], _∷_}

@@ -29,7 +29,8 @@ ge-halves n y h =
 le-halves : (n y : ℕ) → rootHalves n ≤ 2 * y → n ≤ y * y
 le-halves n y h = go (halves-cases n)
   where
-    go : ((wholeRoot n * wholeRoot n ≡ n) × (rootHalves n ≡ 2 * wholeRoot n)) ⊎ ((wholeRoot n * wholeRoot n < n) × (rootHalves n ≡ 2 * wholeRoot n + 1)) → n ≤ y * y
+    go : ((wholeRoot n * wholeRoot n ≡ n) × (rootHalves n ≡ 2 * wholeRoot n)) ⊎ ((wholeRoot n * wholeRoot n < n) × (rootHalves n ≡ 2 * wholeRoot n + 1))
+        → n ≤ y * y
     go (inl w) =
         let e = w .1 in
         let a : wholeRoot n ≤ y = omega arith in
@@ -42,7 +43,8 @@ le-halves n y h = go (halves-cases n)
 halves-le : (n y : ℕ) → n ≤ y * y → rootHalves n ≤ 2 * y
 halves-le n y h = go (halves-cases n)
   where
-    go : ((wholeRoot n * wholeRoot n ≡ n) × (rootHalves n ≡ 2 * wholeRoot n)) ⊎ ((wholeRoot n * wholeRoot n < n) × (rootHalves n ≡ 2 * wholeRoot n + 1)) → rootHalves n ≤ 2 * y
+    go : ((wholeRoot n * wholeRoot n ≡ n) × (rootHalves n ≡ 2 * wholeRoot n)) ⊎ ((wholeRoot n * wholeRoot n < n) × (rootHalves n ≡ 2 * wholeRoot n + 1))
+        → rootHalves n ≤ 2 * y
     go (inl w) = pick (either y (wholeRoot n))
       where
         up-one : y < wholeRoot n → y + 1 ≤ wholeRoot n
@@ -100,10 +102,14 @@ module _ (n m k : ℕ) where
       let y = belowMark m * 2 ^ k in
       let z = aboveMark m * 2 ^ k in
       record {
-        reached = le-trans (le-of-eq low-square) (up16 (y * y) n (ge-halves n y (le4 (2 * y) (rootHalves n) (le-trans (le-of-eq (sym low-line)) (w .reached)))));
-        passed = le-trans (up16 n (z * z) (le-halves n z (le4 (rootHalves n) (2 * z) (le-trans (w .passed) (le-of-eq high-line))))) (le-of-eq (sym high-square));
-        low-even = λ g. w .low-even (le-trans (up4 (rootHalves n) (2 * y) (halves-le n y (le16 n (y * y) (le-trans g (le-of-eq low-square))))) (le-of-eq (sym low-line)));
-        high-even = λ g. w .high-even (le-trans (le-of-eq high-line) (up4 (2 * z) (rootHalves n) (halves-ge n z (le16 (z * z) n (le-trans (le-of-eq (sym high-square)) g)))));
+        reached = le-trans (le-of-eq low-square)
+            (up16 (y * y) n (ge-halves n y (le4 (2 * y) (rootHalves n) (le-trans (le-of-eq (sym low-line)) (w .reached)))));
+        passed = le-trans (up16 n (z * z) (le-halves n z (le4 (rootHalves n) (2 * z) (le-trans (w .passed) (le-of-eq high-line)))))
+            (le-of-eq (sym high-square));
+        low-even = λ g. w .low-even (le-trans (up4 (rootHalves n) (2 * y) (halves-le n y (le16 n (y * y) (le-trans g (le-of-eq low-square)))))
+            (le-of-eq (sym low-line)));
+        high-even = λ g. w .high-even (le-trans (le-of-eq high-line)
+            (up4 (2 * z) (rootHalves n) (halves-ge n z (le16 (z * z) n (le-trans (le-of-eq (sym high-square)) g)))));
       }
 
   of-squares : SquareMarks n (2 ^ (k + 2) * 2 ^ (k + 2)) m → Marks (rootHalves n) (2 * 2 ^ (k + 2)) m
@@ -111,10 +117,14 @@ module _ (n m k : ℕ) where
       let y = belowMark m * 2 ^ k in
       let z = aboveMark m * 2 ^ k in
       record {
-        reached = le-trans (le-of-eq low-line) (up4 (2 * y) (rootHalves n) (halves-ge n y (le16 (y * y) n (le-trans (le-of-eq (sym low-square)) (w .reached)))));
-        passed = le-trans (up4 (rootHalves n) (2 * z) (halves-le n z (le16 n (z * z) (le-trans (w .passed) (le-of-eq high-square))))) (le-of-eq (sym high-line));
-        low-even = λ g. w .low-even (le-trans (up16 n (y * y) (le-halves n y (le4 (rootHalves n) (2 * y) (le-trans g (le-of-eq low-line))))) (le-of-eq (sym low-square)));
-        high-even = λ g. w .high-even (le-trans (le-of-eq high-square) (up16 (z * z) n (ge-halves n z (le4 (2 * z) (rootHalves n) (le-trans (le-of-eq (sym high-line)) g)))));
+        reached = le-trans (le-of-eq low-line) (up4 (2 * y) (rootHalves n)
+            (halves-ge n y (le16 (y * y) n (le-trans (le-of-eq (sym low-square)) (w .reached)))));
+        passed = le-trans (up4 (rootHalves n) (2 * z) (halves-le n z (le16 n (z * z) (le-trans (w .passed) (le-of-eq high-square)))))
+            (le-of-eq (sym high-line));
+        low-even = λ g. w .low-even (le-trans (up16 n (y * y) (le-halves n y (le4 (rootHalves n) (2 * y) (le-trans g (le-of-eq low-line)))))
+            (le-of-eq (sym low-square)));
+        high-even = λ g. w .high-even (le-trans (le-of-eq high-square)
+            (up16 (z * z) n (ge-halves n z (le4 (2 * z) (rootHalves n) (le-trans (le-of-eq (sym high-line)) g)))));
       }
 
 -- ---- at an exponent, and at k digits of the root of n * (2 ^ j * 2 ^ j)
@@ -137,13 +147,17 @@ module _ (n m k j : ℕ) (e : ℤ) (X : e -ℤ pos 24 ≡ subℕ k (j + 44)) whe
 
   pub near-at : SquareMarks (n * (2 ^ j * 2 ^ j)) (2 ^ k * 2 ^ k) m → SquareMarks (n * down (squareExponent e)) (2 ^ 88 * up (squareExponent e)) m
   near-at h =
-      rescaled 16 (belowMark m * belowMark m) (aboveMark m * aboveMark m) m (n * (2 ^ j * 2 ^ j)) (2 ^ k * 2 ^ k) (n * down (squareExponent e)) (2 ^ 88 * up (squareExponent e))
-      (2 ^ 88 * down (squareExponent e)) (2 ^ (j + 44 + (j + 44))) (mul-pos (pow-pos 88) (down-pos (squareExponent e))) (pow-pos (j + 44 + (j + 44))) (sym numbers) (sym units) h
+      rescaled 16 (belowMark m * belowMark m) (aboveMark m * aboveMark m) m (n * (2 ^ j * 2 ^ j)) (2 ^ k * 2 ^ k) (n * down (squareExponent e))
+      (2 ^ 88 * up (squareExponent e))
+      (2 ^ 88 * down (squareExponent e)) (2 ^ (j + 44 + (j + 44))) (mul-pos (pow-pos 88) (down-pos (squareExponent e))) (pow-pos (j + 44 + (j + 44)))
+      (sym numbers) (sym units) h
 
   from-at : SquareMarks (n * down (squareExponent e)) (2 ^ 88 * up (squareExponent e)) m → SquareMarks (n * (2 ^ j * 2 ^ j)) (2 ^ k * 2 ^ k) m
   from-at h =
-      rescaled 16 (belowMark m * belowMark m) (aboveMark m * aboveMark m) m (n * down (squareExponent e)) (2 ^ 88 * up (squareExponent e)) (n * (2 ^ j * 2 ^ j)) (2 ^ k * 2 ^ k)
-      (2 ^ (j + 44 + (j + 44))) (2 ^ 88 * down (squareExponent e)) (pow-pos (j + 44 + (j + 44))) (mul-pos (pow-pos 88) (down-pos (squareExponent e))) numbers units h
+      rescaled 16 (belowMark m * belowMark m) (aboveMark m * aboveMark m) m (n * down (squareExponent e)) (2 ^ 88 * up (squareExponent e))
+      (n * (2 ^ j * 2 ^ j)) (2 ^ k * 2 ^ k)
+      (2 ^ (j + 44 + (j + 44))) (2 ^ 88 * down (squareExponent e)) (pow-pos (j + 44 + (j + 44))) (mul-pos (pow-pos 88) (down-pos (squareExponent e))) numbers
+      units h
 
 -- ---- at most one
 pub one-near-root : (n m m' : ℕ) (e e' : ℤ) → NearRoot n m e → NearRoot n m' e' → (m ≡ m') × (e ≡ e')
@@ -156,8 +170,10 @@ one-near-root n m m' e e' p p' =
     let X : x ≡ subℕ (k + 2) (j + 44) = parts x ∙ same (above x) (beneath x) (k + 2) (j + 44) (omega arith) in
     let X' : x' ≡ subℕ (k' + 2) (j + 44) = parts x' ∙ same (above x') (beneath x') (k' + 2) (j + 44) (omega arith) in
     let N = n * (2 ^ j * 2 ^ j) in
-    let c = near-only (rootHalves N) 2 m (k + 1) (omega arith) (placed N m k (record { low = p .low; high = p .high; marks = of-squares N m k (from-at n m (k + 2) j e X (p .marks)) })) in
-    let c' = near-only (rootHalves N) 2 m' (k' + 1) (omega arith) (placed N m' k' (record { low = p' .low; high = p' .high; marks = of-squares N m' k' (from-at n m' (k' + 2) j e' X' (p' .marks)) })) in
+    let c = near-only (rootHalves N) 2 m (k + 1) (omega arith)
+    (placed N m k (record { low = p .low; high = p .high; marks = of-squares N m k (from-at n m (k + 2) j e X (p .marks)) })) in
+    let c' = near-only (rootHalves N) 2 m' (k' + 1) (omega arith)
+    (placed N m' k' (record { low = p' .low; high = p' .high; marks = of-squares N m' k' (from-at n m' (k' + 2) j e' X' (p' .marks)) })) in
     let y : x ≡ x' = X ∙ ap (λ (z : ℕ). subℕ z (j + 44)) (more k ∙ sym (c .1) ∙ c' .1 ∙ sym (more k')) ∙ sym X' in
     (sym (c .0) ∙ c' .0, sym (-ℤ-+ℤ-cancel e (pos 24)) ∙ ap (λ (z : ℤ). z +ℤ pos 24) y ∙ -ℤ-+ℤ-cancel e' (pos 24))
   where

@@ -84,7 +84,8 @@ top-marks n u v e h w =
     let r = w .reached in
     record { reached = omega arith; passed = omega arith; low-even = λ g. refl; high-even = λ g. refl }
 
-top-nearby : (n u v m : ℕ) → 0 < u → v ≡ 2 * u → 8388608 ≤ m → n < 8388608 * v → Marks n v m → (m ≡ 8388608) × Nearby n u 16777216 × (8388608 * u ≤ n) × (n < 16777216 * u)
+top-nearby : (n u v m : ℕ) → 0 < u → v ≡ 2 * u → 8388608 ≤ m → n < 8388608 * v → Marks n v m → (m ≡ 8388608) × Nearby n u 16777216
+    × (8388608 * u ≤ n) × (n < 16777216 * u)
 top-nearby n u v m U e b h w = go (least-or-more m b)
   where
     go : (m ≡ 8388608) ⊎ (8388608 < m) → (m ≡ 8388608) × Nearby n u 16777216 × (8388608 * u ≤ n) × (n < 16777216 * u)
@@ -126,13 +127,19 @@ near-one n d D h = go (sides (kept Nearest n d) 16777216)
     near : Nearby n (d * 2 ^ lost n d) (kept Nearest n d)
     near = closest-near n (d * 2 ^ lost n d) U
 
-    go : (kept Nearest n d < 16777216) ⊎ (kept Nearest n d ≡ 16777216) ⊎ (16777216 < kept Nearest n d) → NearAt n d (mantissaOf (kept Nearest n d)) (digitsOf (kept Nearest n d) (lost n d))
+    go : (kept Nearest n d < 16777216) ⊎ (kept Nearest n d ≡ 16777216) ⊎ (16777216 < kept Nearest n d) → NearAt n d (mantissaOf (kept Nearest n d))
+        (digitsOf (kept Nearest n d) (lost n d))
     go (inl x) =
         rw (lt-ltb (kept Nearest n d) 16777216 x)
         (record { low = kept-big Nearest n d D h; high = x; marks = marks-of n (d * 2 ^ lost n d) (kept Nearest n d) U lo (kept-big Nearest n d D h) near })
     go (inr (inl e)) =
         rw (le-ltb (kept Nearest n d) 16777216 (le-of-eq (sym e)))
-        (record { low = le-refl 8388608; high = omega arith; marks = top-marks n (d * 2 ^ lost n d) (d * 2 ^ (lost n d + 1)) (next-place d (lost n d)) hi (subst (λ (x : ℕ). Nearby n (d * 2 ^ lost n d) x) e near) })
+        (record {
+          low = le-refl 8388608;
+          high = omega arith;
+          marks = top-marks n (d * 2 ^ lost n d) (d * 2 ^ (lost n d + 1)) (next-place d (lost n d)) hi
+              (subst (λ (x : ℕ). Nearby n (d * 2 ^ lost n d) x) e near);
+        })
     go (inr (inr g)) = let t = kept-le Nearest n d in absurd (omega arith)
 
 -- and no other, at places above the lowest
@@ -159,10 +166,12 @@ near-only n d m k D w = go (sides n (8388608 * (d * 2 ^ (k + 1))))
         let t = top-nearby n u (d * 2 ^ (k + 1)) m U (next-place d k) (w .low) hi (w .marks) in
         let f : lost n d ≡ k = lost-is n d k D (t .2) (t .3) in
         let e : kept Nearest n d ≡ 16777216 = ap (λ (x : ℕ). closest n (d * 2 ^ x)) f ∙ closest-only n u U 16777216 (t .1) in
-        let g : (mantissaOf (kept Nearest n d) ≡ 8388608) × (digitsOf (kept Nearest n d) (lost n d) ≡ lost n d + 1) = rw (le-ltb (kept Nearest n d) 16777216 (le-of-eq (sym e))) (refl, refl) in
+        let g : (mantissaOf (kept Nearest n d) ≡ 8388608) × (digitsOf (kept Nearest n d) (lost n d) ≡ lost n d + 1) = rw (le-ltb (kept Nearest n d) 16777216
+        (le-of-eq (sym e))) (refl, refl) in
         (g .0 ∙ sym (t .0), g .1 ∙ ap (λ (x : ℕ). x + 1) f)
 
-    go : (n < 8388608 * (d * 2 ^ (k + 1))) ⊎ (n ≡ 8388608 * (d * 2 ^ (k + 1))) ⊎ (8388608 * (d * 2 ^ (k + 1)) < n) → (mantissaOf (kept Nearest n d) ≡ m) × (digitsOf (kept Nearest n d) (lost n d) ≡ k + 1)
+    go : (n < 8388608 * (d * 2 ^ (k + 1))) ⊎ (n ≡ 8388608 * (d * 2 ^ (k + 1))) ⊎ (8388608 * (d * 2 ^ (k + 1)) < n) → (mantissaOf (kept Nearest n d) ≡ m)
+        × (digitsOf (kept Nearest n d) (lost n d) ≡ k + 1)
     go (inl h) = top h
     go (inr (inl e)) = own (le-of-eq (sym e))
     go (inr (inr h)) = own (omega arith)

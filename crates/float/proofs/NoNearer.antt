@@ -80,7 +80,8 @@ places-near : (n d m k m' k' : ℕ) → NearAt n d m k → 8388608 ≤ m' → m'
 places-near n d m k m' k' w lo hi = ⊎-elim finer coarser (either k' k)
   where
     finer : k' < k → apart n (m * (d * 2 ^ k)) ≤ apart n (m' * (d * 2 ^ k'))
-    finer l = finer-near n (d * 2 ^ k) m (w .low) (w .marks) (d * 2 ^ k') m' (le-trans (le-of-eq two) (mul-le-mul-left d (pow-mono {i = k' + 1} {j = k} (omega arith)))) hi
+    finer l = finer-near n (d * 2 ^ k) m (w .low) (w .marks) (d * 2 ^ k') m'
+        (le-trans (le-of-eq two) (mul-le-mul-left d (pow-mono {i = k' + 1} {j = k} (omega arith)))) hi
       where
         two : 2 * (d * 2 ^ k') ≡ d * 2 ^ (k' + 1)
         two = let e : 2 ^ (k' + 1) ≡ 2 ^ k' * 2 = pow-add 2 k' 1 in sym (ap (λ (x : ℕ). d * x) e ∙ omega arith)
@@ -94,7 +95,8 @@ places-near n d m k m' k' w lo hi = ⊎-elim finer coarser (either k' k)
         steps : k ≤ k' → m' * 2 ^ (k' - k) * (d * 2 ^ k) ≡ m' * (d * 2 ^ k')
         steps l =
             mul-assoc m' (2 ^ (k' - k)) (d * 2 ^ k)
-            ∙ ap (λ (x : ℕ). m' * x) (sym (mul-assoc (2 ^ (k' - k)) d (2 ^ k)) ∙ ap (λ (x : ℕ). x * 2 ^ k) (mul-comm (2 ^ (k' - k)) d) ∙ mul-assoc d (2 ^ (k' - k)) (2 ^ k)
+            ∙ ap (λ (x : ℕ). m' * x) (sym (mul-assoc (2 ^ (k' - k)) d (2 ^ k)) ∙ ap (λ (x : ℕ). x * 2 ^ k) (mul-comm (2 ^ (k' - k)) d)
+            ∙ mul-assoc d (2 ^ (k' - k)) (2 ^ k)
             ∙ ap (λ (x : ℕ). d * x) (sym (pow-add 2 (k' - k) k) ∙ ap (λ (x : ℕ). 2 ^ x) (count l)))
           where
             count : k ≤ k' → k' - k + k ≡ k'
@@ -115,18 +117,23 @@ no-nearer n d m e p m' e' lo hi =
     let X' : x' ≡ subℕ k' J = parts x' ∙ same (above x') (beneath x') k' J (omega arith) in
     let h : apart (n * 2 ^ J) (m * (d * 2 ^ k)) ≤ apart (n * 2 ^ J) (m' * (d * 2 ^ k')) = places-near (n * 2 ^ J) d m k m' k' (to-near n d m k J e X p) lo hi in
     le-of-mul-le-mul-right
-    (subst₂ (λ (y z : ℕ). y ≤ z) (turn m k x X (down x')) (mul-right-comm (apart (n * 2 ^ J) (m' * (d * 2 ^ k'))) (down x) (down x') ∙ turn m' k' x' X' (down x)) (mul-le-mul-right (down x') (mul-le-mul-right (down x) h)))
+    (subst₂ (λ (y z : ℕ). y ≤ z) (turn m k x X (down x')) (mul-right-comm (apart (n * 2 ^ J) (m' * (d * 2 ^ k'))) (down x) (down x')
+    ∙ turn m' k' x' X' (down x)) (mul-le-mul-right (down x') (mul-le-mul-right (down x) h)))
     (pow-pos J)
   where
     -- the distance at the scale, times down x, is that at the exponent, times 2 ^ J
     moved : (i k : ℕ) (x : ℤ) → x ≡ subℕ k (beneath (e -ℤ pos 24) + beneath (e' -ℤ pos 24))
-        → apart (n * 2 ^ (beneath (e -ℤ pos 24) + beneath (e' -ℤ pos 24))) (i * (d * 2 ^ k)) * down x ≡ apart (n * down x) (i * (d * up x)) * 2 ^ (beneath (e -ℤ pos 24) + beneath (e' -ℤ pos 24))
+        → apart (n * 2 ^ (beneath (e -ℤ pos 24) + beneath (e' -ℤ pos 24))) (i * (d * 2 ^ k)) * down x ≡ apart (n * down x) (i * (d * up x))
+        * 2 ^ (beneath (e -ℤ pos 24) + beneath (e' -ℤ pos 24))
     moved i k x X =
         let K = beneath (e -ℤ pos 24) + beneath (e' -ℤ pos 24) in
         sym (apart-times (n * 2 ^ K) (i * (d * 2 ^ k)) (down x))
-        ∙ ap₂ apart (sym (other d n k K x X)) (mul-assoc i (d * 2 ^ k) (down x) ∙ ap (λ (y : ℕ). i * y) (sym (scaled d n k K x X)) ∙ sym (mul-assoc i (d * up x) (2 ^ K)))
+        ∙ ap₂ apart (sym (other d n k K x X)) (mul-assoc i (d * 2 ^ k) (down x) ∙ ap (λ (y : ℕ). i * y) (sym (scaled d n k K x X))
+        ∙ sym (mul-assoc i (d * up x) (2 ^ K)))
         ∙ apart-times (n * down x) (i * (d * up x)) (2 ^ K)
 
     turn : (i k : ℕ) (x : ℤ) → x ≡ subℕ k (beneath (e -ℤ pos 24) + beneath (e' -ℤ pos 24)) → (y : ℕ)
-        → apart (n * 2 ^ (beneath (e -ℤ pos 24) + beneath (e' -ℤ pos 24))) (i * (d * 2 ^ k)) * down x * y ≡ apart (n * down x) (i * (d * up x)) * y * 2 ^ (beneath (e -ℤ pos 24) + beneath (e' -ℤ pos 24))
-    turn i k x X y = ap (λ (z : ℕ). z * y) (moved i k x X) ∙ mul-right-comm (apart (n * down x) (i * (d * up x))) (2 ^ (beneath (e -ℤ pos 24) + beneath (e' -ℤ pos 24))) y
+        → apart (n * 2 ^ (beneath (e -ℤ pos 24) + beneath (e' -ℤ pos 24))) (i * (d * 2 ^ k)) * down x * y ≡ apart (n * down x) (i * (d * up x))
+        * y * 2 ^ (beneath (e -ℤ pos 24) + beneath (e' -ℤ pos 24))
+    turn i k x X y = ap (λ (z : ℕ). z * y) (moved i k x X) ∙ mul-right-comm (apart (n * down x) (i * (d * up x)))
+        (2 ^ (beneath (e -ℤ pos 24) + beneath (e' -ℤ pos 24))) y

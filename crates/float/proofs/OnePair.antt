@@ -3,7 +3,8 @@
 use mathlib.Core.Path.{_≡_, sym, ap, _∙_, subst, subst₂}
 use mathlib.Core.Logic.{⊎-elim}
 use Prim.Native.Nat.{ℕ, suc, _+_, _-_, _*_, _^_, _≤_, _<_}
-use native.Mathlib.Nat.{le-trans, le-of-eq, le-of-lt, mul-assoc, mul-right-comm, mul-one, one-mul, mul-le-mul-left, mul-le-mul-right, mul-lt-mul-of-pos-right, le-of-mul-le-mul-right, lt-of-mul-lt-mul-right}
+use native.Mathlib.Nat.{le-trans, le-of-eq, le-of-lt, mul-assoc, mul-right-comm, mul-one, one-mul, mul-le-mul-left, mul-le-mul-right, mul-lt-mul-of-pos-right}
+use native.Mathlib.Nat.{le-of-mul-le-mul-right, lt-of-mul-lt-mul-right}
 use native.Mathlib.Numerals.{add-one}
 use native.Mathlib.Omega.{arith}
 use lib.IntN.{ℤ, pos, negsuc, subℕ, _+ℤ_, _-ℤ_, +ℤ-negℤ-cancel, -ℤ-+ℤ-cancel}
@@ -38,7 +39,8 @@ down-pos (negsuc k) = pow-pos (suc k)
 -- ---- products at the fraction and at the scale
 module _ (c n k J : ℕ) (x : ℤ) (X : x ≡ subℕ k J) where
   pub scaled : c * up x * 2 ^ J ≡ c * 2 ^ k * down x
-  scaled = mul-assoc c (up x) (2 ^ J) ∙ ap (λ (y : ℕ). c * y) (ap (λ (z : ℤ). up z * 2 ^ J) X ∙ scale k J ∙ ap (λ (z : ℤ). 2 ^ k * down z) (sym X)) ∙ sym (mul-assoc c (2 ^ k) (down x))
+  scaled = mul-assoc c (up x) (2 ^ J) ∙ ap (λ (y : ℕ). c * y) (ap (λ (z : ℤ). up z * 2 ^ J) X ∙ scale k J ∙ ap (λ (z : ℤ). 2 ^ k * down z) (sym X))
+      ∙ sym (mul-assoc c (2 ^ k) (down x))
 
   pub other : n * down x * 2 ^ J ≡ n * 2 ^ J * down x
   other = mul-right-comm n (down x) (2 ^ J)
@@ -60,7 +62,8 @@ pub to-scale : (n d m k J : ℕ) (e : ℤ) → e -ℤ pos 24 ≡ subℕ k J → 
 to-scale n d m k J e X p = (
   p .low,
   p .high,
-  subst (λ (y : ℕ). y ≤ n * 2 ^ J) (mul-assoc m d (2 ^ k)) (to-le (m * d) n k J (e -ℤ pos 24) X (subst (λ (y : ℕ). y ≤ n * down (e -ℤ pos 24)) (sym (mul-assoc m d (up (e -ℤ pos 24)))) (p .reached))),
+  subst (λ (y : ℕ). y ≤ n * 2 ^ J) (mul-assoc m d (2 ^ k)) (to-le (m * d) n k J (e -ℤ pos 24) X (subst (λ (y : ℕ). y ≤ n * down (e -ℤ pos 24))
+      (sym (mul-assoc m d (up (e -ℤ pos 24)))) (p .reached))),
   subst (λ (y : ℕ). n * 2 ^ J < y) (mul-assoc (m + 1) d (2 ^ k) ∙ ap (λ (y : ℕ). y * (d * 2 ^ k)) (add-one m))
       (to-lt ((m + 1) * d) n k J (e -ℤ pos 24) X (subst (λ (y : ℕ). n * down (e -ℤ pos 24) < y) (sym (mul-assoc (m + 1) d (up (e -ℤ pos 24)))) (p .passed))),
 )
@@ -69,10 +72,12 @@ pub from-scale : (n d m k J : ℕ) (e : ℤ) → e -ℤ pos 24 ≡ subℕ k J �
 from-scale n d m k J e X p = record {
   low = p .0;
   high = p .1;
-  reached = subst (λ (y : ℕ). y ≤ n * down (e -ℤ pos 24)) (mul-assoc m d (up (e -ℤ pos 24))) (from-le (m * d) n k J (e -ℤ pos 24) X (subst (λ (y : ℕ). y ≤ n * 2 ^ J) (sym (mul-assoc m d (2 ^ k))) (p .2)));
+  reached = subst (λ (y : ℕ). y ≤ n * down (e -ℤ pos 24)) (mul-assoc m d (up (e -ℤ pos 24))) (from-le (m * d) n k J (e -ℤ pos 24) X
+      (subst (λ (y : ℕ). y ≤ n * 2 ^ J) (sym (mul-assoc m d (2 ^ k))) (p .2)));
   passed =
       subst (λ (y : ℕ). n * down (e -ℤ pos 24) < y) (mul-assoc (m + 1) d (up (e -ℤ pos 24)))
-      (from-lt ((m + 1) * d) n k J (e -ℤ pos 24) X (subst (λ (y : ℕ). n * 2 ^ J < y) (sym (mul-assoc (m + 1) d (2 ^ k) ∙ ap (λ (y : ℕ). y * (d * 2 ^ k)) (add-one m))) (p .3)));
+      (from-lt ((m + 1) * d) n k J (e -ℤ pos 24) X
+      (subst (λ (y : ℕ). n * 2 ^ J < y) (sym (mul-assoc (m + 1) d (2 ^ k) ∙ ap (λ (y : ℕ). y * (d * 2 ^ k)) (add-one m))) (p .3)));
 }
 
 -- ---- at most one

@@ -88,7 +88,8 @@ keep-factor : (x y : ℤ) (k : ℕ) → x ≤ℤ y → (x *ℤ pos k) ≤ℤ (y 
 keep-factor x y k h =
     subst₂ (λ (u v : ℤ). u ≤ℤ v) (sym (times-size x k)) (sym (times-size y k))
     (signed-le (below0 x) (below0 y) (natAbs x * k) (natAbs y * k)
-    (go (below0 x) (below0 y) (natAbs x) (natAbs y) (le-signed (below0 x) (below0 y) (natAbs x) (natAbs y) (subst₂ (λ (u v : ℤ). u ≤ℤ v) (signed-parts x) (signed-parts y) h))))
+    (go (below0 x) (below0 y) (natAbs x) (natAbs y) (le-signed (below0 x) (below0 y) (natAbs x) (natAbs y) (subst₂ (λ (u v : ℤ). u ≤ℤ v) (signed-parts x)
+    (signed-parts y) h))))
   where
     go : (s t : Bool) (i j : ℕ) → cond s 0 i + cond t j 0 ≤ cond t 0 j + cond s i 0 → cond s 0 (i * k) + cond t (j * k) 0 ≤ cond t 0 (j * k) + cond s (i * k) 0
     go false false i j l = let m = mul-le-mul-right k l in omega arith
@@ -118,7 +119,8 @@ by-factor true x y k h = turn-factor x y k h
 by-factor false x y k h = keep-factor x y k h
 
 -- two exact values over one scale
-cut-by : (r : Rule) (t : Bool) (z z' : ℤ) (d : ℕ) → 0 < d → By t z z' → (cut r z d) .error ≡ 0 → (cut r z' d) .error ≡ 0 → LeBy t ((cut r z d) .word) ((cut r z' d) .word)
+cut-by : (r : Rule) (t : Bool) (z z' : ℤ) (d : ℕ) → 0 < d → By t z z' → (cut r z d) .error ≡ 0 → (cut r z' d) .error ≡ 0 → LeBy t ((cut r z d) .word)
+    ((cut r z' d) .word)
 cut-by r true z z' d D h e e' = cut-keeps r z' z d d D D (keep-factor z' z d h) e' e
 cut-by r false z z' d D h e e' = cut-keeps r z z' d d D D (keep-factor z z' d h) e e'
 
@@ -133,18 +135,22 @@ add-keeps-right r b a a' h e e' = cut-by r false (exactSum b a) (exactSum b a') 
 
 pub sub-keeps : (r : Rule) (b b' a : ℕ) → Le b b' → (sub r b a) .error ≡ 0 → (sub r b' a) .error ≡ 0 → Le ((sub r b a) .word) ((sub r b' a) .word)
 unfolding sub
-sub-keeps r b b' a h e e' = cut-by r false (exactDifference b a) (exactDifference b' a) (2 ^ 88) (pow-pos 88) (le-sum-left (value b) (value b') (negℤ (value a)) h) e e'
+sub-keeps r b b' a h e e' = cut-by r false (exactDifference b a) (exactDifference b' a) (2 ^ 88) (pow-pos 88) (le-sum-left (value b) (value b') (negℤ (value a))
+    h) e e'
 
 -- taking from a constant turns the order round
 pub sub-turns : (r : Rule) (b a a' : ℕ) → Le a a' → (sub r b a) .error ≡ 0 → (sub r b a') .error ≡ 0 → Le ((sub r b a') .word) ((sub r b a) .word)
 unfolding sub
 sub-turns r b a a' h e e' =
-    cut-by r true (exactDifference b a) (exactDifference b a') (2 ^ 88) (pow-pos 88) (le-sum-right (negℤ (value a')) (negℤ (value a)) (value b) (le-opposite (value a) (value a') h)) e e'
+    cut-by r true (exactDifference b a) (exactDifference b a') (2 ^ 88) (pow-pos 88) (le-sum-right (negℤ (value a')) (negℤ (value a)) (value b)
+    (le-opposite (value a) (value a') h)) e e'
 
 -- multiplying by a constant keeps the order, by a negative one turns it round
-pub mul-order : (r : Rule) (b b' a : ℕ) → Le b b' → (mul r b a) .error ≡ 0 → (mul r b' a) .error ≡ 0 → LeBy (negative a) ((mul r b a) .word) ((mul r b' a) .word)
+pub mul-order : (r : Rule) (b b' a : ℕ) → Le b b' → (mul r b a) .error ≡ 0 → (mul r b' a) .error ≡ 0 → LeBy (negative a) ((mul r b a) .word)
+    ((mul r b' a) .word)
 unfolding mul value
-mul-order r b b' a h e e' = cut-by r (negative a) (exactProduct b a) (exactProduct b' a) (2 ^ 176) (pow-pos 176) (by-factor (negative a) (value b) (value b') (size88 a) h) e e'
+mul-order r b b' a h e e' = cut-by r (negative a) (exactProduct b a) (exactProduct b' a) (2 ^ 176) (pow-pos 176) (by-factor (negative a) (value b) (value b')
+    (size88 a) h) e e'
 
 -- a quotient with no error has a divisor that is not zero
 pub no-zero-divisor : (r : Rule) (b a : ℕ) → (div r b a) .error ≡ 0 → mantissa a ≡ 0 → ⊥
@@ -164,7 +170,8 @@ unfolding value
 dividend-is b a = times (negative b) (negative a) (size88 b) 1 ∙ ap (λ (x : ℕ). withSign (unlike (negative b) (negative a)) x) (mul-one (size88 b))
 
 -- dividing by a constant keeps the order, by a negative one turns it round
-pub div-order : (r : Rule) (b b' a : ℕ) → Le b b' → (div r b a) .error ≡ 0 → (div r b' a) .error ≡ 0 → LeBy (negative a) ((div r b a) .word) ((div r b' a) .word)
+pub div-order : (r : Rule) (b b' a : ℕ) → Le b b' → (div r b a) .error ≡ 0 → (div r b' a) .error ≡ 0 → LeBy (negative a) ((div r b a) .word)
+    ((div r b' a) .word)
 div-order r b b' a h e e' =
     let nz = no-zero-divisor r b a e in
     rw (div-cut r b a nz, div-cut r b' a nz)

@@ -5,7 +5,9 @@ use native.Mathlib.Numerals.{add-one}
 use borrow.Author.Tests.{lt-ltb, le-ltb}
 use mathlib.Core.Bool.{Bool}
 use Prim.Native.Nat.{ℕ, suc, _+_, _-_, _*_, _/_, _%_, _^_, _≤_, _<_, zero-le, compare}
-use native.Mathlib.Nat.{le-refl, le-suc, le-trans, le-of-eq, lt-of-le-of-lt, lt-of-lt-of-le, le-antisymm, eq-or-lt-of-le, mul-comm, mul-assoc, mul-le-mul-right, le-div-iff-mul-le, div-lt-iff-lt-mul, div-div-eq-div-mul, mul-pos, lt-of-not-le, not-le-of-lt, div-mul-le-self, lt-div-mul-add, mul-one, one-mul, suc-mul, div-eq-of-lt-le, mul-lt-mul-of-pos-right}
+use native.Mathlib.Nat.{le-refl, le-suc, le-trans, le-of-eq, lt-of-le-of-lt, lt-of-lt-of-le, le-antisymm, eq-or-lt-of-le, mul-comm, mul-assoc, mul-le-mul-right}
+use native.Mathlib.Nat.{le-div-iff-mul-le, div-lt-iff-lt-mul, div-div-eq-div-mul, mul-pos, lt-of-not-le, not-le-of-lt, div-mul-le-self, lt-div-mul-add, mul-one}
+use native.Mathlib.Nat.{one-mul, suc-mul, div-eq-of-lt-le, mul-lt-mul-of-pos-right}
 use native.Mathlib.Omega.{arith}
 use lib.Pow.{pow-add, pow-pos, pow-mono}
 use lib.Ieee.{size}
@@ -88,8 +90,10 @@ digits z k h l = omega arith
 -- n / d is from 2 ^ 23 up to 2 ^ 24, times 2 ^ k: so k digits are dropped
 pub lost-is : (n d k : ℕ) → 0 < d → 8388608 * (d * 2 ^ k) ≤ n → n < 16777216 * (d * 2 ^ k) → lost n d ≡ k
 lost-is n d k D lo hi =
-    let e23 : 2 ^ (23 + k) * d ≡ 8388608 * (d * 2 ^ k) = ap (λ (x : ℕ). x * d) (pow-add 2 23 k) ∙ mul-assoc 8388608 (2 ^ k) d ∙ ap (λ (x : ℕ). 8388608 * x) (mul-comm (2 ^ k) d) in
-    let e24 : 2 ^ (24 + k) * d ≡ 16777216 * (d * 2 ^ k) = ap (λ (x : ℕ). x * d) (pow-add 2 24 k) ∙ mul-assoc 16777216 (2 ^ k) d ∙ ap (λ (x : ℕ). 16777216 * x) (mul-comm (2 ^ k) d) in
+    let e23 : 2 ^ (23 + k) * d ≡ 8388608 * (d * 2 ^ k) = ap (λ (x : ℕ). x * d) (pow-add 2 23 k) ∙ mul-assoc 8388608 (2 ^ k) d
+    ∙ ap (λ (x : ℕ). 8388608 * x) (mul-comm (2 ^ k) d) in
+    let e24 : 2 ^ (24 + k) * d ≡ 16777216 * (d * 2 ^ k) = ap (λ (x : ℕ). x * d) (pow-add 2 24 k) ∙ mul-assoc 16777216 (2 ^ k) d
+    ∙ ap (λ (x : ℕ). 16777216 * x) (mul-comm (2 ^ k) d) in
     digits (size (n / d)) k
     (size-le (n / d) (24 + k) (div-lt-iff-lt-mul D .1 (lt-of-lt-of-le hi (le-of-eq (sym e24)))))
     (size-gt (n / d) (23 + k) (le-div-iff-mul-le D .1 (le-trans (le-of-eq e23) lo)))
@@ -117,7 +121,8 @@ cuts-one n d D h =
     )
   where
     low : (0 ≡ lost n d) ⊎ (0 < lost n d) → 8388608 ≤ kept Cut n d
-    low (inl e) = subst (λ (x : ℕ). 8388608 ≤ n / (d * 2 ^ x)) e (le-div-iff-mul-le (mul-pos D (pow-pos 0)) .1 (le-trans (le-of-eq (ap (λ (x : ℕ). 8388608 * x) (mul-one d))) h))
+    low (inl e) = subst (λ (x : ℕ). 8388608 ≤ n / (d * 2 ^ x)) e (le-div-iff-mul-le (mul-pos D (pow-pos 0)) .1
+        (le-trans (le-of-eq (ap (λ (x : ℕ). 8388608 * x) (mul-one d))) h))
     low (inr l) = kept-ge Cut n d l
 
 -- ---- what a program that normalises by leading zeros computes: the magnitude is mag * 2 ^ x, its top bit brought to bit 63 by the shift s
@@ -131,7 +136,8 @@ normed r mag x s k e lo hi =
     let h : mag * 2 ^ s * 2 ^ k < 2 ^ 64 * 2 ^ k = mul-lt-mul-of-pos-right hi K in
     let d : lost (mag * 2 ^ x) 1 ≡ k = lost-is (mag * 2 ^ x) 1 k (le-refl 1) (omega arith) (omega arith) in (
       ap (λ (y : ℕ). whole r (mag * 2 ^ x) (1 * 2 ^ y)) d
-          ∙ whole-same r (mag * 2 ^ x) (1 * 2 ^ k) (mag * 2 ^ s) (2 ^ 40) (mul-pos (le-refl 1) K) (pow-pos 40) (q ∙ ap (λ (y : ℕ). mag * 2 ^ s * y) (sym (one-mul (2 ^ k)))),
+          ∙ whole-same r (mag * 2 ^ x) (1 * 2 ^ k) (mag * 2 ^ s) (2 ^ 40) (mul-pos (le-refl 1) K) (pow-pos 40)
+          (q ∙ ap (λ (y : ℕ). mag * 2 ^ s * y) (sym (one-mul (2 ^ k)))),
       d,
     )
 

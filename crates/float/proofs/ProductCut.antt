@@ -58,7 +58,8 @@ mul-exact b a =
         ap (λ (x : ℕ). x * 2 ^ 24) (mul-mul-mul-comm m (2 ^ i) n (2 ^ j)) ∙ mul-assoc (m * n) (2 ^ i * 2 ^ j) (2 ^ 24)
         ∙ ap (λ (x : ℕ). m * n * x) (ap (λ (x : ℕ). x * 2 ^ 24) (sym (pow-add 2 i j)) ∙ sym (pow-add 2 (i + j) 24))
 
-pub mul-law : (r : Rule) (b a : ℕ) (neg : Bool) (m n i j : ℕ) → neg ≡ unlike (negative b) (negative a) → m ≡ mantissa b → n ≡ mantissa a → i ≡ biased b → j ≡ biased a
+pub mul-law : (r : Rule) (b a : ℕ) (neg : Bool) (m n i j : ℕ) → neg ≡ unlike (negative b) (negative a) → m ≡ mantissa b → n ≡ mantissa a → i ≡ biased b
+    → j ≡ biased a
     → cutSize r neg (m * n * 2 ^ (i + j + 24)) 1 ≡ mul r b a
 unfolding mul
 mul-law r b a neg m n i j s e f g h =
@@ -70,7 +71,8 @@ pub div-zero : (r : Rule) (b a m : ℕ) → m ≡ mantissa a → m ≡ 0 → rec
 unfolding div
 div-zero r b a m e z = rw (eq-eqb (mantissa a) 0 (sym e ∙ z))
 
-pub div-law : (r : Rule) (b a : ℕ) (neg : Bool) (m n i j t : ℕ) → neg ≡ unlike (negative b) (negative a) → m ≡ mantissa b → n ≡ mantissa a → i ≡ biased b → j ≡ biased a
+pub div-law : (r : Rule) (b a : ℕ) (neg : Bool) (m n i j t : ℕ) → neg ≡ unlike (negative b) (negative a) → m ≡ mantissa b → n ≡ mantissa a → i ≡ biased b
+    → j ≡ biased a
     → proper b ≡ true → (n ≡ 0 → ⊥) → Jammed (m * 2 ^ 40 / n) (m * 2 ^ 40 % n) t → cutSize r neg (t * 2 ^ (i + 160 - j)) 1 ≡ div r b a
 unfolding div size88
 div-law r b a neg m n i j t s e f g h pb nz jm =

@@ -3,7 +3,8 @@ use mathlib.Core.Path.{_≡_, refl, sym, ap, _∙_, subst}
 use mathlib.Core.Logic.{_⊎_, inl, inr}
 use mathlib.Core.Bool.{Bool, true, false, cond, _||_}
 use Prim.Native.Nat.{ℕ, _*_, _^_, _≤_, _<_, zero-le}
-use native.Mathlib.Nat.{le-refl, le-trans, le-of-eq, le-of-lt, lt-of-lt-of-le, eq-or-lt-of-le, eq-zero-or-pos, mul-one, one-mul, zero-mul, mul-pos, mul-le-mul-left, mul-le-mul-right, le-div-iff-mul-le, mod-lt}
+use native.Mathlib.Nat.{le-refl, le-trans, le-of-eq, le-of-lt, lt-of-lt-of-le, eq-or-lt-of-le, eq-zero-or-pos, mul-one, one-mul, zero-mul, mul-pos}
+use native.Mathlib.Nat.{mul-le-mul-left, mul-le-mul-right, le-div-iff-mul-le, mod-lt}
 use native.Mathlib.Omega.{arith}
 use borrow.Author.Tests.{le-leb, ltb-true, eqb-false}
 use lib.Dec.{ltb, leb, eqb, lit<, lit≤}
@@ -42,7 +43,8 @@ pub packed-result : (s : Bool) (m k : ℕ) → 8388608 ≤ m → m < 16777216 �
 packed-result s m k a b = record {
   word = record {
     fits = packed-lt s m k b;
-    is-proper = ap (λ (x : ℕ). leb 8388608 x || eqb (packed s m k) 0) (packed-mantissa s m k b) ∙ ap (λ (x : Bool). x || eqb (packed s m k) 0) (le-leb 8388608 m a);
+    is-proper = ap (λ (x : ℕ). leb 8388608 x || eqb (packed s m k) 0) (packed-mantissa s m k b) ∙ ap (λ (x : Bool). x || eqb (packed s m k) 0)
+        (le-leb 8388608 m a);
   };
   small = error-lt k;
 }
@@ -88,7 +90,8 @@ unfolding size88
 size-le w =
     le-trans
     (mul-le-mul-left 8388608
-    (le-trans (mul-le-mul-right (2 ^ biased w) (le-of-lt (mod-lt w (lit< {m = 0} {n = 16777216} tt)))) (mul-le-mul-left 16777216 (pow-mono {i = biased w} {j = 127} (omega arith)))))
+    (le-trans (mul-le-mul-right (2 ^ biased w) (le-of-lt (mod-lt w (lit< {m = 0} {n = 16777216} tt))))
+    (mul-le-mul-left 16777216 (pow-mono {i = biased w} {j = 127} (omega arith)))))
     (lit≤ {m = 8388608 * (16777216 * 2 ^ 127)} {n = 2 ^ 200} tt)
 
 pub div-result : (r : Rule) (b a : ℕ) → FloatWord b → Result (div r b a)

@@ -4,7 +4,8 @@ use mathlib.Core.Path.{_≡_, sym, ap, ap₂, _∙_, subst}
 use mathlib.Core.Logic.{_⊎_, inl, inr}
 use mathlib.Core.Bool.{true, false}
 use Prim.Native.Nat.{ℕ, _+_, _-_, _*_, _/_, _%_, _^_, _≤_, _<_}
-use native.Mathlib.Nat.{le-trans, le-of-eq, le-of-lt, lt-of-lt-of-le, lt-of-le-of-lt, lt-of-not-le, not-le-of-lt, mul-comm, mul-one, mul-le-mul, mul-le-mul-left, mul-mul-mul-comm, mul-lt-mul-of-pos-right, mul-pos, zero-mul}
+use native.Mathlib.Nat.{le-trans, le-of-eq, le-of-lt, lt-of-lt-of-le, lt-of-le-of-lt, lt-of-not-le, not-le-of-lt, mul-comm, mul-one, mul-le-mul}
+use native.Mathlib.Nat.{mul-le-mul-left, mul-mul-mul-comm, mul-lt-mul-of-pos-right, mul-pos, zero-mul}
 use native.Mathlib.Omega.{arith}
 use lib.Pow.{pow-add, pow-pos, pow-mono}
 use Rattle.float.specs.Word.{negative, size88, mantissa, biased, proper}
@@ -47,7 +48,8 @@ root-stands v t p P big (inr w) =
     strict : (n S z : ℕ) → z * z < n → S * S ≡ n → z < S
     strict n S z l e = lt-of-not-le (λ (g : S ≤ z). not-le-of-lt l (le-trans (le-of-eq (sym e)) (mul-le-mul g g)))
 
-    between : (S y n : ℕ) → (y * p) * (y * p) < n → y * p ≤ S → S < (t + 1) * p → t ≡ y + 1 → ((S * S ≡ n) × (rootHalves n ≡ 2 * S)) ⊎ ((S * S < n) × (rootHalves n ≡ 2 * S + 1))
+    between : (S y n : ℕ) → (y * p) * (y * p) < n → y * p ≤ S → S < (t + 1) * p → t ≡ y + 1 → ((S * S ≡ n) × (rootHalves n ≡ 2 * S))
+        ⊎ ((S * S < n) × (rootHalves n ≡ 2 * S + 1))
         → (t * (2 * p) < rootHalves n + 2 * p) × (rootHalves n < t * (2 * p) + 2 * p)
     between S y n lo a b e (inl c) =
         let l = strict n S (y * p) lo (c .0) in
@@ -69,7 +71,8 @@ unfolding sqrt
 root-cut r a e = rw e
 
 pub root-none : (r : Rule) (a : ℕ) → negative a ≡ false → size88 a ≡ 0 → sqrt r a ≡ record { word = 0; error = 0 }
-root-none r a s z = root-cut r a s ∙ cut-zero r false (rootHalves (radicand a)) 2 (halves-square (radicand a) 0 (sym (ap (λ (x : ℕ). x * 2 ^ 312) z ∙ zero-mul (2 ^ 312))))
+root-none r a s z = root-cut r a s ∙ cut-zero r false (rootHalves (radicand a)) 2 (halves-square (radicand a) 0 (sym (ap (λ (x : ℕ). x * 2 ^ 312) z
+    ∙ zero-mul (2 ^ 312))))
 
 pub size-none : (a : ℕ) → mantissa a ≡ 0 → size88 a ≡ 0
 unfolding size88
@@ -83,7 +86,8 @@ pub root-law : (r : Rule) (a m e t v : ℕ) → negative a ≡ false → m ≡ m
 root-law r a m e t v N M E big W j =
     let x = (e + 284 + e % 2) / 2 in
     let same : 16 * v * (2 ^ x * 2 ^ x) ≡ radicand a =
-    ap₂ (λ (y z : ℕ). y * z) (mul-comm 16 v ∙ ap (λ (y : ℕ). y * 2 ^ 4) W) (sym (pow-add 2 x x)) ∙ ap (λ (y : ℕ). y * 2 ^ (x + x)) (moved m (24 - e % 2) 4 0 (28 - e % 2) (omega arith))
+    ap₂ (λ (y z : ℕ). y * z) (mul-comm 16 v ∙ ap (λ (y : ℕ). y * 2 ^ 4) W) (sym (pow-add 2 x x)) ∙ ap (λ (y : ℕ). y * 2 ^ (x + x)) (moved m (24 - e % 2) 4 0
+    (28 - e % 2) (omega arith))
     ∙ ap (λ (y : ℕ). y * 2 ^ (28 - e % 2) * 2 ^ (x + x)) (mul-one m)
     ∙ moved m (28 - e % 2) (x + x) e 312 (omega arith) ∙ ap (λ (y : ℕ). y * 2 ^ 312) value in
     let st : Stands (rootHalves (16 * v * (2 ^ x * 2 ^ x))) (2 * 2 ^ x) t = root-stands (16 * v) t (2 ^ x) (pow-pos x) (trace-large v t big j) j in

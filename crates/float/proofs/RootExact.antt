@@ -1,9 +1,11 @@
--- SQRT gives the one pair of the root and no error, under either rule, keeps the order of words not below zero, and is exact where the root is a word. Assumes nothing.
+-- SQRT gives the one pair of the root and no error, under either rule, keeps the order of words not below zero, and is exact where the root is a word. Assumes
+-- nothing.
 use mathlib.Core.Path.{_≡_, refl, sym, ap, ap₂, _∙_, subst, subst₂}
 use mathlib.Core.Logic.{_⊎_, inl, inr}
 use mathlib.Core.Bool.{Bool, true, false}
 use Prim.Native.Nat.{ℕ, _+_, _-_, _*_, _^_, _≤_, _<_}
-use native.Mathlib.Nat.{le-refl, le-trans, le-of-eq, lt-of-lt-of-le, lt-of-le-of-lt, eq-zero-or-pos, mul-assoc, mul-comm, mul-one, mul-mul-mul-comm, mul-le-mul, mul-le-mul-left, mul-le-mul-right, mul-lt-mul-of-pos-right, le-of-mul-le-mul-right, lt-of-mul-lt-mul-right}
+use native.Mathlib.Nat.{le-refl, le-trans, le-of-eq, lt-of-lt-of-le, lt-of-le-of-lt, eq-zero-or-pos, mul-assoc, mul-comm, mul-one, mul-mul-mul-comm, mul-le-mul}
+use native.Mathlib.Nat.{mul-le-mul-left, mul-le-mul-right, mul-lt-mul-of-pos-right, le-of-mul-le-mul-right, lt-of-mul-lt-mul-right}
 use native.Mathlib.Omega.{arith}
 use borrow.Author.Tests.{lt-ltb}
 use lib.Dec.{lit<, lit≤}
@@ -74,9 +76,11 @@ module _ (n m k j : ℕ) (e : ℤ) (X : e -ℤ pos 24 ≡ subℕ k (j + 44)) whe
   from-exponent : RootPair n m e → RootAt n j m k
   from-exponent p = (
     le-of-mul-le-mul-right (subst₂ (λ (x y : ℕ). x ≤ y) (sides m k) (middle n j)
-        (to-le (m * m * 2 ^ 88) n (k + k) (j + 44 + (j + 44)) (squareExponent e) scale (subst (λ (x : ℕ). x ≤ n * down (squareExponent e)) (split m) (p .reached)))) (pow-pos 88),
+        (to-le (m * m * 2 ^ 88) n (k + k) (j + 44 + (j + 44)) (squareExponent e) scale (subst (λ (x : ℕ). x ≤ n * down (squareExponent e)) (split m)
+        (p .reached)))) (pow-pos 88),
     lt-of-mul-lt-mul-right (2 ^ 88) (subst₂ (λ (x y : ℕ). x < y) (middle n j) (sides (m + 1) k)
-        (to-lt ((m + 1) * (m + 1) * 2 ^ 88) n (k + k) (j + 44 + (j + 44)) (squareExponent e) scale (subst (λ (x : ℕ). n * down (squareExponent e) < x) (split (m + 1)) (p .passed)))),
+        (to-lt ((m + 1) * (m + 1) * 2 ^ 88) n (k + k) (j + 44 + (j + 44)) (squareExponent e) scale (subst (λ (x : ℕ). n * down (squareExponent e) < x)
+        (split (m + 1)) (p .passed)))),
   )
 
 -- the pair of the root is the pair of its whole part
@@ -118,7 +122,8 @@ one-root n m m' e e' p p' =
 root-low : (a : ℕ) → 2 ^ 23 ≤ size88 a → 2 ^ (23 + 144) * 2 ≤ rootHalves (radicand a)
 root-low a h =
     let N = radicand a in
-    let s : 2 ^ 167 ≤ wholeRoot N = root-ge N (wholeRoot N) (2 ^ 167) (is-root N) (le-trans (lit≤ {m = 2 ^ 167 * 2 ^ 167} {n = 2 ^ 23 * 2 ^ 312} tt) (mul-le-mul-right (2 ^ 312) h)) in
+    let s : 2 ^ 167 ≤ wholeRoot N = root-ge N (wholeRoot N) (2 ^ 167) (is-root N) (le-trans (lit≤ {m = 2 ^ 167 * 2 ^ 167} {n = 2 ^ 23 * 2 ^ 312} tt)
+    (mul-le-mul-right (2 ^ 312) h)) in
     let c = halves-near N .0 in
     le-trans (le-of-eq (mul-comm (2 ^ 167) 2)) (le-trans (mul-le-mul-left 2 s) c)
 
@@ -126,7 +131,8 @@ root-most : (a : ℕ) → rootHalves (radicand a) ≤ 16777215 * 2 ^ 208 * 2
 root-most a =
     let N = radicand a in
     let s : wholeRoot N < 16777215 * 2 ^ 208 =
-    root-lt N (wholeRoot N) (16777215 * 2 ^ 208) (is-root N) (lt-of-lt-of-le (mul-lt-mul-of-pos-right (size-lt a) (pow-pos 312)) (lit≤ {m = 2 ^ 151 * 2 ^ 312} {n = 16777215 * 2 ^ 208 * (16777215 * 2 ^ 208)} tt)) in
+    root-lt N (wholeRoot N) (16777215 * 2 ^ 208) (is-root N) (lt-of-lt-of-le (mul-lt-mul-of-pos-right (size-lt a) (pow-pos 312))
+    (lit≤ {m = 2 ^ 151 * 2 ^ 312} {n = 16777215 * 2 ^ 208 * (16777215 * 2 ^ 208)} tt)) in
     let c = halves-near N .1 in
     under (wholeRoot N) (rootHalves N) (16777215 * 2 ^ 208) s c
   where
@@ -143,7 +149,8 @@ halves-pair N m k p =
 
 -- ---- SQRT under either rule: the one pair, no error, e from -32 to 32
 root-pair : (r : Rule) (a : ℕ) → 8388608 * 2 ≤ rootHalves (radicand a) → 2 ≤ digitsOf (kept r (rootHalves (radicand a)) 2) (lost (rootHalves (radicand a)) 2)
-    → RootBy r (size88 a) (mantissaOf (kept r (rootHalves (radicand a)) 2)) (subℕ (digitsOf (kept r (rootHalves (radicand a)) 2) (lost (rootHalves (radicand a)) 2)) 176)
+    → RootBy r (size88 a) (mantissaOf (kept r (rootHalves (radicand a)) 2))
+    (subℕ (digitsOf (kept r (rootHalves (radicand a)) 2) (lost (rootHalves (radicand a)) 2)) 176)
 root-pair Cut a big two =
     let n = rootHalves (radicand a) in
     let c = cuts-one n 2 (lit< tt) big in
@@ -165,7 +172,8 @@ root-pair Nearest a big two =
       high = w .high;
       marks =
           near-at (size88 a) m k 156 (subℕ k 176) (less-difference k 176 24)
-          (subst (λ (x : ℕ). SquareMarks (radicand a) (2 ^ x * 2 ^ x) m) (sym e) (squares-of (radicand a) m (k - 2) (subst (λ (x : ℕ). Marks n (2 * 2 ^ x) m) e (w .marks))));
+          (subst (λ (x : ℕ). SquareMarks (radicand a) (2 ^ x * 2 ^ x) m) (sym e) (squares-of (radicand a) m (k - 2) (subst (λ (x : ℕ). Marks n (2 * 2 ^ x) m) e
+          (w .marks))));
     }
 
 root-is : (r : Rule) (a : ℕ) → negative a ≡ false → 2 ^ 23 ≤ size88 a → RootCutsBy r (size88 a) (sqrt r a)
@@ -223,10 +231,12 @@ root-result r a A = go (negative a) refl (eq-zero-or-pos (size88 a))
     go false s (inl z) = subst (λ (x : Flagged). Result x) (sym (root-none r a s z)) zero-result
     go false s (inr l) =
         subst (λ (x : Flagged). Result x) (sym (root-cut r a s))
-        (cut-result r false (rootHalves (radicand a)) 2 (lit< tt) (inr (le-trans (lit≤ {m = 8388608 * 2} {n = 2 ^ (23 + 144) * 2} tt) (root-low a (size-ge a (A .is-proper) l)))))
+        (cut-result r false (rootHalves (radicand a)) 2 (lit< tt) (inr (le-trans (lit≤ {m = 8388608 * 2} {n = 2 ^ (23 + 144) * 2} tt)
+        (root-low a (size-ge a (A .is-proper) l)))))
 
 -- ---- the order of two words not below zero
-pub root-keeps : (r : Rule) (a b : ℕ) → proper a ≡ true → proper b ≡ true → negative a ≡ false → negative b ≡ false → Le a b → Le ((sqrt r a) .word) ((sqrt r b) .word)
+pub root-keeps : (r : Rule) (a b : ℕ) → proper a ≡ true → proper b ≡ true → negative a ≡ false → negative b ≡ false → Le a b
+    → Le ((sqrt r a) .word) ((sqrt r b) .word)
 root-keeps r a b A B s t h =
     let c = root-cut r a s in
     let d = root-cut r b t in
@@ -248,7 +258,8 @@ root-keeps r a b A B s t h =
     sizes = let z = le-signed false false (size88 a) (size88 b) signed in omega arith
 
 -- ---- a root that is a word is found exactly
-pub root-exact : (r : Rule) (a b : ℕ) → negative a ≡ false → negative b ≡ false → FloatWord b → size88 b * size88 b ≡ size88 a * 2 ^ 88 → sqrt r a ≡ record { word = b; error = 0 }
+pub root-exact : (r : Rule) (a b : ℕ) → negative a ≡ false → negative b ≡ false → FloatWord b → size88 b * size88 b ≡ size88 a * 2 ^ 88 → sqrt r
+    a ≡ record { word = b; error = 0 }
 root-exact r a b s t B e =
     let x = size88 b * 2 ^ 112 in
     root-cut r a s

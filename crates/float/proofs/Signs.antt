@@ -50,7 +50,8 @@ signed-le s t i j h =
 pub le-signed : (s t : Bool) (i j : ℕ) → withSign s i ≤ℤ withSign t j → cond s 0 i + cond t j 0 ≤ cond t 0 j + cond s i 0
 le-signed s t i j h =
     let l = le-parts (withSign s i) (withSign t j) h in
-    subst₂ (λ (x y : ℕ). x ≤ y) (ap₂ (λ (x y : ℕ). x + y) (above-signed s i) (beneath-signed t j)) (ap₂ (λ (x y : ℕ). x + y) (above-signed t j) (beneath-signed s i)) l
+    subst₂ (λ (x y : ℕ). x ≤ y) (ap₂ (λ (x y : ℕ). x + y) (above-signed s i) (beneath-signed t j)) (ap₂ (λ (x y : ℕ). x + y) (above-signed t j)
+    (beneath-signed s i)) l
 
 -- ---- the cut of a sign and a magnitude
 pub cut-sign : (r : Rule) (s : Bool) (n d : ℕ) → cut r (withSign s n) d ≡ cutSize r s (n * 2 ^ 200) d

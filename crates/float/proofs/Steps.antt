@@ -1,10 +1,12 @@
 -- Each operation gives exactly the cut of the exact value, under either rule, and one step of 128 is enough: the exponents that it can reach lie
--- between the bounds that stand with it, which rounding does not move, since what is at most 2 ^ 24 - 1 steps of a place is brought to no more. Assumes nothing.
+-- between the bounds that stand with it, which rounding does not move, since what is at most 2 ^ 24 - 1 steps of a place is brought to no more. Assumes
+-- nothing.
 use mathlib.Core.Path.{_≡_, refl, sym, ap, _∙_, subst, subst₂}
 use mathlib.Core.Logic.{_⊎_, inl, inr, ⊎-elim}
 use mathlib.Core.Bool.{Bool, true, false, not, cond}
 use Prim.Native.Nat.{ℕ, _+_, _-_, _*_, _/_, _%_, _^_, _≤_, _<_}
-use native.Mathlib.Nat.{le-refl, le-trans, le-of-eq, le-of-lt, lt-of-lt-of-le, lt-of-le-of-lt, eq-zero-or-pos, mul-one, one-mul, zero-mul, mul-zero, mul-pos, mul-le-mul, mul-le-mul-left, mul-le-mul-right, mul-lt-mul-of-pos-right, le-div-iff-mul-le, mod-lt}
+use native.Mathlib.Nat.{le-refl, le-trans, le-of-eq, le-of-lt, lt-of-lt-of-le, lt-of-le-of-lt, eq-zero-or-pos, mul-one, one-mul, zero-mul, mul-zero, mul-pos}
+use native.Mathlib.Nat.{mul-le-mul, mul-le-mul-left, mul-le-mul-right, mul-lt-mul-of-pos-right, le-div-iff-mul-le, mod-lt}
 use native.Mathlib.Omega.{arith}
 use borrow.Author.Tests.{lt-ltb, eq-eqb}
 use lib.Dec.{lit<, lit≤}
@@ -13,7 +15,8 @@ use lib.Signed.{_≤ℤ_}
 use lib.Ieee.{size, unlike}
 use lib.Pow.{pow-add, pow-pos, pow-mono}
 use Rattle.whole.specs.Signed.{withSign}
-use Rattle.whole.proofs.Differences.{either, same, above, beneath, parts, le-parts, le-differences, differences-le, less-difference, more-difference, size-difference}
+use Rattle.whole.proofs.Differences.{either, same, above, beneath, parts, le-parts, le-differences, differences-le, less-difference, more-difference}
+use Rattle.whole.proofs.Differences.{size-difference}
 use Rattle.whole.proofs.Signs.{sum-signs, opposite, times, size-of-signed}
 use Rattle.float.specs.declared.Flagged.{Flagged}
 use Rattle.float.specs.Word.{negative, biased, exponent, mantissa, size88, value, proper}
@@ -45,11 +48,17 @@ steps s m k M K = record {
       let h = differences-le k 176 239 176 b in
       (error-in k (omega arith) (omega arith), stored-exponent s m k (k - 112) M (omega arith) ∙ same (k - 112) 64 k 176 (omega arith));
   over = λ a.
-      let l = differences-le 240 176 k 176 a in
-      (error-over k (omega arith), stored-exponent s m k (k - 240) M (omega arith) ∙ same (k - 240) 64 k (176 + 128) (omega arith) ∙ sym (less-difference k 176 128));
+      let l = differences-le 240 176 k 176 a in (
+        error-over k (omega arith),
+        stored-exponent s m k (k - 240) M (omega arith) ∙ same (k - 240) 64 k (176 + 128) (omega arith)
+            ∙ sym (less-difference k 176 128),
+      );
   under = λ a.
-      let l = differences-le k 176 111 176 a in
-      (error-under k (omega arith), stored-exponent s m k (k + 16) M (omega arith) ∙ same (k + 16) 64 (k + 128) 176 (omega arith) ∙ sym (more-difference k 176 128));
+      let l = differences-le k 176 111 176 a in (
+        error-under k (omega arith),
+        stored-exponent s m k (k + 16) M (omega arith) ∙ same (k + 16) 64 (k + 128) 176 (omega arith)
+            ∙ sym (more-difference k 176 128),
+      );
 }
 
 -- ---- the digits that are lost, between two bounds
@@ -65,7 +74,8 @@ place-most r n d j D h l =
     let q = kept r n d in
     let K = digitsOf q (lost n d) in
     let g : grid r n d ≤ grid r (16777215 * 2 ^ j) 1 = grid-mono r n d (16777215 * 2 ^ j) 1 D (le-refl 1) (le-trans (le-of-eq (mul-one n)) l) in
-    let f : grid r (16777215 * 2 ^ j) 1 ≡ 16777215 * 2 ^ j = fits-exact r (16777215 * 2 ^ j) 1 16777215 j (le-refl 1) (lit< tt) (sym (mul-one (16777215 * 2 ^ j))) in
+    let f : grid r (16777215 * 2 ^ j) 1 ≡ 16777215 * 2 ^ j = fits-exact r (16777215 * 2 ^ j) 1 16777215 j (le-refl 1)
+    (lit< tt) (sym (mul-one (16777215 * 2 ^ j))) in
     let s = settled q (lost n d) (kept-le r n d) .0 in
     let m = mantissa-big q (kept-big r n d D h) (kept-le r n d) .0 in
     below j K (le-trans (mul-le-mul-right (2 ^ K) m) (le-trans (le-of-eq s) (le-trans g (le-of-eq f))))
@@ -95,7 +105,8 @@ cut-pair Nearest n d e D h X =
     from-near n d (mantissaOf (kept Nearest N d)) (digitsOf (kept Nearest N d) (lost N d)) 200 e X (near-one N d D h)
 
 -- an exact value z / d of from 2 ^ 23 steps of 2 ^ i to 2 ^ 24 - 1 steps of 2 ^ j fine units
-pub exactly : (r : Rule) (z : ℤ) (d i j : ℕ) → 0 < d → j < 368 → (0 < natAbs z → (2 ^ (23 + i) * d ≤ natAbs z * 2 ^ 200) × (natAbs z * 2 ^ 200 ≤ 16777215 * 2 ^ j * d))
+pub exactly : (r : Rule) (z : ℤ) (d i j : ℕ) → 0 < d → j < 368 → (0 < natAbs z → (2 ^ (23 + i) * d ≤ natAbs z * 2 ^ 200)
+    × (natAbs z * 2 ^ 200 ≤ 16777215 * 2 ^ j * d))
     → ExactlyBy r z d (subℕ i 176) (subℕ j 176) (cut r z d)
 exactly r z d i j D J h = go (eq-zero-or-pos (natAbs z))
   where
@@ -156,7 +167,8 @@ size-ge w p h = go (proper-norm w p)
 pub size-most : (w : ℕ) → size88 w ≤ 16777215 * 2 ^ 127
 unfolding size88
 size-most w =
-    le-trans (mul-le-mul-right (2 ^ biased w) (less (mod-lt w (lit< {m = 0} {n = 16777216} tt)))) (mul-le-mul-left 16777215 (pow-mono {i = biased w} {j = 127} (omega arith)))
+    le-trans (mul-le-mul-right (2 ^ biased w) (less (mod-lt w (lit< {m = 0} {n = 16777216} tt))))
+    (mul-le-mul-left 16777215 (pow-mono {i = biased w} {j = 127} (omega arith)))
   where
     less : mantissa w < 16777216 → mantissa w ≤ 16777215
     less h = omega arith
@@ -212,20 +224,25 @@ mul-exactly r b a B A =
     let q = factor-pos (size88 b) (size88 a) (subst (λ (x : ℕ). 0 < x) magnitude p) in
     subst (λ (x : ℕ). (2 ^ 70 * 2 ^ 176 ≤ x * 2 ^ 200) × (x * 2 ^ 200 ≤ 16777215 * 2 ^ 302 * 2 ^ 176)) (sym magnitude) (
       le-trans (le-of-eq (sym (pow-add 2 46 200))) (mul-le-mul-right (2 ^ 200) (mul-le-mul (size-ge b B (q .0)) (size-ge a A (q .1)))),
-      le-trans (mul-le-mul-right (2 ^ 200) (mul-le-mul (size-most b) (size-most a))) (lit≤ {m = 16777215 * 2 ^ 127 * (16777215 * 2 ^ 127) * 2 ^ 200} {n = 16777215 * 2 ^ 302 * 2 ^ 176} tt),
+      le-trans (mul-le-mul-right (2 ^ 200) (mul-le-mul (size-most b) (size-most a))) (lit≤ {m = 16777215 * 2 ^ 127 * (16777215 * 2 ^ 127) * 2 ^ 200}
+          {n = 16777215 * 2 ^ 302 * 2 ^ 176} tt),
     ))
   where
     magnitude : natAbs (exactProduct b a) ≡ size88 b * size88 a
-    magnitude = unfold value in ap natAbs (times (negative b) (negative a) (size88 b) (size88 a)) ∙ size-of-signed (unlike (negative b) (negative a)) (size88 b * size88 a)
+    magnitude = unfold value in ap natAbs (times (negative b) (negative a) (size88 b) (size88 a)) ∙ size-of-signed (unlike (negative b) (negative a))
+        (size88 b * size88 a)
 
 -- ---- quotients: above 2 ^ -128 and below 2 ^ 128
-pub div-exactly : (r : Rule) (b a : ℕ) → proper b ≡ true → proper a ≡ true → (mantissa a ≡ 0 → ⊥) → ExactlyBy r (dividend b a) (divisor a) (negℤ (pos 127)) (pos 128) (div r b a)
+pub div-exactly : (r : Rule) (b a : ℕ) → proper b ≡ true → proper a ≡ true → (mantissa a ≡ 0 → ⊥) → ExactlyBy r (dividend b a) (divisor a) (negℤ (pos 127))
+    (pos 128) (div r b a)
 div-exactly r b a B A nz =
     subst (λ (x : Flagged). ExactlyBy r (dividend b a) (divisor a) (negℤ (pos 127)) (pos 128) x) (sym (div-cut r b a nz))
     (exactly r (dividend b a) (divisor a) 49 304 S (lit< tt) (λ p.
     subst (λ (x : ℕ). (2 ^ 72 * size88 a ≤ x * 2 ^ 200) × (x * 2 ^ 200 ≤ 16777215 * 2 ^ 304 * size88 a)) (sym magnitude) (
-      le-trans (mul-le-mul-left (2 ^ 72) (le-of-lt (size-lt a))) (le-trans (le-of-eq refl) (mul-le-mul-right (2 ^ 200) (size-ge b B (subst (λ (x : ℕ). 0 < x) magnitude p)))),
-      le-trans (mul-le-mul-right (2 ^ 200) (size-most b)) (le-trans (lit≤ {m = 16777215 * 2 ^ 127 * 2 ^ 200} {n = 16777215 * 2 ^ 304 * 2 ^ 23} tt) (mul-le-mul-left (16777215 * 2 ^ 304) (size-ge a A S))),
+      le-trans (mul-le-mul-left (2 ^ 72) (le-of-lt (size-lt a)))
+          (le-trans (le-of-eq refl) (mul-le-mul-right (2 ^ 200) (size-ge b B (subst (λ (x : ℕ). 0 < x) magnitude p)))),
+      le-trans (mul-le-mul-right (2 ^ 200) (size-most b)) (le-trans (lit≤ {m = 16777215 * 2 ^ 127 * 2 ^ 200} {n = 16777215 * 2 ^ 304 * 2 ^ 23} tt)
+          (mul-le-mul-left (16777215 * 2 ^ 304) (size-ge a A S))),
     )))
   where
     S : 0 < size88 a

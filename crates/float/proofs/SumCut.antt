@@ -78,7 +78,8 @@ alike false true p = sym p
 alike false false p = refl
 
 -- the two addends in the other order
-pub swapped : (r : Rule) (p q : Bool) (x y : ℕ) → cut r (withSign p (addendSize x) +ℤ withSign q (addendSize y)) (2 ^ 88) ≡ cut r (withSign q (addendSize y) +ℤ withSign p (addendSize x)) (2 ^ 88)
+pub swapped : (r : Rule) (p q : Bool) (x y : ℕ) → cut r (withSign p (addendSize x) +ℤ withSign q (addendSize y)) (2 ^ 88) ≡ cut r
+    (withSign q (addendSize y) +ℤ withSign p (addendSize x)) (2 ^ 88)
 swapped r p q x y = ap (λ (z : ℤ). cut r z (2 ^ 88)) (+ℤ-comm (withSign p (addendSize x)) (withSign q (addendSize y)))
 
 module _ (r : Rule) (p q : Bool) (hi lo m n t : ℕ) (H : Addend hi) (o : lo ≤ hi) (M : m ≡ mantissa hi) (N : n ≡ mantissa lo)
@@ -109,7 +110,8 @@ module _ (r : Rule) (p q : Bool) (hi lo m n t : ℕ) (H : Addend hi) (o : lo ≤
 
       lower : (d : ℕ) → 0 < d → 8388608 ≤ m → Jammed (n * 2 ^ 39 / 2 ^ d) (n * 2 ^ 39 % 2 ^ d) t → t ≤ m * 2 ^ 39
       lower d h g k =
-          let a : n * 2 ^ 39 / 2 ^ d * 2 ≤ n * 2 ^ 39 = le-trans (mul-le-mul-left (n * 2 ^ 39 / 2 ^ d) (pow-mono {i = 1} {j = d} h)) (div-mul-le-self (n * 2 ^ 39) (2 ^ d)) in
+          let a : n * 2 ^ 39 / 2 ^ d * 2 ≤ n * 2 ^ 39 = le-trans (mul-le-mul-left (n * 2 ^ 39 / 2 ^ d) (pow-mono {i = 1} {j = d} h))
+          (div-mul-le-self (n * 2 ^ 39) (2 ^ d)) in
           let b = jammed-le (n * 2 ^ 39 / 2 ^ d) _ t k in
           let f = few in
           omega arith
@@ -131,7 +133,8 @@ module _ (r : Rule) (p q : Bool) (hi lo m n t : ℕ) (H : Addend hi) (o : lo ≤
   both : withSign p (addendSize hi) +ℤ withSign q (addendSize lo) ≡ withSign p (m * 2 ^ (hi / 2 ^ 24)) +ℤ withSign q (n * 2 ^ (lo / 2 ^ 24))
   both = ap₂ (λ (x y : ℕ). withSign p x +ℤ withSign q y) sized sized'
 
-  pub same-sign : unlike p q ≡ false → cutSize r p ((m * 2 ^ 39 + t) * 2 ^ (hi / 2 ^ 24 + 73)) 1 ≡ cut r (withSign p (addendSize hi) +ℤ withSign q (addendSize lo)) (2 ^ 88)
+  pub same-sign : unlike p q ≡ false → cutSize r p ((m * 2 ^ 39 + t) * 2 ^ (hi / 2 ^ 24 + 73)) 1 ≡ cut r (withSign p (addendSize hi) +ℤ withSign q
+      (addendSize lo)) (2 ^ 88)
   same-sign e =
       let x = m * 2 ^ (hi / 2 ^ 24) in
       let y = n * 2 ^ (lo / 2 ^ 24) in
@@ -140,7 +143,8 @@ module _ (r : Rule) (p q : Bool) (hi lo m n t : ℕ) (H : Addend hi) (o : lo ≤
       ∙ sym (cut-scaled r p (x + y) 88 112 refl)
       ∙ ap (λ (z : ℤ). cut r z (2 ^ 88)) (sym (sum-alike p x y) ∙ ap (λ (s : Bool). withSign p x +ℤ withSign s y) (alike p q e) ∙ sym both)
 
-  pub unlike-sign : unlike p q ≡ true → cutSize r p ((m * 2 ^ 39 - t) * 2 ^ (hi / 2 ^ 24 + 73)) 1 ≡ cut r (withSign p (addendSize hi) +ℤ withSign q (addendSize lo)) (2 ^ 88)
+  pub unlike-sign : unlike p q ≡ true → cutSize r p ((m * 2 ^ 39 - t) * 2 ^ (hi / 2 ^ 24 + 73)) 1 ≡ cut r (withSign p (addendSize hi) +ℤ withSign q
+      (addendSize lo)) (2 ^ 88)
   unlike-sign e =
       let x = m * 2 ^ (hi / 2 ^ 24) in
       let y = n * 2 ^ (lo / 2 ^ 24) in

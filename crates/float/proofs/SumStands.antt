@@ -4,7 +4,8 @@ use mathlib.Core.Path.{_≡_, sym, ap, ap₂, _∙_, subst, subst₂}
 use mathlib.Core.Logic.{_⊎_, inl, inr}
 use mathlib.Core.Bool.{Bool, true, false, not}
 use Prim.Native.Nat.{ℕ, _+_, _-_, _*_, _/_, _%_, _^_, _≤_, _<_}
-use native.Mathlib.Nat.{le-trans, le-of-eq, mul-assoc, one-mul, mul-le-mul-left, mul-le-mul-right, div-mul-le-self, mul-mod-left, mod-lt, div-add-mod', add-zero}
+use native.Mathlib.Nat.{le-trans, le-of-eq, mul-assoc, one-mul, mul-le-mul-left, mul-le-mul-right, div-mul-le-self, mul-mod-left, mod-lt, div-add-mod'}
+use native.Mathlib.Nat.{add-zero}
 use native.Mathlib.Omega.{arith}
 use lib.Dec.{T, ltb, ltb→lt, nltb→le}
 use lib.Pow.{pow-add, pow-pos, pow-mono}
@@ -26,7 +27,8 @@ few-left n d h v = go (ltb d 40) (ltb→lt d 40) (nltb→le d 40)
         let e : n * 2 ^ 39 % 2 ^ d ≡ 0 = ap (λ (z : ℕ). z % 2 ^ d) (parted n 39 (39 - d) d (omega arith)) ∙ mul-mod-left (n * 2 ^ (39 - d)) (2 ^ d) in
         absurd (omega arith)
     go false f g =
-        let a : n * 2 ^ 39 / 2 ^ d * 2 ^ 40 ≤ n * 2 ^ 39 = le-trans (mul-le-mul-left (n * 2 ^ 39 / 2 ^ d) (pow-mono (g tt))) (div-mul-le-self (n * 2 ^ 39) (2 ^ d)) in
+        let a : n * 2 ^ 39 / 2 ^ d * 2 ^ 40 ≤ n * 2 ^ 39 = le-trans (mul-le-mul-left (n * 2 ^ 39 / 2 ^ d) (pow-mono (g tt)))
+        (div-mul-le-self (n * 2 ^ 39) (2 ^ d)) in
         (g tt, omega arith)
 
 module _ (m n i j t : ℕ) (M : Normal m i) (n24 : n < 16777216) (le : j ≤ i) (J : Jammed (n * 2 ^ 39 / 2 ^ (i - j)) (n * 2 ^ 39 % 2 ^ (i - j)) t) where
@@ -63,7 +65,8 @@ module _ (m n i j t : ℕ) (M : Normal m i) (n24 : n < 16777216) (le : j ≤ i) 
       go (inl w) =
           let e : n * 2 ^ 39 ≡ t * 2 ^ (i - j) =
           sym (div-add-mod' (n * 2 ^ 39) (2 ^ (i - j))) ∙ ap₂ (λ (x y : ℕ). x * 2 ^ (i - j) + y) (sym (w .1)) (w .0) ∙ add-zero (t * 2 ^ (i - j)) in
-          inl (sym (moved n 39 (j + 73) j 112 (omega arith)) ∙ ap (λ (x : ℕ). x * 2 ^ (j + 73)) e ∙ mul-assoc t (2 ^ (i - j)) (2 ^ (j + 73)) ∙ ap (λ (x : ℕ). t * x) unit)
+          inl (sym (moved n 39 (j + 73) j 112 (omega arith)) ∙ ap (λ (x : ℕ). x * 2 ^ (j + 73)) e ∙ mul-assoc t (2 ^ (i - j)) (2 ^ (j + 73))
+          ∙ ap (λ (x : ℕ). t * x) unit)
       go (inr w) =
           let l = few-left n (i - j) n24 (w .0) in
           let l0 = l .0 in
@@ -99,7 +102,8 @@ module _ (m n i j t : ℕ) (M : Normal m i) (n24 : n < 16777216) (le : j ≤ i) 
           → (n * 2 ^ j ≤ m * 2 ^ i) × Stands ((m * 2 ^ i - n * 2 ^ j) * 2 ^ 112) (1 * 2 ^ (i + 73)) (m * 2 ^ 39 - t)
       go (inl e) = (
         order (le-trans (le-of-eq e) (le-trans (mul-le-mul-right (2 ^ (i + 73)) l) (le-of-eq greater))),
-        inl (parts ∙ ap (λ (x : ℕ). m * 2 ^ 39 * 2 ^ (i + 73) - x) e ∙ sym (sub-mul (m * 2 ^ 39) t (2 ^ (i + 73))) ∙ ap (λ (x : ℕ). (m * 2 ^ 39 - t) * x) (sym (one-mul (2 ^ (i + 73))))),
+        inl (parts ∙ ap (λ (x : ℕ). m * 2 ^ 39 * 2 ^ (i + 73) - x) e ∙ sym (sub-mul (m * 2 ^ 39) t (2 ^ (i + 73))) ∙ ap (λ (x : ℕ). (m * 2 ^ 39 - t) * x)
+            (sym (one-mul (2 ^ (i + 73))))),
       )
       go (inr w) =
           let big = w .0 in

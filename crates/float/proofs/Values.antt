@@ -84,7 +84,8 @@ settled q k h = go (ltb q 16777216) (ltb-true q 16777216) (ltb-false q 16777216)
     double : (y : ℕ) → 16777216 * y ≡ 8388608 * (y * 2)
     double y = omega arith
 
-    go : (b : Bool) → (b ≡ true → q < 16777216) → (b ≡ false → 16777216 ≤ q) → (cond b q 8388608 * 2 ^ cond b k (k + 1) ≡ q * 2 ^ k) × (cond b q 8388608 < 16777216)
+    go : (b : Bool) → (b ≡ true → q < 16777216) → (b ≡ false → 16777216 ≤ q) → (cond b q 8388608 * 2 ^ cond b k (k + 1) ≡ q * 2 ^ k)
+        × (cond b q 8388608 < 16777216)
     go true f g = (refl, f refl)
     go false f g =
         let l = g refl in
@@ -124,7 +125,8 @@ module _ (r : Rule) (mag x s : ℕ) (place : 24 ≤ x) (few : s < 64) (lo : 2 ^ 
   pub top-le : (q : ℕ) → q ≡ whole r (mag * 2 ^ s % 2 ^ 64) (2 ^ 40) → q ≤ 16777216
   top-le q e = subst (λ (y : ℕ). y ≤ 16777216) (sym (e ∙ top-is)) (kept-le r (mag * 2 ^ x) 1)
 
-  pub top-cut : (neg : Bool) (q : ℕ) → (mag ≡ 0 → ⊥) → q ≡ whole r (mag * 2 ^ s % 2 ^ 64) (2 ^ 40) → stored neg (mantissaOf q) (digitsOf q (x + 40 - s)) ≡ cutSize r neg (mag * 2 ^ x) 1
+  pub top-cut : (neg : Bool) (q : ℕ) → (mag ≡ 0 → ⊥) → q ≡ whole r (mag * 2 ^ s % 2 ^ 64) (2 ^ 40) → stored neg (mantissaOf q)
+      (digitsOf q (x + 40 - s)) ≡ cutSize r neg (mag * 2 ^ x) 1
   top-cut neg q nz e =
       ap₂ (λ (y k : ℕ). stored neg (mantissaOf y) (digitsOf y k)) (e ∙ top-is) (sym (top .1))
       ∙ sym (cut-stored r neg (mag * 2 ^ x) 1 (mul-pos (pos-of-ne-zero nz) (pow-pos x)))
@@ -150,7 +152,8 @@ cut-value r s n d D e = go (eq-zero-or-pos n)
     none = unfold size88 in refl
 
     go : (n ≡ 0) ⊎ (0 < n)
-        → (withSign (negative ((cutSize r s n d) .word)) (size88 ((cutSize r s n d) .word)) ≡ withSign s (size88 ((cutSize r s n d) .word))) × (size88 ((cutSize r s n d) .word) * 2 ^ 112 ≡ grid r n d)
+        → (withSign (negative ((cutSize r s n d) .word)) (size88 ((cutSize r s n d) .word)) ≡ withSign s (size88 ((cutSize r s n d) .word)))
+        × (size88 ((cutSize r s n d) .word) * 2 ^ 112 ≡ grid r n d)
     go (inl z) =
         let w : (cutSize r s n d) .word ≡ 0 = ap (λ (x : Flagged). x .word) (cut-zero r s n d z) in
         (rw w (nothing s), rw w (none ∙ sym (ap (λ (x : ℕ). grid r x d) z ∙ grid-zero r d D)))

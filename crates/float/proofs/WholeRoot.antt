@@ -72,7 +72,8 @@ halves-square n a e =
     twice x f = omega arith
 
 -- the halves of a root s: 2 * s where it is whole, else one more
-pub halves-cases : (n : ℕ) → ((wholeRoot n * wholeRoot n ≡ n) × (rootHalves n ≡ 2 * wholeRoot n)) ⊎ ((wholeRoot n * wholeRoot n < n) × (rootHalves n ≡ 2 * wholeRoot n + 1))
+pub halves-cases : (n : ℕ) → ((wholeRoot n * wholeRoot n ≡ n) × (rootHalves n ≡ 2 * wholeRoot n))
+    ⊎ ((wholeRoot n * wholeRoot n < n) × (rootHalves n ≡ 2 * wholeRoot n + 1))
 unfolding rootHalves
 halves-cases n = go (eqb (wholeRoot n * wholeRoot n) n) (eqb-true (wholeRoot n * wholeRoot n) n) (eqb-false (wholeRoot n * wholeRoot n) n)
   where
@@ -87,7 +88,8 @@ halves-cases n = go (eqb (wholeRoot n * wholeRoot n) n) (eqb-true (wholeRoot n *
     none x = omega arith
 
     go : (t : Bool) → (t ≡ true → wholeRoot n * wholeRoot n ≡ n) → (t ≡ false → wholeRoot n * wholeRoot n ≡ n → ⊥)
-        → ((wholeRoot n * wholeRoot n ≡ n) × (2 * wholeRoot n + cond t 0 1 ≡ 2 * wholeRoot n)) ⊎ ((wholeRoot n * wholeRoot n < n) × (2 * wholeRoot n + cond t 0 1 ≡ 2 * wholeRoot n + 1))
+        → ((wholeRoot n * wholeRoot n ≡ n) × (2 * wholeRoot n + cond t 0 1 ≡ 2 * wholeRoot n))
+        ⊎ ((wholeRoot n * wholeRoot n < n) × (2 * wholeRoot n + cond t 0 1 ≡ 2 * wholeRoot n + 1))
     go true f g = inl (f refl, none (wholeRoot n))
     go false f g = inr (less (wholeRoot n * wholeRoot n) (is-root n .0) (g refl), refl)
 
@@ -113,7 +115,8 @@ halves-mono n n' h = go (eq-or-lt-of-le (root-ge n' (wholeRoot n') (wholeRoot n)
     level e = both (halves-cases n) (halves-cases n')
       where
         both : ((wholeRoot n * wholeRoot n ≡ n) × (rootHalves n ≡ 2 * wholeRoot n)) ⊎ ((wholeRoot n * wholeRoot n < n) × (rootHalves n ≡ 2 * wholeRoot n + 1))
-            → ((wholeRoot n' * wholeRoot n' ≡ n') × (rootHalves n' ≡ 2 * wholeRoot n')) ⊎ ((wholeRoot n' * wholeRoot n' < n') × (rootHalves n' ≡ 2 * wholeRoot n' + 1))
+            → ((wholeRoot n' * wholeRoot n' ≡ n') × (rootHalves n' ≡ 2 * wholeRoot n'))
+            ⊎ ((wholeRoot n' * wholeRoot n' < n') × (rootHalves n' ≡ 2 * wholeRoot n' + 1))
             → rootHalves n ≤ rootHalves n'
         both (inl a) b = let x = a .1 in let y = near' .0 in omega arith
         both (inr a) (inr b) = let x = a .1 in let y = b .1 in omega arith

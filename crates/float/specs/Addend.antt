@@ -1,4 +1,5 @@
--- One addend of a sum, as the program holds it and not as 01 does: one number, the exponent plus 64 above the 24 bits of the mantissa. Definitions only. Assumes nothing.
+-- One addend of a sum, as the program holds it and not as 01 does: one number, the exponent plus 64 above the 24 bits of the mantissa. Definitions only.
+-- Assumes nothing.
 use mathlib.Core.Path.{_≡_}
 use mathlib.Core.Logic.{_⊎_}
 use Prim.Native.Nat.{ℕ, _*_, _/_, _%_, _^_, _≤_, _<_}

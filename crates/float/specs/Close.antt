@@ -15,7 +15,8 @@ pub record Close (b a : ℕ) : Type 0 where
   pub b-within : size88 b ≤ 2 * size88 a
   pub a-within : size88 a ≤ 2 * size88 b
 
--- r is the exact value z, times 2 ^ 88, "where no error bit is set"; "where underflow is set it is exact after taking 128 from the exponent", so the word as it stands is 2 ^ 128
+-- r is the exact value z, times 2 ^ 88, "where no error bit is set"; "where underflow is set it is exact after taking 128 from the exponent", so the word as it
+-- stands is 2 ^ 128
 -- times z; no other error is set
 pub record Lossless (z : ℤ) (r : Flagged) : Type 0 where
   pub exact : r .error ≡ 0 → value (r .word) ≡ z

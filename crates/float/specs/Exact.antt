@@ -1,4 +1,5 @@
--- What 01 and request 9 say of a result, by comparing products: the pair m, e of an exact value under a rule, the step of 128, and the whole part. Definitions only. Assumes nothing.
+-- What 01 and request 9 say of a result, by comparing products: the pair m, e of an exact value under a rule, the step of 128, and the whole part. Definitions
+-- only. Assumes nothing.
 use mathlib.Core.Path.{_≡_}
 use mathlib.Core.Logic.{_⊎_}
 use Prim.Native.Nat.{ℕ, _+_, _*_, _^_, _≤_, _<_}

@@ -47,4 +47,5 @@ apart x y = (x - y) + (y - x)
 abbrev pub NoNearer : ℕ → ℕ → ℕ → ℤ → Type 0
 NoNearer n d m e =
     (m' : ℕ) (e' : ℤ) → 2 ^ 23 ≤ m' → m' < 2 ^ 24
-    → apart (n * down (e -ℤ pos 24)) (m * (d * up (e -ℤ pos 24))) * down (e' -ℤ pos 24) ≤ apart (n * down (e' -ℤ pos 24)) (m' * (d * up (e' -ℤ pos 24))) * down (e -ℤ pos 24)
+    → apart (n * down (e -ℤ pos 24)) (m * (d * up (e -ℤ pos 24))) * down (e' -ℤ pos 24) ≤ apart (n * down (e' -ℤ pos 24)) (m' * (d * up (e' -ℤ pos 24)))
+    * down (e -ℤ pos 24)

@@ -57,7 +57,8 @@ pub record RootCutsBy (rule : Rule) (n : ℕ) (r : Flagged) : Type 0 where
 -- what the documents want of SQRT under a rule: zero for zero, A and the error of a negative root for a negative word, else the root
 abbrev pub ExactlyRootBy : Rule → ℕ → Flagged → Type 0
 ExactlyRootBy rule a r =
-    ((size88 a ≡ 0) × (r ≡ zeroWord)) ⊎ ((negative a ≡ true) × (r ≡ record { word = a; error = negativeRoot })) ⊎ ((negative a ≡ false) × RootCutsBy rule (size88 a) r)
+    ((size88 a ≡ 0) × (r ≡ zeroWord)) ⊎ ((negative a ≡ true) × (r ≡ record { word = a; error = negativeRoot }))
+    ⊎ ((negative a ≡ false) × RootCutsBy rule (size88 a) r)
 
 -- what request 1 wants, under 01's cut
 abbrev pub ExactlyRoot : ℕ → Flagged → Type 0

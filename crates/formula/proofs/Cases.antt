@@ -8,7 +8,8 @@ use borrow.Author.Tests.{eqb-true}
 use lib.Dec.{eqb}
 use lib.ListN.{length}
 use Rattle.formula.specs.Formula.{Operator, Formula, Minus, Joined}
-use Rattle.formula.specs.Reader.{Read, Found, Outside, Reader, then, leafOf, Sign, Joins, Ends, more, joinedBy, sumOf, closed, Start, AMinus, ABracket, ALeaf, startAt, factorOf}
+use Rattle.formula.specs.Reader.{Read, Found, Outside, Reader, then, leafOf, Sign, Joins, Ends, more, joinedBy, sumOf, closed, Start, AMinus, ABracket}
+use Rattle.formula.specs.Reader.{ALeaf, startAt, factorOf}
 
 pub never : {A : Type 0} {f : Formula} {s : List ℕ} → Outside ≡ Found f s → A
 never e = let z : _≡_ {A = ℕ} 0 1 = cc in absurd (omega arith)
@@ -39,7 +40,8 @@ module _ (sign : ℕ → Sign) (operand : Reader) (n : ℕ) (l : Formula) (b : �
   unfolding more
   more-ends e = rw (e, more)
 
-  pub more-joins : (o : Operator) → sign b ≡ Joins o → more sign operand (suc n) l (b ∷ s) ≡ then (operand s) (λ r rest. more sign operand n (Joined o l r) rest)
+  pub more-joins : (o : Operator) → sign b ≡ Joins o → more sign operand (suc n) l
+      (b ∷ s) ≡ then (operand s) (λ r rest. more sign operand n (Joined o l r) rest)
   unfolding more
   more-joins o e = rw (e, more)
 

@@ -60,6 +60,7 @@ four-bytes l k h i =
     rw (part l 4 m (omega arith)) (omega arith)
 
 pub eight-digits : (s : List ℕ) → length s ≡ 8
-    → (((digitValue (getD s 0 0) * 16 + digitValue (getD s 1 0)) * 256 + (digitValue (getD s 2 0) * 16 + digitValue (getD s 3 0))) * 256 + (digitValue (getD s 4 0) * 16 + digitValue (getD s 5 0))) * 256
+    → (((digitValue (getD s 0 0) * 16 + digitValue (getD s 1 0)) * 256 + (digitValue (getD s 2 0) * 16 + digitValue (getD s 3 0)))
+    * 256 + (digitValue (getD s 4 0) * 16 + digitValue (getD s 5 0))) * 256
     + (digitValue (getD s 6 0) * 16 + digitValue (getD s 7 0)) ≡ constantWord s
 eight-digits s h = (omega arith) ∙ ap (hexFrom 0) (sym (rest s 8 0 (omega arith)))

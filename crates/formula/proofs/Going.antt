@@ -34,7 +34,8 @@ pub record Joining (sign : ℕ → Sign) (text : List ℕ) (k code : ℕ) : Type
   pub code-is : code ≡ codeOf operator
   pub inside : k < length text
 
-pub joins-code : (sign : ℕ → Sign) (text : List ℕ) (k b code : ℕ) → sign 0 ≡ Ends → b ≡ getD text k 0 → code ≡ signCode (sign b) → (code ≡ 0 → ⊥) → Joining sign text k code
+pub joins-code : (sign : ℕ → Sign) (text : List ℕ) (k b code : ℕ) → sign 0 ≡ Ends → b ≡ getD text k 0 → code ≡ signCode (sign b) → (code ≡ 0 → ⊥) → Joining sign
+    text k code
 joins-code sign text k b code z h e n = go (sign b) refl e
   where
     go : (x : Sign) → sign b ≡ x → code ≡ signCode x → Joining sign text k code
@@ -55,7 +56,8 @@ module _ (sign : ℕ → Sign) (operand : Reader) (text : List ℕ) where
   unfolding more
   ended zero f k e = refl
   ended (suc n) f k e = ⊎-elim
-      (λ l. ap (more sign operand (suc n) f) (from text k l) ∙ more-ends sign operand n f (getD text k 0) (drop (k + 1) text) e ∙ ap (Found f) (sym (from text k l)))
+      (λ l. ap (more sign operand (suc n) f) (from text k l) ∙ more-ends sign operand n f (getD text k 0) (drop (k + 1) text) e
+      ∙ ap (Found f) (sym (from text k l)))
       (λ l. ap (more sign operand (suc n) f) (drop-of-length-le text l) ∙ ap (Found f) (sym (drop-of-length-le text l)))
       (side k (length text))
 
@@ -83,12 +85,14 @@ retold : {text : List ℕ} {place : ℕ} {before after start left : List ℕ} {f
 retold T e = record { rest-is = T .rest-is; end-is = T .end-is; stored-is = e; later = T .later; inside = T .inside; few = T .few }
 
 -- the place behind the sign
-next : {sign : ℕ → Sign} {text : List ℕ} {code : ℕ} (p : ℕ) → length text ≤ mostText → Joining sign text (atOf p) code → (atOf (p + 1) ≡ atOf p + 1) × (endOf (p + 1) ≡ endOf p)
+next : {sign : ℕ → Sign} {text : List ℕ} {code : ℕ} (p : ℕ) → length text ≤ mostText → Joining sign text (atOf p) code → (atOf (p + 1) ≡ atOf p + 1)
+    × (endOf (p + 1) ≡ endOf p)
 next p short J = (next-at p (omega (arith, J .inside)), next-end p (omega (arith, J .inside)))
 
 module _ {sign : ℕ → Sign} {operand : Reader} {text : List ℕ} {place : ℕ} (short : length text ≤ mostText) where
   -- the first operand
-  pub going-starts : {before start : List ℕ} {p : ℕ} → Reads text place before start (operand (drop (atOf place) text)) p → Going sign operand text place start start (endOf p) p
+  pub going-starts : {before start : List ℕ} {p : ℕ} → Reads text place before start (operand (drop (atOf place) text)) p → Going sign operand text place start
+      start (endOf p) p
   going-starts {before} {start} {p} R = go (operand (drop (atOf place) text)) refl R
     where
       go : (x : Read) → operand (drop (atOf place) text) ≡ x → Reads text place before start x p → Going sign operand text place start start (endOf p) p
@@ -101,7 +105,8 @@ module _ {sign : ℕ → Sign} {operand : Reader} {text : List ℕ} {place : ℕ
             enough = omega arith;
             goes = ap (λ (x : Read). then x (λ l u. more sign operand (length u) l u)) e;
             reads = record {
-              told = retold T (T .stored-is ∙ sym (ap (λ (l : List ℕ). sets l (endOf place) (postfixOf f)) (T .stored-is) ∙ sets-over (postfixOf f) (postfixOf f) before (endOf place) (omega arith)));
+              told = retold T (T .stored-is ∙ sym (ap (λ (l : List ℕ). sets l (endOf place) (postfixOf f)) (T .stored-is)
+                  ∙ sets-over (postfixOf f) (postfixOf f) before (endOf place) (omega arith)));
             };
             since = λ h. omega arith;
           }
@@ -116,12 +121,15 @@ module _ {sign : ℕ → Sign} {operand : Reader} {text : List ℕ} {place : ℕ
           }
 
   -- no sign follows
-  pub going-ends : {before start after : List ℕ} {q p : ℕ} → Reads text place before start (operand (drop (atOf place) text)) q → Going sign operand text place start after (endOf q) p
+  pub going-ends : {before start after : List ℕ} {q p : ℕ} → Reads text place before start (operand (drop (atOf place) text)) q → Going sign operand text place
+      start after (endOf q) p
       → sign (getD text (atOf p) 0) ≡ Ends → Reads text place before after (joinedBy sign operand (drop (atOf place) text)) p
   going-ends {before} {start} {after} {q} {p} Q G e = go (G .so-far) (G .goes) (G .reads) (operand (drop (atOf place) text)) refl Q
     where
-      go : (x : Read) → joinedBy sign operand (drop (atOf place) text) ≡ then x (λ l rest. more sign operand (G .turns) l rest) → Reads text place start after x p
-          → (y : Read) → operand (drop (atOf place) text) ≡ y → Reads text place before start y q → Reads text place before after (joinedBy sign operand (drop (atOf place) text)) p
+      go : (x : Read) → joinedBy sign operand (drop (atOf place) text) ≡ then x (λ l rest. more sign operand (G .turns) l rest) → Reads text place start after x
+          p
+          → (y : Read) → operand (drop (atOf place) text) ≡ y → Reads text place before start y q → Reads text place before after
+          (joinedBy sign operand (drop (atOf place) text)) p
       go Outside g R y f Q = reads-as text place before after g (record { told = R .told })
       go (Found l rest) g R Outside f Q =
           let h = ap (λ (r : List ℕ). more sign operand (G .turns) l r) (R .told .rest-is) ∙ ended sign operand text (G .turns) l (atOf p) e in
@@ -131,17 +139,21 @@ module _ {sign : ℕ → Sign} {operand : Reader} {text : List ℕ} {place : ℕ
           let S = Q .told in
           let n : length (postfixOf k) ≤ length (postfixOf l) = omega (arith, G .since (somewhere text p short (T .inside)), T .end-is, S .end-is) in
           reads-as text place before after
-          (g ∙ ap (λ (r : List ℕ). more sign operand (G .turns) l r) (T .rest-is) ∙ ended sign operand text (G .turns) l (atOf p) e ∙ ap (Found l) (sym (T .rest-is)))
+          (g ∙ ap (λ (r : List ℕ). more sign operand (G .turns) l r) (T .rest-is) ∙ ended sign operand text (G .turns) l (atOf p) e
+          ∙ ap (Found l) (sym (T .rest-is)))
           (record {
-            told = retold T (T .stored-is ∙ ap (λ (r : List ℕ). sets r (endOf place) (postfixOf l)) (S .stored-is) ∙ sets-over (postfixOf k) (postfixOf l) before (endOf place) n);
+            told = retold T (T .stored-is ∙ ap (λ (r : List ℕ). sets r (endOf place) (postfixOf l)) (S .stored-is) ∙ sets-over (postfixOf k) (postfixOf l)
+                before (endOf place) n);
           })
 
   -- a sign and its right operand
-  pub going-on : {start after middle left : List ℕ} {least code : ℕ} {p q r : ℕ} → Going sign operand text place start after least p → Joining sign text (atOf p) code
+  pub going-on : {start after middle left : List ℕ} {least code : ℕ} {p q r : ℕ} → Going sign operand text place start after least p
+      → Joining sign text (atOf p) code
       → Reads text (p + 1) after middle (operand (drop (atOf (p + 1)) text)) q
       → ((q ≡ nowhere → ⊥) → left ≡ set middle (endOf q) code) → r ≡ longerOf q → Going sign operand text place start left least r
   unfolding postfixOf
-  going-on {start} {after} {middle} {left} {least} {code} {p} {q} {r} G J Q w is = go (G .so-far) (G .goes) (G .reads) (operand (drop (atOf (p + 1)) text)) refl Q
+  going-on {start} {after} {middle} {left} {least} {code} {p} {q} {r} G J Q w is = go (G .so-far) (G .goes) (G .reads) (operand (drop (atOf (p + 1)) text)) refl
+      Q
     where
       o : Operator
       o = J .operator
@@ -149,7 +161,8 @@ module _ {sign : ℕ → Sign} {operand : Reader} {text : List ℕ} {place : ℕ
       there : drop (atOf (p + 1)) text ≡ drop (atOf p + 1) text
       there = ap (λ (k : ℕ). drop k text) (next p short J .0)
 
-      go : (x : Read) → joinedBy sign operand (drop (atOf place) text) ≡ then x (λ l rest. more sign operand (G .turns) l rest) → Reads text place start after x p
+      go : (x : Read) → joinedBy sign operand (drop (atOf place) text) ≡ then x (λ l rest. more sign operand (G .turns) l rest) → Reads text place start after x
+          p
           → (y : Read) → operand (drop (atOf (p + 1)) text) ≡ y → Reads text (p + 1) after middle y q → Going sign operand text place start left least r
       go Outside g R y f Q = absurd (let z = ap atOf (R .told) ∙ nowhere-at in omega (arith, J .inside))
       go (Found l rest) g R Outside f Q =
@@ -157,7 +170,8 @@ module _ {sign : ℕ → Sign} {operand : Reader} {text : List ℕ} {place : ℕ
             so-far = Outside;
             turns = length text;
             enough = omega arith;
-            goes = g ∙ ap (λ (s : List ℕ). more sign operand (G .turns) l s) (R .told .rest-is) ∙ turned sign operand text (G .turns) l o (atOf p) (J .sign-is) (J .inside) (G .enough)
+            goes = g ∙ ap (λ (s : List ℕ). more sign operand (G .turns) l s) (R .told .rest-is) ∙ turned sign operand text (G .turns) l o (atOf p) (J .sign-is)
+                (J .inside) (G .enough)
                 ∙ ap (λ (x : Read). then x (λ r rest. more sign operand (G .turns - 1) (Joined o l r) rest)) (ap operand (sym there) ∙ f);
             reads = record { told = is ∙ longer-none q (Q .told) };
             since = λ h. absurd (h (is ∙ longer-none q (Q .told)));
@@ -178,7 +192,8 @@ module _ {sign : ℕ → Sign} {operand : Reader} {text : List ℕ} {place : ℕ
             so-far = Found (Joined o l k) u;
             turns = G .turns - 1;
             enough = omega (arith, J .inside, G .enough, S .later);
-            goes = g ∙ ap (λ (s : List ℕ). more sign operand (G .turns) l s) (T .rest-is) ∙ turned sign operand text (G .turns) l o (atOf p) (J .sign-is) (J .inside) (G .enough)
+            goes = g ∙ ap (λ (s : List ℕ). more sign operand (G .turns) l s) (T .rest-is) ∙ turned sign operand text (G .turns) l o (atOf p) (J .sign-is)
+                (J .inside) (G .enough)
                 ∙ ap (λ (x : Read). then x (λ r rest. more sign operand (G .turns - 1) (Joined o l r) rest)) (ap operand (sym there) ∙ f);
             reads = record {
               told = record {
@@ -198,7 +213,8 @@ module _ {sign : ℕ → Sign} {operand : Reader} {text : List ℕ} {place : ℕ
           }
 
   -- what the right operand asks
-  pub going-asks : {start after : List ℕ} {least code p : ℕ} → Asks text place → Going sign operand text place start after least p → Joining sign text (atOf p) code
+  pub going-asks : {start after : List ℕ} {least code p : ℕ} → Asks text place → Going sign operand text place start after least p → Joining sign text (atOf p)
+      code
       → Asks text (p + 1)
   going-asks {start} {after} {least} {code} {p} A G J = go (G .so-far) (G .reads)
     where
@@ -210,7 +226,8 @@ module _ {sign : ℕ → Sign} {operand : Reader} {text : List ℕ} {place : ℕ
           record { short = short; inside = omega (arith, J .inside); few = omega (arith, A .few, R .told .few) }
 
   -- and where it reads from: there is room for one more byte of postfix
-  pub going-later : {start after : List ℕ} {least code p : ℕ} → Asks text place → Going sign operand text place start after least p → Joining sign text (atOf p) code
+  pub going-later : {start after : List ℕ} {least code p : ℕ} → Asks text place → Going sign operand text place start after least p → Joining sign text (atOf p)
+      code
       → (atOf place < length text) × (atOf place < atOf (p + 1)) × (endOf (p + 1) < atOf (p + 1))
   going-later {start} {after} {least} {code} {p} A G J = go (G .so-far) (G .reads)
     where
@@ -222,7 +239,8 @@ module _ {sign : ℕ → Sign} {operand : Reader} {text : List ℕ} {place : ℕ
           (omega (arith, J .inside, R .told .later), omega (arith, R .told .later), omega (arith, A .few, R .told .few))
 
 -- the place after a reading that began with such room has it too
-pub reads-small : {text before after : List ℕ} {place r : ℕ} (x : Read) → length text ≤ mostText → endOf place < atOf place → Reads text place before after x r → r < 131072
+pub reads-small : {text before after : List ℕ} {place r : ℕ} (x : Read) → length text ≤ mostText → endOf place < atOf place → Reads text place before after x r
+    → r < 131072
 reads-small {r = r} Outside short h R = omega (arith, R .told)
 reads-small {text} {place = place} {r = r} (Found f rest) short h R =
     let T = R .told in
@@ -234,7 +252,8 @@ pub asks-small : {text : List ℕ} {place : ℕ} → Asks text place → place <
 asks-small {text} {place} A = let z = place-is place in omega (arith, A .few, A .inside, A .short)
 
 -- the text that is left falls
-pub going-less : {sign : ℕ → Sign} {text after middle : List ℕ} {x : Read} {code : ℕ} (p : ℕ) {q r : ℕ} → length text ≤ mostText → Joining sign text (atOf p) code
+pub going-less : {sign : ℕ → Sign} {text after middle : List ℕ} {x : Read} {code : ℕ} (p : ℕ) {q r : ℕ} → length text ≤ mostText → Joining sign text (atOf p)
+    code
     → Reads text (p + 1) after middle x q → r ≡ longerOf q → length text - atOf r < length text - atOf p
 going-less {text = text} {after} {middle} {x} p {q} {r} short J Q is = go x Q
   where

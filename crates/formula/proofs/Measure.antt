@@ -14,5 +14,6 @@ pub same-place : (rank : ℕ) (text : List ℕ) (at depth t : ℕ) → leftOver 
 same-place rank text at depth t e = omega arith
 
 -- all other calls read on from a later place
-pub later-place : (rank rank' : ℕ) (text : List ℕ) (at at' depth depth' t : ℕ) → leftOver rank text at depth ≡ t → rank' ≤ 2 → at < length text → at < at' → depth' ≤ depth → leftOver rank' text at' depth' < t
+pub later-place : (rank rank' : ℕ) (text : List ℕ) (at at' depth depth' t : ℕ) → leftOver rank text at depth ≡ t → rank' ≤ 2 → at < length text
+    → at < at' → depth' ≤ depth → leftOver rank' text at' depth' < t
 later-place rank rank' text at at' depth depth' t e r h i d = omega arith

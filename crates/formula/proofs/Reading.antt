@@ -20,7 +20,8 @@ use Rattle.formula.specs.Told.{mostText, atOf, endOf, nowhere, closedAt,
 use Rattle.formula.proofs.Cases.{factor-minus, factor-bracket, factor-leaf}
 use Rattle.formula.proofs.Digits.{letter-range}
 use Rattle.formula.proofs.Stores.{sets-append}
-use Rattle.formula.proofs.Places.{nowhere-at, longer-none, longer-is, closed-is, closed-none, next-at, next-end, longer-at, longer-end, both-at, both-end, nine-at, nine-end}
+use Rattle.formula.proofs.Places.{nowhere-at, longer-none, longer-is, closed-is, closed-none, next-at, next-end, longer-at, longer-end, both-at}
+use Rattle.formula.proofs.Places.{both-end, nine-at, nine-end}
 
 -- ---- places of a text
 -- from a place on: the byte there, then the rest
@@ -67,8 +68,10 @@ module _ (text : List ℕ) (place : ℕ) (before after : List ℕ) where
   pub none-reads : {x : Read} {r : ℕ} → r ≡ nowhere → x ≡ Outside → Reads text place before after x r
   none-reads is n = reads-as n (record { told = is })
 
-  pub constant-reads : {r : ℕ} → length text ≤ mostText → getD text (atOf place) 0 ≡ 0x23 → atOf place + 9 ≤ length text → areDigits (take 8 (drop (atOf place + 1) text)) ≡ true
-      → r ≡ place + 4617 → after ≡ sets before (endOf place) (take 9 (drop (atOf place) text)) → Reads text place before after (constantOf (drop (atOf place + 1) text)) r
+  pub constant-reads : {r : ℕ} → length text ≤ mostText → getD text (atOf place) 0 ≡ 0x23 → atOf place + 9 ≤ length text
+      → areDigits (take 8 (drop (atOf place + 1) text)) ≡ true
+      → r ≡ place + 4617 → after ≡ sets before (endOf place) (take 9 (drop (atOf place) text)) → Reads text place before after
+      (constantOf (drop (atOf place + 1) text)) r
   unfolding postfixOf
   constant-reads {r} short hash h d is e =
       let s = drop (atOf place + 1) text in
@@ -84,7 +87,8 @@ module _ (text : List ℕ) (place : ℕ) (before after : List ℕ) where
         told = record {
           rest-is = drop-drop 8 (atOf place + 1) text ∙ ap (λ (i : ℕ). drop i text) z;
           end-is = omega arith;
-          stored-is = e ∙ ap (λ (l : List ℕ). sets before (endOf place) (take 9 l)) (from text (atOf place) (omega arith)) ∙ ap (λ (x : ℕ). sets before (endOf place) (x ∷ take 8 s)) hash;
+          stored-is = e ∙ ap (λ (l : List ℕ). sets before (endOf place) (take 9 l)) (from text (atOf place) (omega arith))
+              ∙ ap (λ (x : ℕ). sets before (endOf place) (x ∷ take 8 s)) hash;
           later = omega arith;
           inside = omega arith;
           few = omega arith;
@@ -115,7 +119,8 @@ module _ (text : List ℕ) (place : ℕ) (before after : List ℕ) where
       reads-as (rw (from text (atOf place) h, ← g, i)) R
 
 -- the digits behind a hash, as a call tells of them
-pub digits-told : (text : List ℕ) (x y : ℕ) {b : Bool} → b ≡ areDigits (take (x + 9 - (x + 1)) (drop (x + 1) text)) → x ≡ y → areDigits (take 8 (drop (y + 1) text)) ≡ b
+pub digits-told : (text : List ℕ) (x y : ℕ) {b : Bool} → b ≡ areDigits (take (x + 9 - (x + 1)) (drop (x + 1) text))
+    → x ≡ y → areDigits (take 8 (drop (y + 1) text)) ≡ b
 digits-told text x y e h = ap (λ (k : ℕ). areDigits (take 8 (drop (k + 1) text))) (sym h) ∙ ap areDigits (sym (eight text x)) ∙ sym e
 
 -- what a leaf is not
@@ -214,7 +219,8 @@ module _ (text : List ℕ) (at d b : ℕ) (some : d ≡ 0 → ⊥) (is : b ≡ g
   level = let z = pos-of-ne-zero some in omega arith
 
   here : at < length text → factorOf d (drop at text) ≡ factorOf (suc (d - 1)) (b ∷ drop (at + 1) text)
-  here inside = ap (λ (n : ℕ). factorOf n (drop at text)) (sym level) ∙ ap (factorOf (suc (d - 1))) (from text at inside ∙ ap (λ (x : ℕ). x ∷ drop (at + 1) text) (sym is))
+  here inside = ap (λ (n : ℕ). factorOf n (drop at text)) (sym level) ∙ ap (factorOf (suc (d - 1))) (from text at inside
+      ∙ ap (λ (x : ℕ). x ∷ drop (at + 1) text) (sym is))
 
   pub at-minus : b ≡ 0x2D → factorOf d (drop at text) ≡ then (factorOf (d - 1) (drop (at + 1) text)) (λ f rest. Found (Minus f) rest)
   at-minus e = here (stands text at (λ z. omega arith)) ∙ factor-minus (d - 1) b (drop (at + 1) text) (rw (eq-eqb b 0x2D e))

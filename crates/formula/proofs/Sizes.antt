@@ -1,4 +1,5 @@
--- A file has at most 13 bytes for two of the text, and 3 more for a text of an odd number: a leaf that is a letter has 8 bytes for one, a sign or a minus 5 for one. Assumes nothing.
+-- A file has at most 13 bytes for two of the text, and 3 more for a text of an odd number: a leaf that is a letter has 8 bytes for one, a sign or a minus 5 for
+-- one. Assumes nothing.
 use mathlib.Core.Path.{_≡_, refl, ap, _∙_}
 use mathlib.Core.List.{List, [], _∷_, _++_}
 use Prim.Native.Nat.{ℕ, zero, suc, _+_, _*_, _%_, _≤_, _<_}
@@ -28,13 +29,15 @@ joined-most a b s t p q = go (s % 2) refl (t % 2) refl (mod-lt s {m = 2} (omega 
     go (suc zero) h (suc (suc y)) k i j = absurd (omega arith)
     go (suc (suc x)) h (suc y) k i j = absurd (omega arith)
 
-joined-length : (letters : List ℕ) (o : Operator) (f g : Formula) {text : List ℕ} (s t : List ℕ) (sign : ℕ) → text ≡ s ++ (sign ∷ t) → Most (length (fileOf letters f)) (length s) → Most (length (fileOf letters g)) (length t)
+joined-length : (letters : List ℕ) (o : Operator) (f g : Formula) {text : List ℕ} (s t : List ℕ) (sign : ℕ) → text ≡ s ++ (sign ∷ t)
+    → Most (length (fileOf letters f)) (length s) → Most (length (fileOf letters g)) (length t)
     → Most (length (fileOf letters (Joined o f g))) (length text)
 unfolding fileOf
 joined-length letters o f g {text} s t sign e p q =
     let a = fileOf letters f in
     let b = fileOf letters g in
-    let n : length (a ++ (b ++ commandRecord (codeOf o))) ≡ length a + (length b + 5) = length-append a (b ++ commandRecord (codeOf o)) ∙ ap (λ (k : ℕ). length a + k) (length-append b (commandRecord (codeOf o))) in
+    let n : length (a ++ (b ++ commandRecord (codeOf o))) ≡ length a + (length b + 5) = length-append a (b ++ commandRecord (codeOf o))
+    ∙ ap (λ (k : ℕ). length a + k) (length-append b (commandRecord (codeOf o))) in
     let m : length text ≡ length s + (length t + 1) = ap length e ∙ length-append s (sign ∷ t) ∙ omega arith in
     rw (n, m) (joined-most (length a) (length b) (length s) (length t) p q)
 
@@ -55,7 +58,8 @@ module _ (letters : List ℕ) where
     factor-most : {s : List ℕ} {f : Formula} → IsFactor s f → Most (length (fileOf letters f)) (length s)
     factor-most (letter h e) = let n = ap length e in omega arith
     factor-most (constant h d e) = let n = ap length e in omega arith
-    factor-most (minus {f = f} p e) = let n = ap length e in let m = length-append (fileOf letters f) (commandRecord minusCode) in let k = factor-most p in omega arith
+    factor-most (minus {f = f} p e) = let n = ap length e in let m = length-append (fileOf letters f) (commandRecord minusCode) in let k = factor-most p
+        in omega arith
     factor-most (brackets {s = s} p e) = let n = ap length e in let m = length-append s (0x29 ∷ []) in let k = sum-most p in omega arith
 
   pub file-most : {text : List ℕ} {f : Formula} → IsSum text f → length text ≤ 256 → length (fileOf letters f) ≤ 1664
@@ -66,12 +70,27 @@ module _ (letters : List ℕ) where
   unfolding fileOf repliesTo
   replies-few (Letter k) = omega arith
   replies-few (Constant s) = omega arith
-  replies-few (Minus f) = let r : List ℕ = 3 ∷ 0 ∷ 131 ∷ 0 ∷ 0 ∷ [] in omega (arith, replies-few f, length-append (repliesTo f) r, length-append (fileOf letters f) (commandRecord minusCode))
+  replies-few (Minus f) = let r : List ℕ = 3 ∷ 0 ∷ 131 ∷ 0 ∷ 0 ∷ [] in omega (
+    arith,
+    replies-few f,
+    length-append (repliesTo f) r,
+    length-append
+        (fileOf letters f) (commandRecord minusCode),
+  )
   replies-few (Brackets f) = replies-few f
   replies-few (Joined o f g) =
       let r : List ℕ = 3 ∷ 0 ∷ 131 ∷ 0 ∷ 0 ∷ [] in
       let c = commandRecord (codeOf o) in
-      omega (arith, replies-few f, replies-few g, length-append (repliesTo f) (repliesTo g ++ r), length-append (repliesTo g) r, length-append (fileOf letters f) (fileOf letters g ++ c), length-append (fileOf letters g) c)
+      omega (
+        arith,
+        replies-few f,
+        replies-few g,
+        length-append (repliesTo f) (repliesTo g ++ r),
+        length-append (repliesTo g) r,
+        length-append
+            (fileOf letters f) (fileOf letters g ++ c),
+        length-append (fileOf letters g) c,
+      )
 
   -- and every byte is one
   push-bytes : (w : ℕ) → Bytes (pushRecord w)
@@ -90,4 +109,5 @@ module _ (letters : List ℕ) where
   file-bytes (Minus f) = bytes-append (fileOf letters f) (commandRecord minusCode) (file-bytes f) (omega arith)
   file-bytes (Brackets f) = file-bytes f
   file-bytes (Joined o l r) =
-      bytes-append (fileOf letters l) (fileOf letters r ++ commandRecord (codeOf o)) (file-bytes l) (bytes-append (fileOf letters r) (commandRecord (codeOf o)) (file-bytes r) (omega (arith, code-byte o)))
+      bytes-append (fileOf letters l) (fileOf letters r ++ commandRecord (codeOf o)) (file-bytes l) (bytes-append (fileOf letters r) (commandRecord (codeOf o))
+      (file-bytes r) (omega (arith, code-byte o)))

@@ -10,8 +10,10 @@ use lib.ListN.{length, take, drop, take-append-drop}
 use lib.Seq.{length-take-le}
 use Rattle.formula.specs.Formula.{Operator, Plus, Less, Times, Over, Formula, Letter, Constant, Minus, Brackets, Joined, nested}
 use Rattle.formula.specs.Grammar.{areDigits, IsSum, product, plus, less, IsProduct, factor, times, over, IsFactor, letter, constant, minus, brackets}
-use Rattle.formula.specs.Reader.{Read, Found, Outside, Reader, then, isLetter, constantOf, leafOf, Sign, Joins, Ends, sumSign, productSign, more, joinedBy, closed, Start, AMinus, ABracket, ALeaf, startAt, factorOf, productOf, sumOf, whole, mostNested, formulaOf}
-use Rattle.formula.proofs.Cases.{never, ends-never, Then, then-found, more-ends, more-joins, start-minus, start-bracket, factor-minus, factor-bracket, factor-leaf}
+use Rattle.formula.specs.Reader.{Read, Found, Outside, Reader, then, isLetter, constantOf, leafOf, Sign, Joins, Ends, sumSign, productSign, more}
+use Rattle.formula.specs.Reader.{joinedBy, closed, Start, AMinus, ABracket, ALeaf, startAt, factorOf, productOf, sumOf, whole, mostNested, formulaOf}
+use Rattle.formula.proofs.Cases.{never, ends-never, Then, then-found, more-ends, more-joins, start-minus, start-bracket, factor-minus, factor-bracket}
+use Rattle.formula.proofs.Cases.{factor-leaf}
 use Rattle.formula.proofs.Digits.{both, letter-range}
 
 abbrev Grammar : Type 1
@@ -36,7 +38,8 @@ found {P} {d} {l} {s} {t} {f} {rest} F e =
 
 -- ---- operands of one part of the grammar joined to one of another
 module _ (P Q : Grammar) (d : ℕ) (sign : ℕ → Sign) (operand : Reader) (alone : (s : List ℕ) (f : Formula) → P s f → Q s f)
-    (joins : (b : ℕ) (o : Operator) → sign b ≡ Joins o → (s t : List ℕ) (f g : Formula) → Q s f → P t g → Q (s ++ (b ∷ t)) (Joined o f g)) (sound : Sound P d operand) where
+    (joins : (b : ℕ) (o : Operator) → sign b ≡ Joins o → (s t : List ℕ) (f g : Formula) → Q s f → P t g → Q (s ++ (b ∷ t)) (Joined o f g))
+    (sound : Sound P d operand) where
   -- one more operand
   joined : {t s u : List ℕ} {l g : Formula} (b : ℕ) (o : Operator) → sign b ≡ Joins o → Finds Q d t l (b ∷ s) → Finds P d s g u → Finds Q d t (Joined o l g) u
   unfolding nested
@@ -48,9 +51,11 @@ module _ (P Q : Grammar) (d : ℕ) (sign : ℕ → Sign) (operand : Reader) (alo
   }
 
   abbrev MoreSound : ℕ → Type 0
-  MoreSound n = (t : List ℕ) (l : Formula) (s : List ℕ) (f : Formula) (rest : List ℕ) → Finds Q d t l s → more sign operand n l s ≡ Found f rest → Finds Q d t f rest
+  MoreSound n = (t : List ℕ) (l : Formula) (s : List ℕ) (f : Formula) (rest : List ℕ) → Finds Q d t l s → more sign operand n l s ≡ Found f rest
+      → Finds Q d t f rest
 
-  more-on : (n : ℕ) → MoreSound n → (t : List ℕ) (l : Formula) (b : ℕ) (s : List ℕ) (f : Formula) (rest : List ℕ) → Finds Q d t l (b ∷ s) → more sign operand (suc n) l (b ∷ s) ≡ Found f rest
+  more-on : (n : ℕ) → MoreSound n → (t : List ℕ) (l : Formula) (b : ℕ) (s : List ℕ) (f : Formula) (rest : List ℕ) → Finds Q d t l (b ∷ s) → more sign operand
+      (suc n) l (b ∷ s) ≡ Found f rest
       → (x : Sign) → sign b ≡ x → Finds Q d t f rest
   more-on n ih t l b s f rest L e Ends h = found L (sym (more-ends sign operand n l b s h) ∙ e)
   more-on n ih t l b s f rest L e (Joins o) h =
@@ -67,23 +72,35 @@ module _ (P Q : Grammar) (d : ℕ) (sign : ℕ → Sign) (operand : Reader) (alo
   joined-sound s f rest e =
       let x = then-found (operand s) (λ l u. more sign operand (length u) l u) e in
       let y = sound s (x .tree) (x .left) (x .first) in
-      more-sound (length (x .left)) s (x .tree) (x .left) f rest (record { taken = y .taken; text = y .text; is = alone (y .taken) (x .tree) (y .is); levels = y .levels }) (x .last)
+      more-sound (length (x .left)) s (x .tree) (x .left) f rest (record {
+        taken = y .taken;
+        text = y .text;
+        is = alone (y .taken) (x .tree) (y .is);
+        levels = y .levels;
+      }) (x .last)
 
 -- ---- the signs
 sum-joins : (b : ℕ) (o : Operator) → sumSign b ≡ Joins o → (s t : List ℕ) (f g : Formula) → IsSum s f → IsProduct t g → IsSum (s ++ (b ∷ t)) (Joined o f g)
 sum-joins b o e s t f g F G = go (eqb b 0x2B) refl (eqb b 0x2D) refl e
   where
-    go : (x : Bool) → eqb b 0x2B ≡ x → (y : Bool) → eqb b 0x2D ≡ y → cond x (Joins Plus) (cond y (Joins Less) Ends) ≡ Joins o → IsSum (s ++ (b ∷ t)) (Joined o f g)
-    go true h y k j = let z : Plus ≡ o = cc in subst (λ (o : Operator). IsSum (s ++ (b ∷ t)) (Joined o f g)) z (plus F G (ap (λ (x : ℕ). s ++ (x ∷ t)) (eqb-true b 0x2B h)))
-    go false h true k j = let z : Less ≡ o = cc in subst (λ (o : Operator). IsSum (s ++ (b ∷ t)) (Joined o f g)) z (less F G (ap (λ (x : ℕ). s ++ (x ∷ t)) (eqb-true b 0x2D k)))
+    go : (x : Bool) → eqb b 0x2B ≡ x → (y : Bool) → eqb b 0x2D ≡ y → cond x (Joins Plus) (cond y (Joins Less) Ends) ≡ Joins o
+        → IsSum (s ++ (b ∷ t)) (Joined o f g)
+    go true h y k j = let z : Plus ≡ o = cc in subst (λ (o : Operator). IsSum (s ++ (b ∷ t)) (Joined o f g)) z
+        (plus F G (ap (λ (x : ℕ). s ++ (x ∷ t)) (eqb-true b 0x2B h)))
+    go false h true k j = let z : Less ≡ o = cc in subst (λ (o : Operator). IsSum (s ++ (b ∷ t)) (Joined o f g)) z
+        (less F G (ap (λ (x : ℕ). s ++ (x ∷ t)) (eqb-true b 0x2D k)))
     go false h false k j = ends-never j
 
-product-joins : (b : ℕ) (o : Operator) → productSign b ≡ Joins o → (s t : List ℕ) (f g : Formula) → IsProduct s f → IsFactor t g → IsProduct (s ++ (b ∷ t)) (Joined o f g)
+product-joins : (b : ℕ) (o : Operator) → productSign b ≡ Joins o → (s t : List ℕ) (f g : Formula) → IsProduct s f → IsFactor t g
+    → IsProduct (s ++ (b ∷ t)) (Joined o f g)
 product-joins b o e s t f g F G = go (eqb b 0x2A) refl (eqb b 0x2F) refl e
   where
-    go : (x : Bool) → eqb b 0x2A ≡ x → (y : Bool) → eqb b 0x2F ≡ y → cond x (Joins Times) (cond y (Joins Over) Ends) ≡ Joins o → IsProduct (s ++ (b ∷ t)) (Joined o f g)
-    go true h y k j = let z : Times ≡ o = cc in subst (λ (o : Operator). IsProduct (s ++ (b ∷ t)) (Joined o f g)) z (times F G (ap (λ (x : ℕ). s ++ (x ∷ t)) (eqb-true b 0x2A h)))
-    go false h true k j = let z : Over ≡ o = cc in subst (λ (o : Operator). IsProduct (s ++ (b ∷ t)) (Joined o f g)) z (over F G (ap (λ (x : ℕ). s ++ (x ∷ t)) (eqb-true b 0x2F k)))
+    go : (x : Bool) → eqb b 0x2A ≡ x → (y : Bool) → eqb b 0x2F ≡ y → cond x (Joins Times) (cond y (Joins Over) Ends) ≡ Joins o
+        → IsProduct (s ++ (b ∷ t)) (Joined o f g)
+    go true h y k j = let z : Times ≡ o = cc in subst (λ (o : Operator). IsProduct (s ++ (b ∷ t)) (Joined o f g)) z
+        (times F G (ap (λ (x : ℕ). s ++ (x ∷ t)) (eqb-true b 0x2A h)))
+    go false h true k j = let z : Over ≡ o = cc in subst (λ (o : Operator). IsProduct (s ++ (b ∷ t)) (Joined o f g)) z
+        (over F G (ap (λ (x : ℕ). s ++ (x ∷ t)) (eqb-true b 0x2F k)))
     go false h false k j = ends-never j
 
 -- ---- leaves
@@ -93,7 +110,8 @@ leaf-sound d [] f rest e = never e
 leaf-sound d (b ∷ s) f rest e = go (isLetter b) refl (eqb b 0x23) refl (leb 8 (length s) && areDigits (take 8 s)) refl e
   where
     go : (x : Bool) → isLetter b ≡ x → (y : Bool) → eqb b 0x23 ≡ y → (z : Bool) → (leb 8 (length s) && areDigits (take 8 s)) ≡ z
-        → cond x (Found (Letter (b - 0x61)) s) (cond y (cond z (Found (Constant (take 8 s)) (drop 8 s)) Outside) Outside) ≡ Found f rest → Finds IsFactor d (b ∷ s) f rest
+        → cond x (Found (Letter (b - 0x61)) s) (cond y (cond z (Found (Constant (take 8 s)) (drop 8 s)) Outside) Outside) ≡ Found f rest
+        → Finds IsFactor d (b ∷ s) f rest
     go true p y q z r h =
         let i = letter-range b p in
         let k : b ≡ 0x61 + (b - 0x61) = omega arith in
@@ -116,7 +134,8 @@ product-of d sound = joined-sound IsFactor IsProduct d productSign (factorOf d) 
 sum-of : (d : ℕ) → Sound IsFactor d (factorOf d) → Sound IsSum d (sumOf d)
 sum-of d sound = joined-sound IsProduct IsSum d sumSign (productOf d) (λ s f p. product p) sum-joins (product-of d sound)
 
-closed-sound : {d : ℕ} {s : List ℕ} {g : Formula} (u : List ℕ) (f : Formula) (rest : List ℕ) → Finds IsSum d s g u → closed g u ≡ Found f rest → Finds IsFactor (suc d) (0x28 ∷ s) f rest
+closed-sound : {d : ℕ} {s : List ℕ} {g : Formula} (u : List ℕ) (f : Formula) (rest : List ℕ) → Finds IsSum d s g u → closed g u ≡ Found f rest
+    → Finds IsFactor (suc d) (0x28 ∷ s) f rest
 unfolding nested
 closed-sound [] f rest G e = never e
 closed-sound {d} {s} {g} (b ∷ u) f rest G e = go (eqb b 0x29) refl e
@@ -125,13 +144,15 @@ closed-sound {d} {s} {g} (b ∷ u) f rest G e = go (eqb b 0x29) refl e
     go true h k =
         found (record {
           taken = 0x28 ∷ (G .taken ++ (0x29 ∷ []));
-          text = ap (λ (x : List ℕ). 0x28 ∷ x) (G .text ∙ ap (λ (x : ℕ). G .taken ++ (x ∷ u)) (eqb-true b 0x29 h) ∙ sym (append-assoc (G .taken) (0x29 ∷ []) u));
+          text = ap (λ (x : List ℕ). 0x28 ∷ x) (G .text ∙ ap (λ (x : ℕ). G .taken ++ (x ∷ u)) (eqb-true b 0x29 h)
+              ∙ sym (append-assoc (G .taken) (0x29 ∷ []) u));
           is = brackets (G .is) refl;
           levels = omega (arith, G .levels);
         }) k
     go false h k = never k
 
-factor-on : (d : ℕ) → Sound IsFactor d (factorOf d) → (b : ℕ) (s : List ℕ) (f : Formula) (rest : List ℕ) → factorOf (suc d) (b ∷ s) ≡ Found f rest → (x : Start) → startAt b ≡ x
+factor-on : (d : ℕ) → Sound IsFactor d (factorOf d) → (b : ℕ) (s : List ℕ) (f : Formula) (rest : List ℕ) → factorOf (suc d) (b ∷ s) ≡ Found f rest → (x : Start)
+    → startAt b ≡ x
     → Finds IsFactor (suc d) (b ∷ s) f rest
 unfolding nested
 factor-on d sound b s f rest e AMinus h =
@@ -145,7 +166,8 @@ factor-on d sound b s f rest e AMinus h =
     }) (x .last)
 factor-on d sound b s f rest e ABracket h =
     let x = then-found (sumOf d s) closed (sym (factor-bracket d b s h) ∙ e) in
-    subst (λ (n : ℕ). Finds IsFactor (suc d) (n ∷ s) f rest) (sym (start-bracket b h)) (closed-sound (x .left) f rest (sum-of d sound s (x .tree) (x .left) (x .first)) (x .last))
+    subst (λ (n : ℕ). Finds IsFactor (suc d) (n ∷ s) f rest) (sym (start-bracket b h)) (closed-sound (x .left) f rest (sum-of d sound s (x .tree) (x .left)
+    (x .first)) (x .last))
 factor-on d sound b s f rest e ALeaf h = leaf-sound (suc d) (b ∷ s) f rest (sym (factor-leaf d b s h) ∙ e)
 
 factor-sound : (d : ℕ) → Sound IsFactor d (factorOf d)

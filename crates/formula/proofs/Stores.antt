@@ -38,7 +38,8 @@ store-first text out at end n =
     rw (e, m, a)
 
 pub store-next : (text out : List ℕ) (at end n i : ℕ) → i < n → at + i < length text
-    → sets out (end + i) (take (n - i) (drop (at + i) text)) ≡ sets (set out (end + i) (getD text (at + i) 0)) (end + (i + 1)) (take (n - (i + 1)) (drop (at + (i + 1)) text))
+    → sets out (end + i) (take (n - i) (drop (at + i) text)) ≡ sets (set out (end + i) (getD text (at + i) 0))
+    (end + (i + 1)) (take (n - (i + 1)) (drop (at + (i + 1)) text))
 store-next text out at end n i h l =
     let m : n - i ≡ suc (n - (i + 1)) = omega arith in
     let e : end + (i + 1) ≡ suc (end + i) = omega arith in

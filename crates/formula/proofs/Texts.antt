@@ -18,7 +18,11 @@ read-is text f rest e = let x = then-found (sumOf mostNested text) whole e in go
     go : {g : Formula} (left : List ℕ) → Finds IsSum mostNested text g left → whole g left ≡ Found f rest → IsSum text f × (nested f ≤ mostNested)
     go {g} [] F h =
         let p : g ≡ f = cc in
-        subst (λ (k : Formula). IsSum text k × (nested k ≤ mostNested)) p (subst (λ (l : List ℕ). IsSum l g) (sym (F .text ∙ append-nil (F .taken))) (F .is), F .levels)
+        subst (λ (k : Formula). IsSum text k × (nested k ≤ mostNested)) p (
+          subst (λ (l : List ℕ). IsSum l g) (sym (F .text ∙ append-nil (F .taken))) (F .is),
+          F
+              .levels,
+        )
     go (b ∷ left) F h = never h
 
 -- the text of every formula within the levels is read as it

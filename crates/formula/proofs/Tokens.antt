@@ -8,7 +8,8 @@ use lib.ListN.{length, length-append}
 use Rattle.formula.specs.Formula.{Operator, Plus, Less, Times, Over, Formula, Letter, Constant, Minus, Brackets, Joined, needOf}
 use Rattle.formula.specs.Grammar.{IsSum, product, plus, less, IsProduct, factor, times, over, IsFactor, letter, constant, minus, brackets}
 use Rattle.formula.specs.File.{codeOf, minusCode, commandRecord, properIn, fileOf}
-use Rattle.formula.specs.Postfix.{postfixOf, Token, Gives, tokensOf, spelt, spelling, AllGood, stepped, walked, loweredBy, commandedOf, recordOf, recordsOf}
+use Rattle.formula.specs.Postfix.{postfixOf, Token, Gives, tokensOf, spelt, spelling, AllGood, stepped, walked, loweredBy, commandedOf, recordOf}
+use Rattle.formula.specs.Postfix.{recordsOf}
 use Rattle.formula.specs.declared.postfix.Written.{Written}
 
 -- ---- tokens after tokens
@@ -20,7 +21,8 @@ spelling-append (t ∷ a) b = ap (λ (l : List ℕ). spelt t ++ l) (spelling-app
 pub records-append : (letters : List ℕ) (a b : List Token) → recordsOf letters (a ++ b) ≡ recordsOf letters a ++ recordsOf letters b
 unfolding recordsOf
 records-append letters [] b = refl
-records-append letters (t ∷ a) b = ap (λ (l : List ℕ). recordOf letters t ++ l) (records-append letters a b) ∙ sym (append-assoc (recordOf letters t) (recordsOf letters a) (recordsOf letters b))
+records-append letters (t ∷ a) b = ap (λ (l : List ℕ). recordOf letters t ++ l) (records-append letters a b)
+    ∙ sym (append-assoc (recordOf letters t) (recordsOf letters a) (recordsOf letters b))
 
 pub good-append : (a b : List Token) → AllGood a → AllGood b → AllGood (a ++ b)
 unfolding AllGood
@@ -55,7 +57,8 @@ pub records-file : (letters : List ℕ) (f : Formula) → recordsOf letters (tok
 unfolding tokensOf recordsOf fileOf
 records-file letters (Letter k) = append-nil _
 records-file letters (Constant s) = append-nil _
-records-file letters (Minus f) = records-append letters (tokensOf f) (Gives minusCode ∷ []) ∙ ap (λ (l : List ℕ). l ++ commandRecord minusCode) (records-file letters f)
+records-file letters (Minus f) = records-append letters (tokensOf f) (Gives minusCode ∷ []) ∙ ap (λ (l : List ℕ). l ++ commandRecord minusCode)
+    (records-file letters f)
 records-file letters (Brackets f) = records-file letters f
 records-file letters (Joined o l r) =
     let c = Gives (codeOf o) ∷ [] in
@@ -67,7 +70,13 @@ records-file letters (Joined o l r) =
 -- ---- what writing comes to: a formula's file more, one word more on the stack, as many as it needs at most, its words among the proper ones
 abbrev pub after : List ℕ → Written → Formula → Written
 after letters w f =
-    record { end = w .end + length (fileOf letters f); height = w .height + 1; need = max (w .need) (w .height + needOf f); proper = w .proper && properIn letters f }
+    record {
+      end = w .end + length (fileOf letters f);
+      height = w .height + 1;
+      need = max (w .need) (w .height + needOf f);
+      proper = w .proper && properIn
+          letters f;
+    }
 
 -- two such are the same where their numbers are
 same : {e e' h h' n n' : ℕ} {p p' : Bool} → e ≡ e' → h ≡ h' → n ≡ n' → p ≡ p'
@@ -92,7 +101,8 @@ module _ (letters : List ℕ) where
       let a = fileOf letters l in
       let b = fileOf letters r in
       let c = commandRecord (codeOf o) in
-      same (omega (arith, length-append a (b ++ c), length-append b c)) (lowers o (w .height)) (omega arith) (and-assoc (w .proper) (properIn letters l) (properIn letters r))
+      same (omega (arith, length-append a (b ++ c), length-append b c)) (lowers o (w .height)) (omega arith) (and-assoc (w .proper) (properIn letters l)
+      (properIn letters r))
 
   pub walked-formula : (w : Written) (f : Formula) → walked letters w (tokensOf f) ≡ after letters w f
   unfolding tokensOf walked fileOf needOf properIn
@@ -118,7 +128,8 @@ code-small Over = omega arith
 
 joined-good : (o : Operator) (l r : Formula) → AllGood (tokensOf l) → AllGood (tokensOf r) → AllGood (tokensOf (Joined o l r))
 unfolding tokensOf AllGood
-joined-good o l r p q = good-append (tokensOf l) (tokensOf r ++ (Gives (codeOf o) ∷ [])) p (good-append (tokensOf r) (Gives (codeOf o) ∷ []) q (code-small o, omega arith))
+joined-good o l r p q = good-append (tokensOf l) (tokensOf r ++ (Gives (codeOf o) ∷ [])) p (good-append (tokensOf r) (Gives (codeOf o) ∷ []) q
+    (code-small o, omega arith))
 
 mutual
   unfolding tokensOf AllGood

@@ -23,7 +23,8 @@ use Rattle.formula.proofs.Texts.{read-is}
 use Rattle.formula.proofs.Tokens.{spells-postfix, records-file, walked-formula, sum-good}
 
 -- a call that is turned away
-pub away : {t : Translated} {n refusal : Refusal} {size : ℕ} {before : List ℕ} → t ≡ turnedAway n → refusal ≡ n → size ≡ 0 → Translates t refusal size before before
+pub away : {t : Translated} {n refusal : Refusal} {size : ℕ} {before : List ℕ} → t ≡ turnedAway n → refusal ≡ n → size ≡ 0 → Translates t refusal size before
+    before
 away {t} {n} {refusal} {size} {before} e r s =
     subst (λ (t : Translated). Translates t refusal size before before) (sym e) (record { refusal-is = r; size-is = s; after-is = refl; small = omega arith })
 
@@ -40,7 +41,8 @@ module _ (letters text : List ℕ) (room : ℕ) where
   unfolding translationOf
   text-long h e l = rw (eq-eqb (length letters) letterBytes h, ne-eqb (length text) 0 e, lt-ltb mostText (length text) l)
 
-  pub text-fits : length letters ≡ letterBytes → (length text ≡ 0 → ⊥) → length text ≤ mostText → translationOf letters text room ≡ judged letters room (formulaOf text)
+  pub text-fits : length letters ≡ letterBytes → (length text ≡ 0 → ⊥) → length text ≤ mostText → translationOf letters text room ≡ judged letters room
+      (formulaOf text)
   unfolding translationOf
   text-fits h e l = rw (eq-eqb (length letters) letterBytes h, ne-eqb (length text) 0 e, le-ltb mostText (length text) l)
 
@@ -78,13 +80,24 @@ module _ (letters : List ℕ) (room : ℕ) (ts : List Token) (w : Written) (is :
   too-much e n = rw (proper-is e, lt-ltb mostNeed (walked letters unwritten ts .need) (omega (arith, need-is)))
 
   pub no-room : w .proper ≡ true → w .need ≤ mostNeed → room < w .end → judgedBy letters room ts ≡ turnedAway NoRoom
-  no-room e n r = rw (proper-is e, le-ltb mostNeed (walked letters unwritten ts .need) (omega (arith, need-is)), lt-ltb room (length (recordsOf letters ts)) (omega (arith, end-is)))
+  no-room e n r = rw (
+    proper-is e,
+    le-ltb mostNeed (walked letters unwritten ts .need) (omega (arith, need-is)),
+    lt-ltb room (length (recordsOf letters ts))
+        (omega (arith, end-is)),
+  )
 
   done : w .proper ≡ true → w .need ≤ mostNeed → w .end ≤ room → judgedBy letters room ts ≡ record { refusal = Done; file = recordsOf letters ts }
-  done e n r = rw (proper-is e, le-ltb mostNeed (walked letters unwritten ts .need) (omega (arith, need-is)), le-ltb room (length (recordsOf letters ts)) (omega (arith, end-is)))
+  done e n r = rw (
+    proper-is e,
+    le-ltb mostNeed (walked letters unwritten ts .need) (omega (arith, need-is)),
+    le-ltb room (length (recordsOf letters ts))
+        (omega (arith, end-is)),
+  )
 
   -- the file stands at the front of what was lent
-  pub written : {bytes before after : List ℕ} → Spells bytes ts → length bytes ≤ mostText → room ≡ length before → w .proper ≡ true → w .need ≤ mostNeed → w .end ≤ room
+  pub written : {bytes before after : List ℕ} → Spells bytes ts → length bytes ≤ mostText → room ≡ length before → w .proper ≡ true → w .need ≤ mostNeed
+      → w .end ≤ room
       → after ≡ sets before 0 (recordsOf letters ts) → Translates (judgedBy letters room ts) Done (w .end) before after
   written {bytes} {before} {after} S short h e n r f =
       let few = records-few letters ts in
@@ -137,7 +150,8 @@ take-front : (a l : List ℕ) → take (length a) (a ++ l) ≡ a
 take-front [] l = refl
 take-front (x ∷ a) l = ap (λ (m : List ℕ). x ∷ m) (take-front a l)
 
-pub all : (text before after : List ℕ) (p : ℕ) → length text ≤ mostText → Reads text 0 before after (sumOf mostNested (drop (atOf 0) text)) p → length before ≡ mostText
+pub all : (text before after : List ℕ) (p : ℕ) → length text ≤ mostText → Reads text 0 before after (sumOf mostNested (drop (atOf 0) text)) p
+    → length before ≡ mostText
     → (p ≡ nowhere → ⊥) → atOf p ≡ length text → All text after p
 unfolding formulaOf
 all text before after p short R room n e = go (sumOf mostNested text) refl (from-first text before after p short R)

@@ -54,7 +54,8 @@ module _ {letters bytes before out : List ℕ} {ts : List Token} {i : ℕ} {w : 
   unfolding spelling AllGood
   digits-at b = go (W .left) here (W .good)
     where
-      go : (l : List Token) → getD bytes i 0 ∷ drop (i + 1) bytes ≡ spelling l → AllGood l → (i + 9 ≤ length bytes) × (areDigits (take 8 (drop (i + 1) bytes)) ≡ true)
+      go : (l : List Token) → getD bytes i 0 ∷ drop (i + 1) bytes ≡ spelling l → AllGood l → (i + 9 ≤ length bytes)
+          × (areDigits (take 8 (drop (i + 1) bytes)) ≡ true)
       go [] e g = absurd (let z = ap length e in omega arith)
       go (Gives c ∷ rest) e g = absurd (let z = head-is e in omega (arith, g .0))
       go (LetterAt k ∷ rest) e g = absurd (let z = head-is e in omega arith)
@@ -77,7 +78,8 @@ module _ {letters bytes before out : List ℕ} {ts : List Token} {i : ℕ} {w : 
       go (LetterAt k ∷ rest) e g = let z = head-is e in (omega arith, omega (arith, g .0))
 
   -- ---- a turn
-  pub command-on : {out' : List ℕ} {w' : Written} → getD bytes i 0 < 32 → w' ≡ commandedOf w (getD bytes i 0) → out' ≡ sets out (w .end) (commandRecord (getD bytes i 0))
+  pub command-on : {out' : List ℕ} {w' : Written} → getD bytes i 0 < 32 → w' ≡ commandedOf w (getD bytes i 0)
+      → out' ≡ sets out (w .end) (commandRecord (getD bytes i 0))
       → Walking letters bytes before ts out' (i + 1) w'
   unfolding spelling AllGood walked recordsOf
   command-on {out'} {w'} b e o = go (W .left) here (W .good) (W .walked-is) (W .stored-is)
@@ -95,11 +97,13 @@ module _ {letters bytes before out : List ℕ} {ts : List Token} {i : ℕ} {w : 
             spelling-is = tail-is s;
             good = g .1;
             walked-is = ap (λ (x : Written). walked letters x rest) e' ∙ v;
-            stored-is = ap (λ (x : Written). sets out' (x .end) (recordsOf letters rest)) e' ∙ ap (λ (l : List ℕ). sets l (w .end + 5) (recordsOf letters rest)) (o ∙ ap (λ (x : ℕ). sets out (w .end) (commandRecord x)) z)
+            stored-is = ap (λ (x : Written). sets out' (x .end) (recordsOf letters rest)) e' ∙ ap (λ (l : List ℕ). sets l (w .end + 5) (recordsOf letters rest))
+                (o ∙ ap (λ (x : ℕ). sets out (w .end) (commandRecord x)) z)
                 ∙ sets-append (commandRecord c) (recordsOf letters rest) out (w .end) (w .end + 5) refl ∙ r;
           }
 
-  pub digits-on : {out' : List ℕ} {w' : Written} (word : ℕ) → getD bytes i 0 ≡ 0x23 → word ≡ constantWord (take 8 (drop (i + 1) bytes)) → w' ≡ pushedOf w word → out' ≡ sets out (w .end) (pushRecord word)
+  pub digits-on : {out' : List ℕ} {w' : Written} (word : ℕ) → getD bytes i 0 ≡ 0x23 → word ≡ constantWord (take 8 (drop (i + 1) bytes)) → w' ≡ pushedOf w word
+      → out' ≡ sets out (w .end) (pushRecord word)
       → Walking letters bytes before ts out' (i + 9) w'
   unfolding spelling AllGood walked recordsOf
   digits-on {out'} {w'} word b y e o = go (W .left) here (W .good) (W .walked-is) (W .stored-is)
@@ -117,14 +121,17 @@ module _ {letters bytes before out : List ℕ} {ts : List Token} {i : ℕ} {w : 
           let k : i + 9 ≡ i + 1 + 8 = omega arith in
           record {
             left = rest;
-            spelling-is = ap (λ (n : ℕ). drop n bytes) k ∙ sym (drop-drop 8 (i + 1) bytes) ∙ ap (λ (n : ℕ). drop n (drop (i + 1) bytes)) (sym (g .0 .0)) ∙ back-is d (spelling rest) (drop (i + 1) bytes) t;
+            spelling-is = ap (λ (n : ℕ). drop n bytes) k ∙ sym (drop-drop 8 (i + 1) bytes) ∙ ap (λ (n : ℕ). drop n (drop (i + 1) bytes)) (sym (g .0 .0))
+                ∙ back-is d (spelling rest) (drop (i + 1) bytes) t;
             good = g .1;
             walked-is = ap (λ (x : Written). walked letters x rest) e' ∙ v;
-            stored-is = ap (λ (x : Written). sets out' (x .end) (recordsOf letters rest)) e' ∙ ap (λ (l : List ℕ). sets l (w .end + 8) (recordsOf letters rest)) (o ∙ ap (λ (x : ℕ). sets out (w .end) (pushRecord x)) z)
+            stored-is = ap (λ (x : Written). sets out' (x .end) (recordsOf letters rest)) e' ∙ ap (λ (l : List ℕ). sets l (w .end + 8) (recordsOf letters rest))
+                (o ∙ ap (λ (x : ℕ). sets out (w .end) (pushRecord x)) z)
                 ∙ sets-append (pushRecord (constantWord d)) (recordsOf letters rest) out (w .end) (w .end + 8) refl ∙ r;
           }
 
-  pub letter-on : {out' : List ℕ} {w' : Written} (word : ℕ) → 32 ≤ getD bytes i 0 → (getD bytes i 0 ≡ 0x23 → ⊥) → word ≡ letterWord letters (getD bytes i 0 - 0x61) → w' ≡ pushedOf w word
+  pub letter-on : {out' : List ℕ} {w' : Written} (word : ℕ) → 32 ≤ getD bytes i 0 → (getD bytes i 0 ≡ 0x23 → ⊥) → word ≡ letterWord letters
+      (getD bytes i 0 - 0x61) → w' ≡ pushedOf w word
       → out' ≡ sets out (w .end) (pushRecord word) → Walking letters bytes before ts out' (i + 1) w'
   unfolding spelling AllGood walked recordsOf
   letter-on {out'} {w'} word n m y e o = go (W .left) here (W .good) (W .walked-is) (W .stored-is)
@@ -144,7 +151,8 @@ module _ {letters bytes before out : List ℕ} {ts : List Token} {i : ℕ} {w : 
             spelling-is = tail-is s;
             good = g .1;
             walked-is = ap (λ (x : Written). walked letters x rest) e' ∙ v;
-            stored-is = ap (λ (x : Written). sets out' (x .end) (recordsOf letters rest)) e' ∙ ap (λ (l : List ℕ). sets l (w .end + 8) (recordsOf letters rest)) (o ∙ ap (λ (x : ℕ). sets out (w .end) (pushRecord x)) z)
+            stored-is = ap (λ (x : Written). sets out' (x .end) (recordsOf letters rest)) e' ∙ ap (λ (l : List ℕ). sets l (w .end + 8) (recordsOf letters rest))
+                (o ∙ ap (λ (x : ℕ). sets out (w .end) (pushRecord x)) z)
                 ∙ sets-append (pushRecord (letterWord letters k)) (recordsOf letters rest) out (w .end) (w .end + 8) refl ∙ r;
           }
 
@@ -154,7 +162,8 @@ pub walked-all : {letters bytes before out : List ℕ} {ts : List Token} {i : �
 unfolding spelling walked recordsOf
 walked-all {letters} {bytes} {before} {out} {ts} {i} {w} h W = go (W .left) (W .spelling-is) (W .walked-is) (W .stored-is)
   where
-    go : (l : List Token) → drop i bytes ≡ spelling l → walked letters w l ≡ walked letters unwritten ts → sets out (w .end) (recordsOf letters l) ≡ sets before 0 (recordsOf letters ts)
+    go : (l : List Token) → drop i bytes ≡ spelling l → walked letters w l ≡ walked letters unwritten ts → sets out (w .end) (recordsOf letters l) ≡ sets before
+        0 (recordsOf letters ts)
         → (w ≡ walked letters unwritten ts) × (out ≡ sets before 0 (recordsOf letters ts))
     go [] s v r = (v, r)
     go (Gives c ∷ rest) s v r = absurd (let z = ap length s in let n = length-drop i bytes in omega arith)

@@ -1,4 +1,5 @@
--- A formula in postfix order, as the readers leave it before its records are written: a byte for a letter, an operation or a minus, nine for a constant; and what
+-- A formula in postfix order, as the readers leave it before its records are written: a byte for a letter, an operation or a minus, nine for a constant; and
+-- what
 -- writing its records leaves. Definitions only. Assumes nothing.
 use Prim.Native.Nat.{ℕ, _+_, _-_, _<_, max}
 use Prim.Native.Char.{code}

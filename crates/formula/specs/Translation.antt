@@ -76,4 +76,5 @@ pub record Translates (t : Translated) (refusal : Refusal) (size : ℕ) (before 
 
 -- a file written beside its tokens, whichever the bytes spell
 abbrev pub Judges : List ℕ → List ℕ → Refusal → ℕ → List ℕ → List ℕ → Type 0
-Judges letters bytes refusal size before after = (ts : List Token) → Spells bytes ts → Translates (judgedBy letters (length before) ts) refusal size before after
+Judges letters bytes refusal size before after = (ts : List Token) → Spells bytes ts → Translates (judgedBy letters (length before) ts) refusal size before
+    after

@@ -19,7 +19,8 @@ ghost use Rattle.formula.specs.Told.{mostText};
 ghost use Rattle.formula.specs.Postfix.{Spelt};
 ghost use Rattle.formula.specs.Translation.{letterBytes, numberOf, translationOf, Judges, Measures, Translates};
 
-// The bytes of the letters' words, the most bytes of a text, the words of the stack, and how deep brackets and minus signs may nest.
+// The bytes of the letters' words, the most bytes of a text, the words of the stack, and how deep brackets and minus
+// signs may nest.
 pub const LETTER_BYTES: usize = 32;
 
 pub const MOST_TEXT: usize = 256;
@@ -75,7 +76,8 @@ fn turn_away(refusal: Refusal) -> Translation
 // The file of a formula in postfix order, or why there is none.
 fn written(bytes: &[u8], letters: &[u8], file: &mut [u8]) -> Translation
     requires { ⌜ Spelt (now bytes) × (length (now bytes) ≤ mostText) × (length (now letters) ≡ letterBytes) ⌝ }
-    ensures { λ r. ⌜ Judges (now (letters .entry)) (now (bytes .entry)) (r .refusal) (r .size) (now (file .entry)) (now (file .exit)) ⌝ }
+    ensures { λ r. ⌜ Judges (now (letters .entry)) (now (bytes .entry)) (r .refusal) (r .size) (now (file .entry))
+        (now (file .exit)) ⌝ }
 {
     let w = measured(bytes, letters);
     if !w.proper {
@@ -96,7 +98,8 @@ fn written(bytes: &[u8], letters: &[u8], file: &mut [u8]) -> Translation
 
 // One formula to a record file at the front of `file`. A refusal writes nothing.
 pub fn translate(text: &[u8], letters: &[u8], file: &mut [u8]) -> Translation
-    ensures { λ r. ⌜ Translates (translationOf (now (letters .entry)) (now (text .entry)) (length (now (file .entry)))) (r .refusal) (r .size) (now (file .entry)) (now (file .exit)) ⌝ }
+    ensures { λ r. ⌜ Translates (translationOf (now (letters .entry)) (now (text .entry)) (length (now (file .entry))))
+        (r .refusal) (r .size) (now (file .entry)) (now (file .exit)) ⌝ }
 {
     if letters.len() != LETTER_BYTES {
         return turn_away(Refusal::NoFormula);

@@ -49,7 +49,8 @@ fn copy(text: &[u8], out: &mut [u8; 256], at: usize, end: usize)
 // A hash, and behind it eight digits.
 fn constant(text: &[u8], out: &mut [u8; 256], place: u32) -> u32
     requires { ⌜ Asks (now text) place × (getD (now text) (atOf place) 0 ≡ 0x23) ⌝ }
-    ensures { λ r. ⌜ Reads (now (text .entry)) place (now (out .entry)) (now (out .exit)) (constantOf (drop (atOf place + 1) (now (text .entry)))) r ⌝ }
+    ensures { λ r. ⌜ Reads (now (text .entry)) place (now (out .entry)) (now (out .exit))
+        (constantOf (drop (atOf place + 1) (now (text .entry)))) r ⌝ }
 {
     let at = at_of(place);
     if text.len() - at < 9 {
@@ -77,7 +78,8 @@ fn letter(out: &mut [u8; 256], place: u32, b: u8) -> u32
 // A letter, or a hash with eight digits.
 fn leaf(text: &[u8], out: &mut [u8; 256], place: u32) -> u32
     requires { ⌜ Asks (now text) place ⌝ }
-    ensures { λ r. ⌜ Reads (now (text .entry)) place (now (out .entry)) (now (out .exit)) (leafOf (drop (atOf place) (now (text .entry)))) r ⌝ }
+    ensures { λ r. ⌜ Reads (now (text .entry)) place (now (out .entry)) (now (out .exit))
+        (leafOf (drop (atOf place) (now (text .entry)))) r ⌝ }
 {
     let b = byte_at(text, at_of(place));
     if is_letter(b) {
@@ -92,7 +94,8 @@ fn leaf(text: &[u8], out: &mut [u8; 256], place: u32) -> u32
 // A command behind its operands, where the last of them is whole.
 fn joined(out: &mut [u8; 256], right: u32, code: u8) -> u32
     requires { ⌜ right < 131072 ⌝ }
-    ensures { λ r. ⌜ (r ≡ longerOf right) × ((right ≡ nowhere → ⊥) → now (out .exit) ≡ set (now (out .entry)) (endOf right) code) ⌝ }
+    ensures { λ r. ⌜ (r ≡ longerOf right) × ((right ≡ nowhere → ⊥) → now (out .exit) ≡ set (now (out .entry))
+        (endOf right) code) ⌝ }
 {
     if right == NOWHERE {
         return NOWHERE;
@@ -116,7 +119,8 @@ fn bracketed(text: &[u8], place: u32) -> u32
 // A sum: products joined by plus or minus, left to right.
 pub fn sum(text: &[u8], out: &mut [u8; 256], place: u32, depth: u32) -> u32
     requires { ⌜ Asks (now text) place ⌝ }
-    ensures { λ r. ⌜ Reads (now (text .entry)) place (now (out .entry)) (now (out .exit)) (sumOf depth (drop (atOf place) (now (text .entry)))) r ⌝ }
+    ensures { λ r. ⌜ Reads (now (text .entry)) place (now (out .entry)) (now (out .exit))
+        (sumOf depth (drop (atOf place) (now (text .entry)))) r ⌝ }
 {
     let mut left = product(text, out, place, depth);
     loop {
@@ -132,7 +136,8 @@ pub fn sum(text: &[u8], out: &mut [u8; 256], place: u32, depth: u32) -> u32
 // A product: factors joined by `*` or `/`, left to right.
 fn product(text: &[u8], out: &mut [u8; 256], place: u32, depth: u32) -> u32
     requires { ⌜ Asks (now text) place ⌝ }
-    ensures { λ r. ⌜ Reads (now (text .entry)) place (now (out .entry)) (now (out .exit)) (productOf depth (drop (atOf place) (now (text .entry)))) r ⌝ }
+    ensures { λ r. ⌜ Reads (now (text .entry)) place (now (out .entry)) (now (out .exit))
+        (productOf depth (drop (atOf place) (now (text .entry)))) r ⌝ }
 {
     let mut left = factor(text, out, place, depth);
     loop {
@@ -148,7 +153,8 @@ fn product(text: &[u8], out: &mut [u8; 256], place: u32, depth: u32) -> u32
 // A factor: a leaf, or, with a level left, a minus before a factor or brackets round a sum.
 fn factor(text: &[u8], out: &mut [u8; 256], place: u32, depth: u32) -> u32
     requires { ⌜ Asks (now text) place ⌝ }
-    ensures { λ r. ⌜ Reads (now (text .entry)) place (now (out .entry)) (now (out .exit)) (factorOf depth (drop (atOf place) (now (text .entry)))) r ⌝ }
+    ensures { λ r. ⌜ Reads (now (text .entry)) place (now (out .entry)) (now (out .exit))
+        (factorOf depth (drop (atOf place) (now (text .entry)))) r ⌝ }
 {
     if depth == 0 {
         return leaf(text, out, place);

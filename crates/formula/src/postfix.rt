@@ -58,7 +58,8 @@ fn lowered(height: usize, code: u8) -> usize
 // A command.
 fn commanded(out: &mut [u8], w: Written, code: u8) -> Written
     requires { ⌜ w .end ≤ 2048 ⌝ }
-    ensures { λ r. ⌜ (r ≡ commandedOf w code) × (now (out .exit) ≡ sets (now (out .entry)) (w .end) (commandRecord code)) ⌝ }
+    ensures { λ r. ⌜ (r ≡ commandedOf w code)
+        × (now (out .exit) ≡ sets (now (out .entry)) (w .end) (commandRecord code)) ⌝ }
 {
     command_record(out, w.end, code);
     Written {

@@ -1,5 +1,7 @@
-// The program behind ./formula: reads 32 bytes, the words of a to h, and behind them the text of a formula, up to one byte
-// more than a formula has, from standard input; writes the record file, or `refused` and the number, to standard output,
+// The program behind ./formula: reads 32 bytes, the words of a to h, and behind them the text of a formula, up to one
+// byte
+// more than a formula has, from standard input; writes the record file, or `refused` and the number, to standard
+// output,
 // and `end` behind either.
 use libc::STDIN_FILENO;
 use libc::STDOUT_FILENO;

@@ -1,4 +1,5 @@
--- The bytes of a buffer, entry by entry: the i-th block of c bytes is the i-th entry's, and a list whose blocks are the entries' is the buffer. Assumes nothing.
+-- The bytes of a buffer, entry by entry: the i-th block of c bytes is the i-th entry's, and a list whose blocks are the entries' is the buffer. Assumes
+-- nothing.
 use mathlib.Core.Path.{_≡_, refl, sym, ap, ap₂, _∙_}
 use mathlib.Core.List.{List, [], _∷_, _++_, append-assoc}
 use Prim.Native.Nat.{ℕ, zero, suc, _+_, _*_, _<_}
@@ -41,7 +42,8 @@ module _ (c : ℕ) (le : ℕ → List ℕ) (size : (x : ℕ) → length (le x) �
   pub block : (n i : ℕ) (rest : List ℕ) → i < n → take c (drop (i * c) (firstBytes le f n ++ rest)) ≡ le (f i .bits)
   block n i rest h = block-from n 0 i rest h ∙ ap (λ (k : ℕ). le (f k .bits)) (omega arith)
 
-  whole-from : (n j : ℕ) (l : List ℕ) → length l ≡ n * c → ((i : ℕ) → i < n → le (f (j + i) .bits) ≡ take c (drop (i * c) l)) → bytesOf le (entriesFrom f j n) ≡ l
+  whole-from : (n j : ℕ) (l : List ℕ) → length l ≡ n * c → ((i : ℕ) → i < n → le (f (j + i) .bits) ≡ take c (drop (i * c) l))
+      → bytesOf le (entriesFrom f j n) ≡ l
   unfolding bytesOf entriesFrom
   whole-from zero j [] e h = refl
   whole-from zero j (b ∷ l) e h = absurd (none (e ∙ zero-mul c))
@@ -52,7 +54,8 @@ module _ (c : ℕ) (le : ℕ → List ℕ) (size : (x : ℕ) → length (le x) �
       ap₂ (λ (s t : List ℕ). s ++ t)
       (ap (λ (k : ℕ). le (f k .bits)) (omega arith) ∙ h 0 (omega arith) ∙ ap (λ (k : ℕ). take c (drop k l)) (zero-mul c))
       (whole-from n (j + 1) (drop c l) (omega (arith, length-drop c l, suc-mul n c)) (λ i g.
-      ap (λ (k : ℕ). le (f k .bits)) (omega arith) ∙ h (suc i) (omega arith) ∙ ap (take c) (sym (drop-drop (i * c) c l ∙ ap (λ (k : ℕ). drop k l) (sym (one-more i))))))
+      ap (λ (k : ℕ). le (f k .bits)) (omega arith) ∙ h (suc i) (omega arith)
+      ∙ ap (take c) (sym (drop-drop (i * c) c l ∙ ap (λ (k : ℕ). drop k l) (sym (one-more i))))))
       ∙ take-append-drop c l
 
   -- a list of n blocks that are the entries'

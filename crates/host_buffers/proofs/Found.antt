@@ -1,4 +1,5 @@
--- The reply to a buffer, told from its entries: the first that is refused, where one is, else how many were brought to 24 bits; and one of the two it is. Assumes nothing.
+-- The reply to a buffer, told from its entries: the first that is refused, where one is, else how many were brought to 24 bits; and one of the two it is.
+-- Assumes nothing.
 use mathlib.Core.Path.{_≡_, refl, ap, ap₂, _∙_, subst}
 use mathlib.Core.Logic.{_⊎_, inl, inr, ⊎-elim}
 use mathlib.Core.Bool.{Bool, true, false}

@@ -1,4 +1,5 @@
--- A buffer looked through entry by entry: what is left to look at has the first refused entry of all, and the entries brought to 24 bits are those counted so far and those left. Assumes nothing.
+-- A buffer looked through entry by entry: what is left to look at has the first refused entry of all, and the entries brought to 24 bits are those counted so
+-- far and those left. Assumes nothing.
 use mathlib.Core.Path.{_≡_, refl, sym, ap, _∙_, subst}
 use mathlib.Core.Bool.{cond}
 use mathlib.Core.List.{List, [], _∷_}

@@ -56,11 +56,13 @@ module _ (c : ℕ) (le : ℕ → List ℕ) (size : (x : ℕ) → length (le x) �
   write-length : (d e : List ℕ) (n i : ℕ) → n * c ≤ length d → Written c le f d e n i → length e ≡ length d
   write-length d e n i h w =
       let g = mul-le-mul-right c (w .left) in
-      ap length (w .so-far) ∙ length-append (firstBytes le f i) (drop (i * c) d) ∙ ap (λ (x : ℕ). x + length (drop (i * c) d)) (first-length i) ∙ omega (arith, length-drop (i * c) d)
+      ap length (w .so-far) ∙ length-append (firstBytes le f i) (drop (i * c) d) ∙ ap (λ (x : ℕ). x + length (drop (i * c) d)) (first-length i)
+      ∙ omega (arith, length-drop (i * c) d)
 
   -- one entry more
   pub write-on : (d e y : List ℕ) (n i : ℕ) → n * c ≤ length d → i < n → Written c le f d e n i → y ≡ le (f i .bits)
-      → Written c le f d (take (i * c) e ++ (y ++ drop (i * c + c - i * c) (drop (i * c) e))) n (i + 1) × (length (take (i * c) e ++ (y ++ drop (i * c + c - i * c) (drop (i * c) e))) ≡ length d)
+      → Written c le f d (take (i * c) e ++ (y ++ drop (i * c + c - i * c) (drop (i * c) e))) n (i + 1)
+      × (length (take (i * c) e ++ (y ++ drop (i * c + c - i * c) (drop (i * c) e))) ≡ length d)
   write-on d e y n i r h w q = (v, write-length d (take (i * c) e ++ (y ++ drop (i * c + c - i * c) (drop (i * c) e))) n (i + 1) r v)
     where
       same : (k : ℕ) → k + c - k ≡ c
@@ -74,7 +76,8 @@ module _ (c : ℕ) (le : ℕ → List ℕ) (size : (x : ℕ) → length (le x) �
 
       z : drop (i * c + c - i * c) (drop (i * c) e) ≡ drop ((i + 1) * c) d
       z =
-          ap₂ (λ (k : ℕ) (t : List ℕ). drop k t) (same (i * c)) (ap (drop (i * c)) (w .so-far) ∙ drop-at (firstBytes le f i) (drop (i * c) d) (i * c) (first-length i))
+          ap₂ (λ (k : ℕ) (t : List ℕ). drop k t) (same (i * c)) (ap (drop (i * c)) (w .so-far) ∙ drop-at (firstBytes le f i) (drop (i * c) d)
+          (i * c) (first-length i))
           ∙ drop-drop c (i * c) d ∙ ap (λ (k : ℕ). drop k d) (more i)
 
       v : Written c le f d (take (i * c) e ++ (y ++ drop (i * c + c - i * c) (drop (i * c) e))) n (i + 1)

@@ -22,7 +22,8 @@ use Rattle.host_buffers.specs.declared.Reply.{Reply}
 
 -- ---- one entry
 
--- what each case of an answer says: the number of its refusal; the word or the bits of the f64 that is written for it, 0 where there is none; and 1 where it was brought to 24 bits
+-- what each case of an answer says: the number of its refusal; the word or the bits of the f64 that is written for it, 0 where there is none; and 1 where it
+-- was brought to 24 bits
 abbrev pub outwardEntry : Outward → Entry
 outwardEntry (Float x) = record { refusal = 0; bits = toBits binary64 x; rounded = 0 }
 outwardEntry (Refused r) = record { refusal = numberOf r; bits = 0; rounded = 0 }

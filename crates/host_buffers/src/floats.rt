@@ -16,7 +16,8 @@ ghost use Prim.Native.Nat.{_+_, _*_, _/_, _^_, _≤_, _<_};
 ghost use lib.ListN.{length, drop};
 ghost use Rattle.little.specs.Little.{le4, eightAt};
 ghost use Rattle.host_floats.specs.Double.{inwardOf};
-ghost use Rattle.host_buffers.specs.Buffers.{wordSize, floatSize, inwardEntry, floatEntries, replyTo, bytesOf, floatsTurn, Turns};
+ghost use Rattle.host_buffers.specs.Buffers.{wordSize, floatSize, inwardEntry, floatEntries, replyTo, bytesOf};
+ghost use Rattle.host_buffers.specs.Buffers.{floatsTurn, Turns};
 
 // What an f64 says under a rule.
 fn entry(rule: Rule, bits: u64) -> Entry
@@ -77,7 +78,8 @@ fn look(rule: Rule, floats: &[u8]) -> Reply
 // The word of each f64, in turn.
 fn write(rule: Rule, floats: &[u8], out: &mut [u8])
     requires { ⌜ length (now floats) / floatSize * wordSize ≤ length (now out) ⌝ }
-    ensures { λ _. ⌜ now (out .exit) ≡ bytesOf le4 (floatEntries rule (now (floats .entry))) ++ drop (length (now (floats .entry)) / floatSize * wordSize) (now (out .entry)) ⌝ }
+    ensures { λ _. ⌜ now (out .exit) ≡ bytesOf le4 (floatEntries rule (now (floats .entry)))
+        ++ drop (length (now (floats .entry)) / floatSize * wordSize) (now (out .entry)) ⌝ }
 {
     let n = floats.len() / super::FLOAT_SIZE;
     let mut i = 0;
@@ -92,7 +94,8 @@ fn write(rule: Rule, floats: &[u8], out: &mut [u8])
 
 // F64s to words: 17, 18, 8, then 10, 15, 12 or 11 with the first f64 that is refused; `out` is written on 0 alone.
 pub fn f64_to_words(rule: u32, floats: &[u8], out: &mut [u8]) -> Reply
-    ensures { λ r. ⌜ Turns (floatsTurn rule (now (floats .entry)) (now (out .entry))) (r .refusal) (r .number) (now (out .exit)) ⌝ }
+    ensures { λ r. ⌜ Turns (floatsTurn rule (now (floats .entry)) (now (out .entry))) (r .refusal) (r .number)
+        (now (out .exit)) ⌝ }
 {
     if !is_rule(rule) {
         return super::away(Refusal::BadRule);

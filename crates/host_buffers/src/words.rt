@@ -13,7 +13,8 @@ ghost use Prim.Native.Nat.{_+_, _*_, _/_, _≤_};
 ghost use lib.ListN.{length, drop};
 ghost use Rattle.little.specs.Little.{le8, fourAt};
 ghost use Rattle.host_floats.specs.Double.{outwardOf};
-ghost use Rattle.host_buffers.specs.Buffers.{wordSize, floatSize, outwardEntry, wordEntries, replyTo, bytesOf, wordsTurn, Turns};
+ghost use Rattle.host_buffers.specs.Buffers.{wordSize, floatSize, outwardEntry, wordEntries, replyTo, bytesOf};
+ghost use Rattle.host_buffers.specs.Buffers.{wordsTurn, Turns};
 
 // What a word says.
 fn entry(word: u32) -> Entry
@@ -67,7 +68,8 @@ fn look(words: &[u8]) -> Reply
 // The f64 of each word, in turn.
 fn write(words: &[u8], out: &mut [u8])
     requires { ⌜ length (now words) / wordSize * floatSize ≤ length (now out) ⌝ }
-    ensures { λ _. ⌜ now (out .exit) ≡ bytesOf le8 (wordEntries (now (words .entry))) ++ drop (length (now (words .entry)) / wordSize * floatSize) (now (out .entry)) ⌝ }
+    ensures { λ _. ⌜ now (out .exit) ≡ bytesOf le8 (wordEntries (now (words .entry)))
+        ++ drop (length (now (words .entry)) / wordSize * floatSize) (now (out .entry)) ⌝ }
 {
     let n = words.len() / super::WORD_SIZE;
     let mut i = 0;
@@ -82,7 +84,8 @@ fn write(words: &[u8], out: &mut [u8])
 
 // Words to f64s: 18, 8, then 4 with the first word that is not proper; `out` is written on 0 alone.
 pub fn words_to_f64(words: &[u8], out: &mut [u8]) -> Reply
-    ensures { λ r. ⌜ Turns (wordsTurn (now (words .entry)) (now (out .entry))) (r .refusal) (r .number) (now (out .exit)) ⌝ }
+    ensures { λ r. ⌜ Turns (wordsTurn (now (words .entry)) (now (out .entry))) (r .refusal) (r .number)
+        (now (out .exit)) ⌝ }
 {
     if words.len() % super::WORD_SIZE != 0 {
         return super::away(Refusal::PartEntry);

@@ -1,8 +1,10 @@
--- An f32 has the value of one proper word at most; having one's value, being infinite or no number, being too large and being too small exclude each other, and the last three exclude being minus zero. Assumes nothing.
+-- An f32 has the value of one proper word at most; having one's value, being infinite or no number, being too large and being too small exclude each other, and
+-- the last three exclude being minus zero. Assumes nothing.
 use mathlib.Core.Path.{_≡_, sym, ap, _∙_, subst}
 use mathlib.Core.Logic.{_⊎_, inl, inr, ⊎-elim}
 use Prim.Native.Nat.{ℕ, _*_, _^_, _≤_, _<_}
-use native.Mathlib.Nat.{eq-of-mul-eq-mul-right, mul-assoc, mul-comm, mul-right-comm, zero-mul, one-mul, mul-le-mul-right, mul-lt-mul-of-pos-right, mul-pos, lt-irrefl, lt-of-lt-of-le, lt-of-le-of-lt, le-trans, le-of-eq}
+use native.Mathlib.Nat.{eq-of-mul-eq-mul-right, mul-assoc, mul-comm, mul-right-comm, zero-mul, one-mul, mul-le-mul-right, mul-lt-mul-of-pos-right, mul-pos}
+use native.Mathlib.Nat.{lt-irrefl, lt-of-lt-of-le, lt-of-le-of-lt, le-trans, le-of-eq}
 use lib.Pow.{pow-pos}
 use lib.Ieee.{Float, nan, inf, fin, up, down}
 use lib.Ieee.Fits.{down-pos, up-pos}

@@ -20,7 +20,8 @@ use Rattle.host_floats.proofs.Patterns.{joined, rejoined}
 use Rattle.host_floats.proofs.Sizes.{of-minus}
 use Rattle.host_floats.proofs.Words.{proper-cases, size-some}
 use Rattle.host_floats.proofs.Outward.{bits-some, word-value}
-use Rattle.host_floats.proofs.Apart.{one-word, held-endless, held-large, held-small, endless-large, endless-small, large-small, endless-minus, minus-large, minus-small}
+use Rattle.host_floats.proofs.Apart.{one-word, held-endless, held-large, held-small, endless-large, endless-small, large-small, endless-minus}
+use Rattle.host_floats.proofs.Apart.{minus-large, minus-small}
 use Rattle.host_floats.proofs.Inward.{parts, Right, held, endless, minus, large, small, right}
 
 -- ---- each answer, given the value
@@ -99,7 +100,8 @@ unfolding takenOf
 bits-back p w l e = go (eqb (exponentField p) 255) (eqb p minusZero) (leb 190 (exponentField p)) (eqb p 0) (ltb (exponentField p) 62) refl refl refl e
   where
     go : (t₁ t₂ t₃ t₄ t₅ : Bool) → leb 190 (exponentField p) ≡ t₃ → eqb p 0 ≡ t₄ → ltb (exponentField p) 62 ≡ t₅
-        → cond t₁ (Refused NotFinite) (cond t₂ (Refused MinusZero) (cond t₃ (Refused TooLarge) (cond t₄ (Word 0) (cond t₅ (Refused TooSmall) (Word (wordOf p)))))) ≡ Word w → hostBits w ≡ p
+        → cond t₁ (Refused NotFinite) (cond t₂ (Refused MinusZero)
+        (cond t₃ (Refused TooLarge) (cond t₄ (Word 0) (cond t₅ (Refused TooSmall) (Word (wordOf p)))))) ≡ Word w → hostBits w ≡ p
     go true t₂ t₃ t₄ t₅ e₃ e₄ e₅ e = let z : _≡_ {A = ℕ} 0 1 = (cc) in absurd (omega arith)
     go false true t₃ t₄ t₅ e₃ e₄ e₅ e = let z : _≡_ {A = ℕ} 0 1 = (cc) in absurd (omega arith)
     go false false true t₄ t₅ e₃ e₄ e₅ e = let z : _≡_ {A = ℕ} 0 1 = (cc) in absurd (omega arith)

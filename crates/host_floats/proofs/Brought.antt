@@ -4,7 +4,8 @@ use mathlib.Core.Path.{_≡_, refl, sym, ap, _∙_, subst, subst₂}
 use mathlib.Core.Logic.{_⊎_, inl, inr, ⊎-elim}
 use mathlib.Core.Bool.{Bool, true, false, cond}
 use Prim.Native.Nat.{ℕ, zero, suc, _+_, _-_, _*_, _%_, _^_, _≤_, _<_}
-use native.Mathlib.Nat.{le-trans, lt-of-lt-of-le, lt-irrefl, not-le-of-lt, mul-comm, mul-right-comm, mul-pos, mul-le-mul, mul-le-mul-right, mul-lt-mul-of-pos-right, zero-mul, mod-lt}
+use native.Mathlib.Nat.{le-trans, lt-of-lt-of-le, lt-irrefl, not-le-of-lt, mul-comm, mul-right-comm, mul-pos, mul-le-mul, mul-le-mul-right}
+use native.Mathlib.Nat.{mul-lt-mul-of-pos-right, zero-mul, mod-lt}
 use native.Mathlib.Omega.{arith}
 use lib.Dec.{ltb, eqb, lit<, lit≤}
 use lib.IntN.{ℤ, pos, negℤ, natAbs, _-ℤ_}
@@ -131,12 +132,14 @@ module _ (rule : Rule) (p : ℕ) (lo : 958 ≤ doubleField p) (hi : doubleField 
   value = normal-value p (omega arith) hi
 
   least : 2 ^ 52 * 2 ^ 957 ≤ doubleSize p
-  least = mul-le-mul {n₁ = 2 ^ 52} {m₁ = 2 ^ 957} {n₂ = 2 ^ 52 + doubleFraction p} {m₂ = 2 ^ (doubleField p - 1)} (omega arith) (pow-mono {i = 957} {j = doubleField p - 1} (omega arith))
+  least = mul-le-mul {n₁ = 2 ^ 52} {m₁ = 2 ^ 957} {n₂ = 2 ^ 52 + doubleFraction p} {m₂ = 2 ^ (doubleField p - 1)} (omega arith)
+      (pow-mono {i = 957} {j = doubleField p - 1} (omega arith))
 
   most : doubleField p < 1086 → doubleSize p ≤ 2 ^ 53 * 2 ^ 1084
   most h =
       let f : doubleFraction p < 2 ^ 52 = mod-lt p (pow-pos 52) in
-      mul-le-mul {n₁ = 2 ^ 52 + doubleFraction p} {m₁ = 2 ^ (doubleField p - 1)} {n₂ = 2 ^ 53} {m₂ = 2 ^ 1084} (omega arith) (pow-mono {i = doubleField p - 1} {j = 1084} (omega arith))
+      mul-le-mul {n₁ = 2 ^ 52 + doubleFraction p} {m₁ = 2 ^ (doubleField p - 1)} {n₂ = 2 ^ 53} {m₂ = 2 ^ 1084} (omega arith)
+      (pow-mono {i = doubleField p - 1} {j = 1084} (omega arith))
 
   positive : 0 < doubleSize p
   positive = lt-of-lt-of-le (lit< {m = 0} {n = 2 ^ 52 * 2 ^ 957} tt) least
@@ -170,7 +173,8 @@ module _ (rule : Rule) (p : ℕ) (lo : 958 ≤ doubleField p) (hi : doubleField 
       (subst₂ (λ (m : ℕ) (e : ℤ). PairBy rule (natAbs (withSign (doubleSign p) (doubleSize p))) (2 ^ 1074) m e) (sym (c .digits)) (sym at) (c .pair)) in
       record {
         word = proper-word;
-        sign = signed-of (ofBits binary64 p) (doubleSign p) (negative (r .word)) (doubleSize p) (2 ^ 1074) value (sym (c .sign ∙ sign-of (doubleSign p) (doubleSize p) positive));
+        sign = signed-of (ofBits binary64 p) (doubleSign p) (negative (r .word)) (doubleSize p) (2 ^ 1074) value
+            (sym (c .sign ∙ sign-of (doubleSign p) (doubleSize p) positive));
         pair = pair-of rule (ofBits binary64 p) (doubleSign p) (doubleSize p) (2 ^ 1074) (mantissa (r .word)) (exponent (r .word)) (pow-pos 1074) value pair;
       }
 
@@ -182,7 +186,8 @@ module _ (rule : Rule) (p : ℕ) (lo : 958 ≤ doubleField p) (hi : doubleField 
       given h =
           large-by rule (ofBits binary64 p) (doubleSign p) (doubleSize p) (2 ^ 1074) (pow-pos 1074) value
           (le-trans (lit≤ {m = 2 ^ 63 * 2 ^ 1074} {n = 2 ^ 52 * 2 ^ 1085} tt)
-          (mul-le-mul {n₁ = 2 ^ 52} {m₁ = 2 ^ 1085} {n₂ = 2 ^ 52 + doubleFraction p} {m₂ = 2 ^ (doubleField p - 1)} (omega arith) (pow-mono {i = 1085} {j = doubleField p - 1} (omega arith))))
+          (mul-le-mul {n₁ = 2 ^ 52} {m₁ = 2 ^ 1085} {n₂ = 2 ^ 52 + doubleFraction p} {m₂ = 2 ^ (doubleField p - 1)} (omega arith)
+          (pow-mono {i = 1085} {j = doubleField p - 1} (omega arith))))
 
       rounded : doubleField p < 1086 → LargeBy rule (ofBits binary64 p)
       rounded h =
@@ -236,7 +241,8 @@ own-word w f = record { word = f; same = same-value (ofBits binary64 (doubleBits
 pub right : (rule : Rule) (p : ℕ) → p < 2 ^ 64 → Right rule (ofBits binary64 p) (inwardOf rule p)
 unfolding inwardOf
 right rule p l =
-    go (eqb (doubleField p) 2047) (eqb p (2 ^ 63)) (eqb p 0) (ltb (doubleField p) 958) (eqb (r .error) 0) (eqb (doubleBits (r .word)) p) refl refl refl refl refl refl
+    go (eqb (doubleField p) 2047) (eqb p (2 ^ 63)) (eqb p 0) (ltb (doubleField p) 958) (eqb (r .error) 0) (eqb (doubleBits (r .word)) p) refl refl refl refl
+    refl refl
   where
     r : Flagged
     r = broughtOf rule p
@@ -261,10 +267,12 @@ right rule p l =
         let h = held-value (ofBits binary64 p) v (doubleSign p) (doubleSize p) (2 ^ 1074) (positive rule p lo hi) (value rule p lo hi) b in
         eqb-false (doubleBits (r .word)) p e₆
         (ap (λ (y : Flagged). doubleBits (y .word)) (own-cut p v l (b .word) (omega arith) hi h rule) ∙ own-bits p v l (b .word) (omega arith) hi h))
-        (not-small (ofBits binary64 p) (doubleSign p) (doubleSize p) (2 ^ 1074) (pow-pos 1074) (value rule p lo hi) (mul-le-mul-right (2 ^ 65) (least rule p lo hi)))
+        (not-small (ofBits binary64 p) (doubleSign p) (doubleSize p) (2 ^ 1074) (pow-pos 1074) (value rule p lo hi)
+        (mul-le-mul-right (2 ^ 65) (least rule p lo hi)))
     judged e₂ lo hi false t₆ e₅ e₆ = large refl (large-right rule p lo hi (eqb-false (r .error) 0 e₅))
 
-    go : (t₁ t₂ t₃ t₄ t₅ t₆ : Bool) → eqb (doubleField p) 2047 ≡ t₁ → eqb p (2 ^ 63) ≡ t₂ → eqb p 0 ≡ t₃ → ltb (doubleField p) 958 ≡ t₄ → eqb (r .error) 0 ≡ t₅ → eqb (doubleBits (r .word)) p ≡ t₆
+    go : (t₁ t₂ t₃ t₄ t₅ t₆ : Bool) → eqb (doubleField p) 2047 ≡ t₁ → eqb p (2 ^ 63) ≡ t₂ → eqb p 0 ≡ t₃ → ltb (doubleField p) 958 ≡ t₄ → eqb (r .error) 0 ≡ t₅
+        → eqb (doubleBits (r .word)) p ≡ t₆
         → Right rule (ofBits binary64 p)
         (cond t₁ (Refused NotFinite)
         (cond t₂ (Refused MinusZero)

@@ -3,7 +3,8 @@ use mathlib.Core.Path.{_≡_, refl, sym, ap, _∙_, subst}
 use mathlib.Core.Logic.{inr, ⊎-elim}
 use mathlib.Core.Bool.{true}
 use Prim.Native.Nat.{ℕ, _+_, _-_, _*_, _%_, _^_, _≤_, _<_}
-use native.Mathlib.Nat.{zero-mul, mul-le-mul-left, mul-lt-mul-of-pos-right, mul-pos, lt-of-lt-of-le, lt-of-le-of-lt, le-of-eq, pos-of-ne-zero, eq-zero-or-pos, lt-irrefl, mod-lt}
+use native.Mathlib.Nat.{zero-mul, mul-le-mul-left, mul-lt-mul-of-pos-right, mul-pos, lt-of-lt-of-le, lt-of-le-of-lt, le-of-eq, pos-of-ne-zero, eq-zero-or-pos}
+use native.Mathlib.Nat.{lt-irrefl, mod-lt}
 use native.Mathlib.Omega.{arith}
 use lib.Dec.{lit<}
 use lib.Pow.{pow-pos, pow-mono}
@@ -60,7 +61,8 @@ zero-right f p z = record {
 pub minus-right : (f : Format) (p : ℕ) → p ≡ top f → IsMinusZero (ofBits f p)
 minus-right f p e =
     let z : p % top f ≡ 0 = ap (λ (n : ℕ). n % top f) e ∙ itself f in
-    minus-of (ofBits f p) (signIn f p) (sizeIn f p) (2 ^ low f) (pow-pos (low f)) (bits-value f p (finite-zero f p z)) (ap (signIn f) e ∙ signed f) (no-size f p z)
+    minus-of (ofBits f p) (signIn f p) (sizeIn f p) (2 ^ low f) (pow-pos (low f)) (bits-value f p (finite-zero f p z)) (ap (signIn f) e ∙ signed f)
+    (no-size f p z)
   where
     itself : (f : Format) → top f % top f ≡ 0
     itself binary32 = refl
@@ -75,7 +77,8 @@ pub minus-bits : (f : Format) (p : ℕ) → p < 2 * top f → IsMinusZero (ofBit
 minus-bits f p l t =
     let h : fieldIn f p < ones f = below-ones f p (λ e. endless-minus (ofBits f p) (all-ones f p e) t) in
     let o = of-minus (ofBits f p) (signIn f p) (sizeIn f p) (2 ^ low f) (bits-value f p h) t in
-    let z : leading f (fieldIn f p) (digitsIn f p) ≡ 0 = first-zero (leading f (fieldIn f p) (digitsIn f p)) (2 ^ (fieldIn f p - 1)) (pow-pos (fieldIn f p - 1)) (o .1) in
+    let z : leading f (fieldIn f p) (digitsIn f p) ≡ 0 = first-zero (leading f (fieldIn f p) (digitsIn f p)) (2 ^ (fieldIn f p - 1)) (pow-pos (fieldIn f p - 1))
+    (o .1) in
     ⊎-elim
     (λ (k : p % top f ≡ 0). one f l (leb-true (top f) p (o .0)) k)
     (λ (k : 0 < p % top f). absurd (lt-irrefl 0 (subst (λ (n : ℕ). 0 < n) z (leading-some f (fieldIn f p) (digitsIn f p) (some-fields f p k)))))
@@ -91,7 +94,8 @@ small-right f p l n =
     let a = leading f (fieldIn f p) (digitsIn f p) in
     let u : 0 < a = leading-some f (fieldIn f p) (digitsIn f p) (some-fields f p (pos-of-ne-zero n)) in
     let w : sizeIn f p < 2 * hid f * 2 ^ (emax f - 67) =
-    lt-of-le-of-lt (mul-le-mul-left a (pow-mono (lower-field f l))) (mul-lt-mul-of-pos-right (leading-lt f (fieldIn f p) (digitsIn f p) (short f)) (pow-pos (emax f - 67))) in
+    lt-of-le-of-lt (mul-le-mul-left a (pow-mono (lower-field f l))) (mul-lt-mul-of-pos-right (leading-lt f (fieldIn f p) (digitsIn f p) (short f))
+    (pow-pos (emax f - 67))) in
     small-of (ofBits f p) (signIn f p) (sizeIn f p) (2 ^ low f) (pow-pos (low f)) (bits-value f p (finite f l)) (mul-pos u (pow-pos (fieldIn f p - 1)))
     (lt-of-lt-of-le (mul-lt-mul-of-pos-right w (pow-pos 65)) (le-of-eq (scale f)))
   where

@@ -1,4 +1,5 @@
--- An f64's answer is given exactly where it is right for the value, and the rule brings an f64 to one word; so a word comes back from its f64, and an f64 from the word of its value. Assumes nothing.
+-- An f64's answer is given exactly where it is right for the value, and the rule brings an f64 to one word; so a word comes back from its f64, and an f64 from
+-- the word of its value. Assumes nothing.
 use mathlib.Core.Path.{_≡_, refl, sym, ap, _∙_, subst, subst₂}
 use mathlib.Core.Logic.{inl, inr}
 use mathlib.Core.Bool.{Bool, true, false, cond}
@@ -28,7 +29,8 @@ use Rattle.host_floats.proofs.Back.{word-not-minus}
 use Rattle.host_floats.proofs.Apart.{one-word, held-endless, held-small, endless-small, endless-minus, minus-small}
 use Rattle.host_floats.proofs.DoubleOut.{double-value}
 use Rattle.host_floats.proofs.Pairs.{Reaches, word-below}
-use Rattle.host_floats.proofs.Brought.{held-large-by, endless-large-by, minus-large-by, small-large-by, Right, exact, rounded, endless, minus, small, large, own-word, right}
+use Rattle.host_floats.proofs.Brought.{held-large-by, endless-large-by, minus-large-by, small-large-by, Right, exact, rounded, endless, minus, small}
+use Rattle.host_floats.proofs.Brought.{large, own-word, right}
 
 -- ---- a float that the rule brings to a word
 pub brought-endless : (r : Rule) (x : Float) (w : ℕ) → BroughtTo r x w → Endless x → ⊥

@@ -1,4 +1,5 @@
--- What becomes of an f64 by its bits: the cut that the program makes is that of its value, from 2 ^ 63 on it overflows, and the tests are the definition's. Assumes nothing.
+-- What becomes of an f64 by its bits: the cut that the program makes is that of its value, from 2 ^ 63 on it overflows, and the tests are the definition's.
+-- Assumes nothing.
 use mathlib.Core.Path.{_≡_, sym, ap, _∙_}
 use mathlib.Core.Logic.{inl}
 use Prim.Native.Nat.{ℕ, _+_, _-_, _*_, _^_, _≤_, _<_}
@@ -60,9 +61,11 @@ module _ (rule : Rule) (p : ℕ) (some : 958 ≤ doubleField p) where
   pub overflows : 1086 ≤ doubleField p → broughtOf rule p .error ≡ 0 → ⊥
   overflows l e =
       let n = doubleSize p * 2 ^ 200 in
-      let low : 2 ^ 52 * 2 ^ 1085 ≤ doubleSize p = mul-le-mul {n₁ = 2 ^ 52} {m₁ = 2 ^ 1085} {n₂ = 2 ^ 52 + doubleFraction p} {m₂ = 2 ^ (doubleField p - 1)} (omega arith) (pow-mono {i = 1085} {j = doubleField p - 1} (omega arith)) in
+      let low : 2 ^ 52 * 2 ^ 1085 ≤ doubleSize p = mul-le-mul {n₁ = 2 ^ 52} {m₁ = 2 ^ 1085} {n₂ = 2 ^ 52 + doubleFraction p} {m₂ = 2 ^ (doubleField p - 1)}
+      (omega arith) (pow-mono {i = 1085} {j = doubleField p - 1} (omega arith)) in
       let k = lost n (2 ^ 1074) in
-      let far : 240 ≤ k = lost-least n (2 ^ 1074) 240 (pow-pos 1074) (le-trans (lit≤ {m = 2 ^ 263 * 2 ^ 1074} {n = 2 ^ 52 * 2 ^ 1085 * 2 ^ 200} tt) (mul-le-mul-right (2 ^ 200) low)) in
+      let far : 240 ≤ k = lost-least n (2 ^ 1074) 240 (pow-pos 1074) (le-trans (lit≤ {m = 2 ^ 263 * 2 ^ 1074} {n = 2 ^ 52 * 2 ^ 1085 * 2 ^ 200} tt)
+      (mul-le-mul-right (2 ^ 200) low)) in
       let q = kept rule n (2 ^ 1074) in
       let f = cut-sign rule (doubleSign p) (doubleSize p) (2 ^ 1074) ∙ cut-stored rule (doubleSign p) n (2 ^ 1074) (mul-pos (positive low) (pow-pos 200)) in
       let c = error-kept (digitsOf q k) (sym (ap (λ (r : Flagged). r .error) f) ∙ e) .1 in

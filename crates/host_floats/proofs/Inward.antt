@@ -1,4 +1,5 @@
--- What `takenOf` answers is right for the f32's value: a word only where it is a proper word of that value and the f32 is not minus zero, and each refusal only where 01 or 02 has it. Assumes nothing.
+-- What `takenOf` answers is right for the f32's value: a word only where it is a proper word of that value and the f32 is not minus zero, and each refusal only
+-- where 01 or 02 has it. Assumes nothing.
 use mathlib.Core.Path.{_≡_, refl, sym, ap, ap₂, _∙_, subst}
 use mathlib.Core.Logic.{inl, ⊎-elim}
 use mathlib.Core.Bool.{Bool, true, false, _||_, cond}
@@ -45,7 +46,8 @@ parts p l h =
 module _ (p : ℕ) where
   large-right : exponentField p < 255 → 190 ≤ exponentField p → Large (ofBits binary32 p)
   large-right l h =
-      let u : 8388608 ≤ leading binary32 (exponentField p) (fraction p) = subst (λ (n : ℕ). 8388608 ≤ n) (sym (leading-many binary32 (exponentField p) (fraction p) (omega arith))) (omega arith) in
+      let u : 8388608 ≤ leading binary32 (exponentField p) (fraction p) = subst (λ (n : ℕ). 8388608 ≤ n) (sym (leading-many binary32 (exponentField p)
+      (fraction p) (omega arith))) (omega arith) in
       large-of (ofBits binary32 p) (negative p) (sizeIn binary32 p) (2 ^ 149) (pow-pos 149) (bits-value binary32 p l)
       (mul-le-mul {n₁ = 8388608} {m₁ = 2 ^ 189} u (pow-mono {i = 189} {j = exponentField p - 1} (omega arith)))
 
@@ -89,14 +91,18 @@ right p l = go (eqb (exponentField p) 255) (eqb p minusZero) (leb 190 (exponentF
     not-minus e₂ t = eqb-false p minusZero e₂ (minus-bits binary32 p l t)
 
     some : eqb p minusZero ≡ false → eqb p 0 ≡ false → p % 2147483648 ≡ 0 → ⊥
-    some e₂ e₄ z = ⊎-elim (λ (k : p < 2147483648). eqb-false p 0 e₄ (omega arith)) (λ (k : 2147483648 ≤ p). eqb-false p minusZero e₂ (omega arith)) (either p 2147483648)
+    some e₂ e₄ z = ⊎-elim (λ (k : p < 2147483648). eqb-false p 0 e₄ (omega arith)) (λ (k : 2147483648 ≤ p). eqb-false p minusZero e₂ (omega arith))
+        (either p 2147483648)
 
-    go : (t₁ t₂ t₃ t₄ t₅ : Bool) → eqb (exponentField p) 255 ≡ t₁ → eqb p minusZero ≡ t₂ → leb 190 (exponentField p) ≡ t₃ → eqb p 0 ≡ t₄ → ltb (exponentField p) 62 ≡ t₅
+    go : (t₁ t₂ t₃ t₄ t₅ : Bool) → eqb (exponentField p) 255 ≡ t₁ → eqb p minusZero ≡ t₂ → leb 190 (exponentField p) ≡ t₃ → eqb p 0 ≡ t₄ → ltb (exponentField p)
+        62 ≡ t₅
         → Right (ofBits binary32 p)
-        (cond t₁ (Refused NotFinite) (cond t₂ (Refused MinusZero) (cond t₃ (Refused TooLarge) (cond t₄ (Word 0) (cond t₅ (Refused TooSmall) (Word (wordOf p)))))))
+        (cond t₁ (Refused NotFinite) (cond t₂ (Refused MinusZero)
+        (cond t₃ (Refused TooLarge) (cond t₄ (Word 0) (cond t₅ (Refused TooSmall) (Word (wordOf p)))))))
     go true t₂ t₃ t₄ t₅ e₁ e₂ e₃ e₄ e₅ = endless refl (all-ones binary32 p (eqb-true (exponentField p) 255 e₁))
     go false true t₃ t₄ t₅ e₁ e₂ e₃ e₄ e₅ = minus refl (minus-right binary32 p (eqb-true p minusZero e₂))
-    go false false true t₄ t₅ e₁ e₂ e₃ e₄ e₅ = large refl (large-right p (below-ones binary32 p (eqb-false (exponentField p) 255 e₁)) (leb-true 190 (exponentField p) e₃))
+    go false false true t₄ t₅ e₁ e₂ e₃ e₄ e₅ = large refl (large-right p (below-ones binary32 p (eqb-false (exponentField p) 255 e₁))
+        (leb-true 190 (exponentField p) e₃))
     go false false false true t₅ e₁ e₂ e₃ e₄ e₅ = held 0 refl (zero-right binary32 p (let z = eqb-true p 0 e₄ in omega arith)) (not-minus e₂)
     go false false false false true e₁ e₂ e₃ e₄ e₅ = small refl (small-right binary32 p (ltb-true (exponentField p) 62 e₅) (some e₂ e₄))
     go false false false false false e₁ e₂ e₃ e₄ e₅ =

@@ -1,4 +1,5 @@
--- The float that a proper word goes to has exactly the word's value, in either format; no other word goes to one; and what is answered is no NaN. Assumes nothing.
+-- The float that a proper word goes to has exactly the word's value, in either format; no other word goes to one; and what is answered is no NaN. Assumes
+-- nothing.
 use mathlib.Core.Path.{_≡_, refl, sym, ap, _∙_, subst}
 use mathlib.Core.Logic.{⊎-elim}
 use mathlib.Core.Bool.{Bool, true, false, not}
@@ -50,7 +51,8 @@ beyond-88 binary64 = refl
 
 pub bits-below : (f : Format) (w : ℕ) → fieldIn f (bitsIn f w) < ones f
 bits-below f w =
-    subst (λ (x : ℕ). x < ones f) (sym (joined-field f (negative w) (biased w + (emax f - 65)) (mantissa w % 8388608 * 2 ^ (prec f - 24)) (le-of-lt (exponent-fits f w)) (digits-fit f w)))
+    subst (λ (x : ℕ). x < ones f) (sym (joined-field f (negative w) (biased w + (emax f - 65)) (mantissa w % 8388608 * 2 ^ (prec f - 24))
+    (le-of-lt (exponent-fits f w)) (digits-fit f w)))
     (exponent-fits f w)
 
 some-value : (f : Format) (w : ℕ) → 8388608 ≤ mantissa w → HasValue (ofBits f (bitsIn f w)) (negative w) (size88 w) (2 ^ 88)
@@ -63,7 +65,8 @@ some-value f w h =
     let e : ofBits f (bitsIn f w) ≡ ofFields f s (suc x) t =
     of-joined f s (b + (emax f - 65)) t (le-of-lt (exponent-fits f w)) (digits-fit f w) ∙ ap (λ (y : ℕ). ofFields f s y t) (before f b) in
     lower (ofBits f (bitsIn f w)) s (mantissa w * 2 ^ b) (2 ^ 88) (2 ^ (low f - 88)) (pow-pos (low f - 88))
-    (recast (ofFields f s (suc x) t) (ofBits f (bitsIn f w)) s ((hid f + t) * 2 ^ x) (mantissa w * 2 ^ b * 2 ^ (low f - 88)) (2 ^ low f) (2 ^ 88 * 2 ^ (low f - 88))
+    (recast (ofFields f s (suc x) t) (ofBits f (bitsIn f w)) s ((hid f + t) * 2 ^ x) (mantissa w * 2 ^ b * 2 ^ (low f - 88)) (2 ^ low f)
+    (2 ^ 88 * 2 ^ (low f - 88))
     (sym e)
     (ap (λ (y : ℕ). y * 2 ^ x) (digits-apart f w h)
     ∙ mul-assoc (mantissa w) (2 ^ (prec f - 24)) (2 ^ x)
@@ -88,7 +91,8 @@ zero-value f =
     zero-bits binary64 = sym (of-bits binary64 0)
 
 -- bits that are those of a word with bit 23 set, or 0 of the zero word, have a proper word's value
-pub value-in : (f : Format) (w p : ℕ) → proper w ≡ true → (8388608 ≤ mantissa w → p ≡ bitsIn f w) → (w ≡ 0 → p ≡ 0) → HasValue (ofBits f p) (negative w) (size88 w) (2 ^ 88)
+pub value-in : (f : Format) (w p : ℕ) → proper w ≡ true → (8388608 ≤ mantissa w → p ≡ bitsIn f w) → (w ≡ 0 → p ≡ 0) → HasValue (ofBits f p) (negative w)
+    (size88 w) (2 ^ 88)
 value-in f w p e some none =
     ⊎-elim
     (λ (h : 8388608 ≤ mantissa w). subst (λ (n : ℕ). HasValue (ofBits f n) (negative w) (size88 w) (2 ^ 88)) (sym (some h)) (some-value f w h))

@@ -1,4 +1,5 @@
--- An f64 of a proper word's value, zero aside, has that word's own bits, since a number of 53 digits stands at one place only; and either rule brings it to that word. Assumes nothing.
+-- An f64 of a proper word's value, zero aside, has that word's own bits, since a number of 53 digits stands at one place only; and either rule brings it to
+-- that word. Assumes nothing.
 use mathlib.Core.Path.{_≡_, sym, ap, ap₂, _∙_}
 use mathlib.Core.Logic.{⊎-elim}
 use mathlib.Core.Bool.{Bool, false}
@@ -36,13 +37,15 @@ two-values (inf z) s t a b c d h k = absurd h
 two-values (fin z m e) s t a b c d h k = (
   sym (h .0) ∙ k .0,
   eq-of-mul-eq-mul-right (down e) (down-pos e) (a * d) (b * c)
-      (mul-right-comm a d (down e) ∙ ap (λ (y : ℕ). y * d) (sym (h .1)) ∙ mul-right-comm (m * up e) c d ∙ ap (λ (y : ℕ). y * c) (k .1) ∙ mul-right-comm b (down e) c),
+      (mul-right-comm a d (down e) ∙ ap (λ (y : ℕ). y * d) (sym (h .1)) ∙ mul-right-comm (m * up e) c d ∙ ap (λ (y : ℕ). y * c) (k .1)
+      ∙ mul-right-comm b (down e) c),
 )
 
 -- ---- a number of 53 digits at a place: no other has its size
 not-higher : (x y i j : ℕ) → x < 2 ^ 53 → 2 ^ 52 ≤ y → i < j → x * 2 ^ i ≡ y * 2 ^ j → ⊥
 not-higher x y i j h l g e =
-    let p : y * 2 ^ j ≡ y * 2 ^ (j - i) * 2 ^ i = ap (λ (z : ℕ). y * z) (ap (λ (z : ℕ). 2 ^ z) (count g) ∙ pow-add 2 (j - i) i) ∙ sym (mul-assoc y (2 ^ (j - i)) (2 ^ i)) in
+    let p : y * 2 ^ j ≡ y * 2 ^ (j - i) * 2 ^ i = ap (λ (z : ℕ). y * z) (ap (λ (z : ℕ). 2 ^ z) (count g) ∙ pow-add 2 (j - i) i)
+    ∙ sym (mul-assoc y (2 ^ (j - i)) (2 ^ i)) in
     let q : x ≡ y * 2 ^ (j - i) = eq-of-mul-eq-mul-right (2 ^ i) (pow-pos i) x (y * 2 ^ (j - i)) (e ∙ p) in
     let r : 2 ^ 52 * 2 ^ 1 ≤ y * 2 ^ (j - i) = mul-le-mul l (pow-mono {i = 1} {j = j - i} (omega arith)) in
     omega arith
@@ -63,7 +66,8 @@ one-place x y i j a b c d e = ⊎-elim
 pub normal-value : (p : ℕ) → 0 < doubleField p → doubleField p < 2047 → HasValue (ofBits binary64 p) (doubleSign p) (doubleSize p) (2 ^ 1074)
 normal-value p l h = rw (leading-many binary64 (doubleField p) (doubleFraction p) l) at (bits-value binary64 p h)
 
-module _ (p w : ℕ) (P : p < 2 ^ 64) (W : FloatWord w) (lo : 0 < doubleField p) (hi : doubleField p < 2047) (v : HasValue (ofBits binary64 p) (negative w) (size88 w) (2 ^ 88)) where
+module _ (p w : ℕ) (P : p < 2 ^ 64) (W : FloatWord w) (lo : 0 < doubleField p) (hi : doubleField p < 2047) (v : HasValue (ofBits binary64 p) (negative w)
+    (size88 w) (2 ^ 88)) where
   both : (negative w ≡ doubleSign p) × (size88 w * 2 ^ 1074 ≡ doubleSize p * 2 ^ 88)
   both = two-values (ofBits binary64 p) (negative w) (doubleSign p) (size88 w) (doubleSize p) (2 ^ 88) (2 ^ 1074) v (normal-value p lo hi)
 
@@ -107,7 +111,8 @@ module _ (p w : ℕ) (P : p < 2 ^ 64) (W : FloatWord w) (lo : 0 < doubleField p)
       let s = some in
       let m24 : mantissa w < 16777216 = mod-lt w (lit< tt) in
       let f52 : doubleFraction p < 2 ^ 52 = mod-lt p (pow-pos 52) in
-      let q = one-place (mantissa w * 2 ^ 29) (2 ^ 52 + doubleFraction p) (biased w + 957) (doubleField p - 1) (omega arith) (omega arith) (omega arith) (omega arith) placed in
+      let q = one-place (mantissa w * 2 ^ 29) (2 ^ 52 + doubleFraction p) (biased w + 957) (doubleField p - 1) (omega arith) (omega arith) (omega arith)
+      (omega arith) placed in
       let i = q .0 in
       let x = q .1 in
       let l = lo in

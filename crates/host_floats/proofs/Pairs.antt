@@ -3,7 +3,8 @@
 use mathlib.Core.Path.{_≡_, sym, ap, _∙_, subst, subst₂}
 use mathlib.Core.Logic.{⊎-elim}
 use Prim.Native.Nat.{ℕ, suc, _+_, _-_, _*_, _^_, _≤_, _<_}
-use native.Mathlib.Nat.{le-trans, le-of-eq, le-of-lt, lt-of-lt-of-le, lt-of-le-of-lt, not-le-of-lt, mul-assoc, mul-comm, mul-right-comm, mul-pos, mul-le-mul, mul-le-mul-left, mul-le-mul-right, mul-lt-mul-of-pos-right, le-of-mul-le-mul-right, lt-of-mul-lt-mul-right, mod-lt}
+use native.Mathlib.Nat.{le-trans, le-of-eq, le-of-lt, lt-of-lt-of-le, lt-of-le-of-lt, not-le-of-lt, mul-assoc, mul-comm, mul-right-comm, mul-pos, mul-le-mul}
+use native.Mathlib.Nat.{mul-le-mul-left, mul-le-mul-right, mul-lt-mul-of-pos-right, le-of-mul-le-mul-right, lt-of-mul-lt-mul-right, mod-lt}
 use native.Mathlib.Omega.{arith}
 use lib.Dec.{lit<}
 use lib.IntN.{ℤ, pos, negsuc, _-ℤ_}
@@ -91,7 +92,8 @@ own-pair Cut w h =
 own-pair Nearest w h = record {
   low = h;
   high = mod-lt w (lit< tt);
-  marks = at-itself (size88 w * down (exponent w -ℤ pos 24)) (2 ^ 88 * up (exponent w -ℤ pos 24)) (mantissa w) (mul-pos (pow-pos 88) (up-pos (exponent w -ℤ pos 24))) h (word-size w);
+  marks = at-itself (size88 w * down (exponent w -ℤ pos 24)) (2 ^ 88 * up (exponent w -ℤ pos 24)) (mantissa w)
+      (mul-pos (pow-pos 88) (up-pos (exponent w -ℤ pos 24))) h (word-size w);
 }
 
 -- ---- against 2 ^ 63
@@ -112,7 +114,8 @@ pub exponent-reaches : (m : ℕ) (e : ℤ) → 8388608 ≤ m → pos 64 ≤ℤ e
 exponent-reaches m e h l =
     let b : 64 + beneath e ≤ above e + 0 = le-parts (pos 64) e l in
     let k = above e - (beneath e + 24) in
-    let f : e -ℤ pos 24 ≡ pos k = ap (λ (z : ℤ). z -ℤ pos 24) (parts e) ∙ less-difference (above e) (beneath e) 24 ∙ sub-ge (above e) (beneath e + 24) (omega arith) in
+    let f : e -ℤ pos 24 ≡ pos k = ap (λ (z : ℤ). z -ℤ pos 24) (parts e) ∙ less-difference (above e) (beneath e) 24
+    ∙ sub-ge (above e) (beneath e + 24) (omega arith) in
     subst (Reaches m) (sym f) (mul-le-mul h (pow-mono {i = 40} {j = k} (omega arith)))
 
 -- the magnitude n / d against m * u / y, with d taken out
@@ -171,6 +174,7 @@ pub word-below : (w : ℕ) → Reaches (mantissa w) (exponent w -ℤ pos 24) →
 word-below w h =
     let x = exponent w -ℤ pos 24 in
     let a : 2 ^ 63 * down x * 2 ^ 88 ≤ mantissa w * up x * 2 ^ 88 = mul-le-mul-right (2 ^ 88) h in
-    let b : mantissa w * up x * 2 ^ 88 ≡ size88 w * down x = mul-assoc (mantissa w) (up x) (2 ^ 88) ∙ ap (λ (k : ℕ). mantissa w * k) (mul-comm (up x) (2 ^ 88)) ∙ sym (word-size w) in
+    let b : mantissa w * up x * 2 ^ 88 ≡ size88 w * down x = mul-assoc (mantissa w) (up x) (2 ^ 88) ∙ ap (λ (k : ℕ). mantissa w * k) (mul-comm (up x) (2 ^ 88))
+    ∙ sym (word-size w) in
     let c : 2 ^ 63 * 2 ^ 88 * down x ≤ size88 w * down x = subst₂ (λ (i j : ℕ). i ≤ j) (mul-right-comm (2 ^ 63) (down x) (2 ^ 88)) b a in
     not-le-of-lt (size-lt w) (le-of-mul-le-mul-right {m = 2 ^ 63 * 2 ^ 88} c (down-pos x))

@@ -74,7 +74,8 @@ module _ (f : Format) where
       refl (ap (λ (n : ℕ). (hid f + t) * 2 ^ n) (omega arith)) refl (normal s x t l)
 
   -- the value of bits that are not all ones in the field
-  pub bits-value : (p : ℕ) → fieldIn f p < ones f → HasValue (ofBits f p) (signIn f p) (leading f (fieldIn f p) (digitsIn f p) * 2 ^ (fieldIn f p - 1)) (2 ^ low f)
+  pub bits-value : (p : ℕ) → fieldIn f p < ones f → HasValue (ofBits f p) (signIn f p) (leading f (fieldIn f p) (digitsIn f p) * 2 ^ (fieldIn f p - 1))
+      (2 ^ low f)
   bits-value p l =
       subst (λ (x : Float). HasValue x (signIn f p) (leading f (fieldIn f p) (digitsIn f p) * 2 ^ (fieldIn f p - 1)) (2 ^ low f)) (sym (of-bits p))
       (by-field (signIn f p) (fieldIn f p) (digitsIn f p) l)

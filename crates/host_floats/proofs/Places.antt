@@ -1,4 +1,5 @@
--- An f64's leading one stands at a fixed place, so what a rule makes of its value is what it makes of the bits of its magnitude in steps of 2 ^ 29: a digit that
+-- An f64's leading one stands at a fixed place, so what a rule makes of its value is what it makes of the bits of its magnitude in steps of 2 ^ 29: a digit
+-- that
 -- is carried past the fraction goes to the field. The field is then the place of the mantissa, and the word's own f64 has these bits. Assumes nothing.
 use mathlib.Core.Path.{_≡_, refl, sym, ap, ap₂, _∙_, subst}
 use mathlib.Core.Logic.{_⊎_, inl, inr, ⊎-elim}
@@ -60,8 +61,10 @@ module _ (F f : ℕ) (lo : 0 < F) (hi : f < 2 ^ 52) where
   pub between : (r : Rule) → (2 ^ 23 ≤ whole r (2 ^ 52 + f) (2 ^ 29)) × (whole r (2 ^ 52 + f) (2 ^ 29) ≤ 2 ^ 24)
   between Cut = (omega arith, omega arith)
   between Nearest = ⊎-elim
-      (λ (h : 2 ^ 28 < (2 ^ 52 + f) % 2 ^ 29 + (2 ^ 52 + f) / 2 ^ 29 % 2). held (omega arith) (omega arith) (closest-up (2 ^ 52 + f) (2 ^ 29) (pow-pos 29) (2 ^ 28) refl h))
-      (λ (h : (2 ^ 52 + f) % 2 ^ 29 + (2 ^ 52 + f) / 2 ^ 29 % 2 ≤ 2 ^ 28). held (omega arith) (omega arith) (closest-stays (2 ^ 52 + f) (2 ^ 29) (pow-pos 29) (2 ^ 28) refl h))
+      (λ (h : 2 ^ 28 < (2 ^ 52 + f) % 2 ^ 29 + (2 ^ 52 + f) / 2 ^ 29 % 2). held (omega arith) (omega arith) (closest-up (2 ^ 52 + f) (2 ^ 29) (pow-pos 29)
+      (2 ^ 28) refl h))
+      (λ (h : (2 ^ 52 + f) % 2 ^ 29 + (2 ^ 52 + f) / 2 ^ 29 % 2 ≤ 2 ^ 28). held (omega arith) (omega arith) (closest-stays (2 ^ 52 + f) (2 ^ 29) (pow-pos 29)
+      (2 ^ 28) refl h))
       (either (2 ^ 28) ((2 ^ 52 + f) % 2 ^ 29 + (2 ^ 52 + f) / 2 ^ 29 % 2))
     where
       held : {q x : ℕ} → 2 ^ 23 ≤ x → x ≤ 2 ^ 24 → q ≡ x → (2 ^ 23 ≤ q) × (q ≤ 2 ^ 24)
@@ -114,7 +117,8 @@ module _ (r : Rule) (p : ℕ) (some : 958 ≤ doubleField p) (y : ℕ) (steps : 
   brought-at =
       let b = between (doubleField p) f (omega arith) small r in
       sym (cut-is r p some)
-      ∙ sym (top-cut r (2 ^ 52 + f) (doubleField p - 875) 11 (omega arith) (omega arith) (omega arith) (omega arith) (doubleSign p) q (λ z. absurd (omega arith)) fits)
+      ∙ sym (top-cut r (2 ^ 52 + f) (doubleField p - 875) 11 (omega arith) (omega arith) (omega arith) (omega arith) (doubleSign p) q
+      (λ z. absurd (omega arith)) fits)
       ∙ ap (λ (k : ℕ). stored (doubleSign p) (mantissaOf q) (digitsOf q k)) (count (doubleField p) some)
       ∙ settled-at (doubleSign p) (doubleField p) q y some (b .0) (b .1) y-is
     where
@@ -140,10 +144,12 @@ module _ (r : Rule) (p : ℕ) (some : 958 ≤ doubleField p) (y : ℕ) (steps : 
       absurd (omega arith)
 
   pub over-at : 1086 * 2 ^ 23 ≤ y → broughtOf r p .error ≡ 0 → ⊥
-  over-at h e = let x : _≡_ {A = ℕ} 1 0 = sym (error-over (y / 2 ^ 23 - 846) (omega arith)) ∙ sym (ap (λ (z : Flagged). z .error) brought-at) ∙ e in absurd (omega arith)
+  over-at h e = let x : _≡_ {A = ℕ} 1 0 = sym (error-over (y / 2 ^ 23 - 846) (omega arith)) ∙ sym (ap (λ (z : Flagged). z .error) brought-at)
+      ∙ e in absurd (omega arith)
 
   -- the answer where 2 ^ 63 is not reached
-  pub judged-in : y < 1086 * 2 ^ 23 → (w : ℕ) → w ≡ packed (doubleSign p) (2 ^ 23 + y % 2 ^ 23) (y / 2 ^ 23 - 846) → record { word = w; error = 0 } ≡ broughtOf r p
+  pub judged-in : y < 1086 * 2 ^ 23 → (w : ℕ) → w ≡ packed (doubleSign p) (2 ^ 23 + y % 2 ^ 23) (y / 2 ^ 23 - 846) → record { word = w; error = 0 }
+      ≡ broughtOf r p
   judged-in h w e =
       let l = at-least in
       ap₂ (λ (x z : ℕ). record { word = x; error = z }) e (sym (error-in (y / 2 ^ 23 - 846) (omega arith) (omega arith))) ∙ sym brought-at
@@ -172,7 +178,8 @@ own-at s y lo hi =
   where
     some : packed s (2 ^ 23 + y % 2 ^ 23) (y / 2 ^ 23 - 846) ≡ 0 → ⊥
     some e =
-        let d : mantissa (packed s (2 ^ 23 + y % 2 ^ 23) (y / 2 ^ 23 - 846)) ≡ 2 ^ 23 + y % 2 ^ 23 = packed-mantissa s (2 ^ 23 + y % 2 ^ 23) (y / 2 ^ 23 - 846) (omega arith) in
+        let d : mantissa (packed s (2 ^ 23 + y % 2 ^ 23) (y / 2 ^ 23 - 846)) ≡ 2 ^ 23 + y % 2 ^ 23 = packed-mantissa s (2 ^ 23 + y % 2 ^ 23) (y / 2 ^ 23 - 846)
+        (omega arith) in
         let z : mantissa (packed s (2 ^ 23 + y % 2 ^ 23) (y / 2 ^ 23 - 846)) ≡ 0 = ap mantissa e in
         omega arith
 

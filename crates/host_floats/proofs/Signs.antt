@@ -1,4 +1,5 @@
--- Two whole numbers with a sign are one exactly if their sizes are, and their signs too unless the size is 0; so an f32 and a word have one value exactly if that holds of them. Assumes nothing.
+-- Two whole numbers with a sign are one exactly if their sizes are, and their signs too unless the size is 0; so an f32 and a word have one value exactly if
+-- that holds of them. Assumes nothing.
 use mathlib.Core.Path.{_≡_, refl, sym, ap, ap₂, _∙_}
 use mathlib.Core.Logic.{_⊎_, inl, inr, ⊎-elim}
 use mathlib.Core.Bool.{Bool, true, false}

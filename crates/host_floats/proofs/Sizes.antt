@@ -3,7 +3,8 @@ use mathlib.Core.Path.{_≡_, sym, ap, _∙_, subst}
 use mathlib.Core.Logic.{_⊎_, inl, inr, ⊎-elim}
 use mathlib.Core.Bool.{Bool, true}
 use Prim.Native.Nat.{ℕ, _*_, _^_, _≤_, _<_}
-use native.Mathlib.Nat.{eq-of-mul-eq-mul-right, mul-comm, mul-right-comm, zero-mul, mul-le-mul-right, mul-lt-mul-of-pos-right, mul-pos, le-of-mul-le-mul-right, lt-of-mul-lt-mul-right, eq-zero-or-pos, lt-irrefl}
+use native.Mathlib.Nat.{eq-of-mul-eq-mul-right, mul-comm, mul-right-comm, zero-mul, mul-le-mul-right, mul-lt-mul-of-pos-right, mul-pos, le-of-mul-le-mul-right}
+use native.Mathlib.Nat.{lt-of-mul-lt-mul-right, eq-zero-or-pos, lt-irrefl}
 use lib.Ieee.{Float, nan, inf, fin, up, down}
 use lib.Ieee.Exact.{HasValue}
 use lib.Ieee.Positive.{first-pos}
@@ -27,7 +28,8 @@ large-of nan s a c p h l = absurd h
 large-of (inf u) s a c p h l = absurd h
 large-of (fin u m k) s a c p h l =
     le-of-mul-le-mul-right
-    (subst (λ (n : ℕ). 2 ^ 63 * down k * c ≤ n) (sym (h .1)) (subst (λ (n : ℕ). n ≤ a * down k) (mul-right-comm (2 ^ 63) c (down k)) (mul-le-mul-right (down k) l)))
+    (subst (λ (n : ℕ). 2 ^ 63 * down k * c ≤ n) (sym (h .1)) (subst (λ (n : ℕ). n ≤ a * down k) (mul-right-comm (2 ^ 63) c (down k))
+    (mul-le-mul-right (down k) l)))
     p
 
 pub small-of : (x : Float) (s : Bool) (a c : ℕ) → 0 < c → HasValue x s a c → 0 < a → a * 2 ^ 65 < c → Small x

@@ -1,4 +1,5 @@
--- 02, ask 13, for one entry: chip words as f64s, which are the double precision of document 003, and back under a rule, by the bits. Definitions only. Assumes nothing.
+-- 02, ask 13, for one entry: chip words as f64s, which are the double precision of document 003, and back under a rule, by the bits. Definitions only. Assumes
+-- nothing.
 use Prim.Native.Nat.{ℕ, _+_, _-_, _*_, _/_, _%_, _^_}
 use mathlib.Core.Bool.{Bool, cond}
 use lib.Dec.{leb, ltb, eqb}
@@ -55,7 +56,8 @@ judgedOf p r =
     (cond (eqb (doubleBits (r .word)) p) (Exact (r .word)) (Rounded (r .word) (ofBits binary64 (doubleBits (r .word)))))
     (Turned TooLarge)
 
--- what becomes of an f64: infinite or not a number (10); minus zero (15); plus zero is the zero word; under 2 ^ -65 as it is given (12); else by its value brought to 24 bits
+-- what becomes of an f64: infinite or not a number (10); minus zero (15); plus zero is the zero word; under 2 ^ -65 as it is given (12); else by its value
+-- brought to 24 bits
 unfoldable pub inwardOf : Rule → ℕ → Inward
 unfolding cut
 inwardOf rule p =

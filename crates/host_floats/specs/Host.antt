@@ -1,4 +1,5 @@
--- Document 01's section 'Host floats', with 02's exception of minus zero, by the bits: what becomes of a word, what of an f32, and what each answer says. Definitions only. Assumes nothing.
+-- Document 01's section 'Host floats', with 02's exception of minus zero, by the bits: what becomes of a word, what of an f32, and what each answer says.
+-- Definitions only. Assumes nothing.
 use Prim.Native.Nat.{ℕ, _+_, _-_, _*_, _/_, _%_, _^_}
 use mathlib.Core.Bool.{cond}
 use lib.Dec.{leb, ltb, eqb}

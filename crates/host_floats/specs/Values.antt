@@ -1,4 +1,5 @@
--- The value of a host float, an f32 or an f64, against words and against the bounds of the refusals 10, 15, 11 and 12, in whole numbers. Definitions only. Assumes nothing.
+-- The value of a host float, an f32 or an f64, against words and against the bounds of the refusals 10, 15, 11 and 12, in whole numbers. Definitions only.
+-- Assumes nothing.
 use Prim.Native.Nat.{ℕ, _*_, _^_, _≤_, _<_}
 use mathlib.Core.Path.{_≡_}
 use mathlib.Core.Bool.{Bool, true}

@@ -67,7 +67,8 @@ pub fn word_to_f64(word: u32) -> Outward
     }
 }
 
-// The bits of a magnitude in steps of a word's last digit, under a rule: what is carried past the fraction goes to the field.
+// The bits of a magnitude in steps of a word's last digit, under a rule: what is carried past the fraction goes to the
+// field.
 fn steps(rule: Rule, magnitude: u64) -> u64
     ensures { λ r. ⌜ r ≡ whole rule magnitude (2 ^ 29) ⌝ }
 {

@@ -6,7 +6,8 @@ use Rattle.listing.specs.Listing.{printedOf}
 use Rattle.options.specs.Options.{askedOf}
 use Rattle.list_text.specs.Printout.{callUnder, printoutUnder, printoutOf, toldOf}
 
-pub of-run : (mode rule : ℕ) (input : List ℕ) {replies report : List ℕ} → replies ≡ callUnder mode rule input .replies → report ≡ callUnder mode rule input .report
+pub of-run : (mode rule : ℕ) (input : List ℕ) {replies report : List ℕ} → replies ≡ callUnder mode rule input .replies → report ≡ callUnder mode rule input
+    .report
     → printedOf replies report ≡ printoutUnder mode rule input
 of-run mode rule input {replies} {report} e f =
     ap (λ (l : List ℕ). printedOf l report) e ∙ ap (λ (l : List ℕ). printedOf (callUnder mode rule input .replies) l) f

@@ -33,7 +33,8 @@ pub fn told(
     text: &mut [u8; TEXT_ROOM],
 ) -> usize
     ensures { λ r. ⌜ Counts r (now (text .exit)) ⌝ }
-    ensures { λ r. ⌜ take r (now (text .exit)) ≡ toldOf words (now (first .entry)) (now (second .entry)) (now (input .entry)) ⌝ }
+    ensures { λ r. ⌜ take r (now (text .exit)) ≡ toldOf words (now (first .entry)) (now (second .entry))
+        (now (input .entry)) ⌝ }
 {
     let asked = options::asked_of(words, first, second);
     match asked {

@@ -9,10 +9,11 @@ use lib.ListN.{length, take, drop, getD, length-append, length-take, length-drop
 use lib.Dec.{ltb}
 use borrow.Author.Tests.{lt-ltb}
 use lib.Seq.{length-take-le, drop-drop, take-all, getD-drop, take-append-seam, drop-append-seam}
-use Rattle.little.specs.Little.{wordAt}
+use Rattle.little.specs.Little.{wordAt, fourAt}
 use Rattle.little.proofs.Exact.{two-bytes}
 use Rattle.listing.specs.Text.{Adds}
-use Rattle.listing.specs.Listing.{lineOf, replyBytes, kindFrom, replyKind, replyRefusal, replyData, replySize, replyLine, hasReply, wholeSize, Front, linesUpTo, linesOf, listingOf, countAt, printedOf}
+use Rattle.listing.specs.Listing.{lineOf, replyBytes, kindFrom, replyKind, replyRefusal, replyData, replySize, replyLine, hasReply, wholeSize, Front}
+use Rattle.listing.specs.Listing.{linesUpTo, linesOf, listingOf, printedOf}
 use Rattle.listing.proofs.Adding.{take-least}
 use Rattle.listing.proofs.Decimal.{short}
 use Rattle.listing.proofs.Lines.{line-length, data-length}
@@ -116,53 +117,54 @@ pub record Going (replies before after : List ℕ) (place number at : ℕ) : Typ
 pub starts : (replies out : List ℕ) → Going replies out out 0 1 0
 starts replies out = record { at-most = omega arith; same = refl; few = omega arith; room = omega arith; so-far = refl }
 
-module _ (replies before after : List ℕ) (place number at : ℕ) (g : Going replies before after place number at) (fits : 4 * length replies ≤ length before) where
-  -- no line is left
-  pub ends : linesOf number (drop at replies) ≡ [] → Adds (linesOf 1 replies) before after 0 place
-  ends e =
-      let k : length (take place after) ≡ place = length-take-le place after (omega (arith, g .room, g .at-most, g .same)) in
-      let all : linesOf 1 replies ≡ take place after = g .so-far ∙ ap (λ (x : List ℕ). take place after ++ x) e ∙ append-nil (take place after) in
-      record { moved = rw all (omega arith); reads = sym all }
+module _ (replies before after : List ℕ) (place number at : ℕ) (g : Going replies before after place number at) (fits : 4 * length replies ≤ length before)
+  where
+    -- no line is left
+    pub ends : linesOf number (drop at replies) ≡ [] → Adds (linesOf 1 replies) before after 0 place
+    ends e =
+        let k : length (take place after) ≡ place = length-take-le place after (omega (arith, g .room, g .at-most, g .same)) in
+        let all : linesOf 1 replies ≡ take place after = g .so-far ∙ ap (λ (x : List ℕ). take place after ++ x) e ∙ append-nil (take place after) in
+        record { moved = rw all (omega arith); reads = sym all }
 
-  pub stops : hasReply (drop at replies) ≡ false → Adds (linesOf 1 replies) before after 0 place
-  stops e = ends (no-more number (drop at replies) e)
+    pub stops : hasReply (drop at replies) ≡ false → Adds (linesOf 1 replies) before after 0 place
+    stops e = ends (no-more number (drop at replies) e)
 
-  pub finishes : length replies ≤ at → Adds (linesOf 1 replies) before after 0 place
-  finishes h = ends (rw (drop-of-length-le replies h) (no-more number [] (unfold hasReply in refl)))
+    pub finishes : length replies ≤ at → Adds (linesOf 1 replies) before after 0 place
+    finishes h = ends (rw (drop-of-length-le replies h) (no-more number [] (unfold hasReply in refl)))
 
-  -- one line more
-  pub goes-on : (out : List ℕ) (new size : ℕ) → hasReply (drop at replies) ≡ true → Front (drop at replies) size → length out ≡ length after
-      → length (replyLine number (drop at replies)) ≤ 4 * size → Adds (replyLine number (drop at replies)) after out place new
-      → Going replies before out new (number + 1) (at + size)
-  goes-on out new size e f s h a =
-      let rest = drop at replies in
-      let d = length-drop at replies in
-      let line = replyLine number rest in
-      let tail = linesOf (number + 1) (drop (at + size) replies) in
-      let next : linesOf number rest ≡ line ++ tail =
-      one-more number rest e
-      ∙ ap (λ (n : ℕ). line ++ linesOf (number + 1) (drop n rest)) (sym (f .is-size))
-      ∙ ap (λ (x : List ℕ). line ++ linesOf (number + 1) x) (drop-drop size at replies) in
-      record {
-        at-most = omega (arith, f .within, g .at-most);
-        same = s ∙ g .same;
-        few = omega (arith, g .few, f .at-least);
-        room = omega (arith, a .moved, g .room);
-        so-far =
-            g .so-far
-            ∙ ap (λ (x : List ℕ). take place after ++ x) next
-            ∙ sym (append-assoc (take place after) line tail)
-            ∙ ap (λ (x : List ℕ). x ++ tail) (sym (a .reads));
-      }
+    -- one line more
+    pub goes-on : (out : List ℕ) (new size : ℕ) → hasReply (drop at replies) ≡ true → Front (drop at replies) size → length out ≡ length after
+        → length (replyLine number (drop at replies)) ≤ 4 * size → Adds (replyLine number (drop at replies)) after out place new
+        → Going replies before out new (number + 1) (at + size)
+    goes-on out new size e f s h a =
+        let rest = drop at replies in
+        let d = length-drop at replies in
+        let line = replyLine number rest in
+        let tail = linesOf (number + 1) (drop (at + size) replies) in
+        let next : linesOf number rest ≡ line ++ tail =
+        one-more number rest e
+        ∙ ap (λ (n : ℕ). line ++ linesOf (number + 1) (drop n rest)) (sym (f .is-size))
+        ∙ ap (λ (x : List ℕ). line ++ linesOf (number + 1) x) (drop-drop size at replies) in
+        record {
+          at-most = omega (arith, f .within, g .at-most);
+          same = s ∙ g .same;
+          few = omega (arith, g .few, f .at-least);
+          room = omega (arith, a .moved, g .room);
+          so-far =
+              g .so-far
+              ∙ ap (λ (x : List ℕ). take place after ++ x) next
+              ∙ sym (append-assoc (take place after) line tail)
+              ∙ ap (λ (x : List ℕ). x ++ tail) (sym (a .reads));
+        }
 
 -- what the code reads of the report
 pub as-printed : (replies report : List ℕ) (n written refusal taken : ℕ) → length replies ≡ 65536 → n ≡ min written 65536
-    → written ≡ countAt report 5 → refusal ≡ getD report 0 0 → taken ≡ countAt report 1 → listingOf (take n replies) refusal taken ≡ printedOf replies report
+    → written ≡ fourAt report 5 → refusal ≡ getD report 0 0 → taken ≡ fourAt report 1 → listingOf (take n replies) refusal taken ≡ printedOf replies report
 as-printed replies report n written refusal taken h a w r t =
     ap (λ (x : List ℕ). listingOf x refusal taken)
     (ap (λ (k : ℕ). take k replies) a ∙ take-least replies written 65536 h ∙ ap (λ (k : ℕ). take k replies) w)
-    ∙ ap (λ (k : ℕ). listingOf (take (countAt report 5) replies) k taken) r
-    ∙ ap (λ (k : ℕ). listingOf (take (countAt report 5) replies) (getD report 0 0) k) t
+    ∙ ap (λ (k : ℕ). listingOf (take (fourAt report 5) replies) k taken) r
+    ∙ ap (λ (k : ℕ). listingOf (take (fourAt report 5) replies) (getD report 0 0) k) t
 
 -- the word of a core's reply is read back
 pub core-kind : (kind word : ℕ) → kind < 32640 → word ≡ kind + 128 → kindFrom word ≡ kind

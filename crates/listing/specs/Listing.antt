@@ -5,7 +5,7 @@ use mathlib.Core.Bool.{Bool, false, cond}
 use mathlib.Core.List.{List, [], _∷_, _++_}
 use lib.Dec.{leb, ltb}
 use lib.ListN.{length, take, drop, getD}
-use Rattle.little.specs.Little.{wordAt, le2}
+use Rattle.little.specs.Little.{wordAt, le2, fourAt}
 use Rattle.listing.specs.Text.{decimal, hex}
 
 -- the bytes of replies that the program lends
@@ -101,10 +101,6 @@ linesOf number l = linesUpTo (length l) number l
 abbrev pub listingOf : List ℕ → ℕ → ℕ → List ℕ
 listingOf replies refusal taken = linesOf 1 replies ++ endOf refusal taken
 
--- the four-byte number at a place, little-endian
-abbrev pub countAt : List ℕ → ℕ → ℕ
-countAt l i = getD l i 0 + getD l (i + 1) 0 * 256 + getD l (i + 2) 0 * 65536 + getD l (i + 3) 0 * 16777216
-
 -- what is printed for a run that left these replies and this report: refusal, bytes taken, bytes of replies written
 abbrev pub printedOf : List ℕ → List ℕ → List ℕ
-printedOf replies report = listingOf (take (countAt report 5) replies) (getD report 0 0) (countAt report 1)
+printedOf replies report = listingOf (take (fourAt report 5) replies) (getD report 0 0) (fourAt report 1)

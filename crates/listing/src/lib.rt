@@ -6,11 +6,14 @@ ghost use mathlib.Core.Path.{_≡_};
 ghost use Prim.Native.Nat.{_+_, _*_, _-_, _≤_, _<_, min};
 ghost use lib.ListN.{length, take};
 ghost use Rattle.io.specs.Counts.{Counts};
+ghost use Rattle.little.specs.Little.{wordAt};
 ghost use Rattle.listing.specs.Text.{Adds};
-ghost use Rattle.listing.specs.Listing.{replyRoom, textRoom, field, dataText, lineOf, endOf, wholeSize, kindFrom, Front, replyLine, linesOf, listingOf, printedOf};
+ghost use Rattle.listing.specs.Listing.{replyRoom, textRoom, field, dataText, lineOf, endOf, wholeSize, kindFrom};
+ghost use Rattle.listing.specs.Listing.{Front, replyLine, linesOf, listingOf, printedOf};
 use crate::text::add;
 use crate::text::add_decimal;
 use crate::text::add_hex;
+use little::four_at;
 
 // The bytes of replies that the listing program lends, and room for the text of any such replies:
 // four bytes for each byte of them, and the last line.
@@ -28,7 +31,7 @@ pub fn add_field(out: &mut [u8], place: usize, n: u64) -> usize
 }
 
 // A blank and two hex digits for each byte of the data.
-fn add_data(out: &mut [u8], place: usize, bytes: &[u8]) -> usize
+pub fn add_data(out: &mut [u8], place: usize, bytes: &[u8]) -> usize
     requires { ⌜ place + length (dataText (now bytes)) ≤ length (now out) ⌝ }
     ensures { λ r. ⌜ Adds (dataText (now (bytes .entry))) (now (out .entry)) (now (out .exit)) place r ⌝ }
 {
@@ -51,7 +54,8 @@ fn add_line(
     bytes: &[u8],
 ) -> usize
     requires { ⌜ place + length (lineOf number kind refusal (now bytes)) ≤ length (now out) ⌝ }
-    ensures { λ r. ⌜ Adds (lineOf number kind refusal (now (bytes .entry))) (now (out .entry)) (now (out .exit)) place r ⌝ }
+    ensures { λ r. ⌜ Adds (lineOf number kind refusal (now (bytes .entry))) (now (out .entry)) (now (out .exit)) place r
+        ⌝ }
 {
     let a = add_decimal(out, place, number);
     let b = add_field(out, a, kind);
@@ -78,6 +82,14 @@ fn word(low: u8, high: u8) -> usize
     low as usize + high as usize * 256
 }
 
+// The number of two bytes at a place.
+fn word_at(bytes: &[u8], at: usize) -> usize
+    requires { ⌜ at + 2 ≤ length (now bytes) ⌝ }
+    ensures { λ r. ⌜ (r ≡ wordAt (now (bytes .entry)) at) × (r < 65536) ⌝ }
+{
+    word(bytes[at], bytes[at + 1])
+}
+
 // The bytes of the whole reply at the front of the rest, 0 where there is none.
 fn whole_size(rest: &[u8]) -> usize
     ensures { λ r. ⌜ r ≡ wholeSize (now (rest .entry)) ⌝ }
@@ -85,14 +97,14 @@ fn whole_size(rest: &[u8]) -> usize
     if rest.len() < 5 {
         return 0;
     }
-    let size = 2 + word(rest[0], rest[1]);
+    let size = 2 + word_at(rest, 0);
     if size < 5 {
         return 0;
     }
     if rest.len() < size {
         return 0;
     }
-    if word(rest[2], rest[3]) < 128 {
+    if word_at(rest, 2) < 128 {
         return 0;
     }
     size
@@ -116,7 +128,7 @@ fn add_reply(out: &mut [u8], place: usize, number: u64, rest: &[u8], size: usize
     requires { ⌜ place + length (replyLine number (now rest)) ≤ length (now out) ⌝ }
     ensures { λ r. ⌜ Adds (replyLine number (now (rest .entry))) (now (out .entry)) (now (out .exit)) place r ⌝ }
 {
-    let kind = own_kind(word(rest[2], rest[3]));
+    let kind = own_kind(word_at(rest, 2));
     add_line(
         out,
         place,
@@ -158,13 +170,6 @@ fn add_listing(out: &mut [u8], replies: &[u8], refusal: u64, taken: u64) -> usiz
     add_end(out, place, refusal, taken)
 }
 
-// The number that four bytes stand for, the low one first.
-fn count(a: u8, b: u8, c: u8, d: u8) -> u64
-    ensures { λ r. ⌜ r ≡ a + b * 256 + c * 65536 + d * 16777216 ⌝ }
-{
-    a as u64 + b as u64 * 256 + c as u64 * 65536 + d as u64 * 16777216
-}
-
 // A byte as a wider number.
 fn wide(b: u8) -> u64
     ensures { λ r. ⌜ r ≡ b ⌝ }
@@ -183,14 +188,15 @@ fn lesser(a: usize, b: usize) -> usize
 // Of the replies it lists those that the report counts as written.
 pub fn add_printed(out: &mut [u8], replies: &[u8; REPLY_ROOM], report: &[u8; 9]) -> usize
     requires { ⌜ textRoom ≤ length (now out) ⌝ }
-    ensures { λ r. ⌜ Adds (printedOf (now (replies .entry)) (now (report .entry))) (now (out .entry)) (now (out .exit)) 0 r ⌝ }
+    ensures { λ r. ⌜ Adds (printedOf (now (replies .entry)) (now (report .entry))) (now (out .entry)) (now (out .exit))
+        0 r ⌝ }
     ensures { λ r. ⌜ r ≤ textRoom ⌝ }
 {
-    let taken = count(report[1], report[2], report[3], report[4]);
-    let written = count(report[5], report[6], report[7], report[8]);
+    let taken = four_at(report, 1);
+    let written = four_at(report, 5);
     let n = lesser(written as usize, REPLY_ROOM);
     let all: &[u8] = replies;
-    add_listing(out, &all[..n], wide(report[0]), taken)
+    add_listing(out, &all[..n], wide(report[0]), taken as u64)
 }
 
 // The same at the front of a text that has just the room: the answer says how many bytes.

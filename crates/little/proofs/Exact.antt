@@ -73,7 +73,13 @@ next l i j h e = drop-cons l i 0 h ∙ ap (λ (k : ℕ). getD l i 0 ∷ drop k l
 
 four-bytes : (l : List ℕ) (i : ℕ) → i + 4 ≤ length l → take 4 (drop i l) ≡ getD l i 0 ∷ getD l (i + 1) 0 ∷ getD l (i + 2) 0 ∷ getD l (i + 3) 0 ∷ []
 four-bytes l i h =
-    rw (next l i (i + 1) (omega arith) refl, next l (i + 1) (i + 2) (omega arith) (omega arith), next l (i + 2) (i + 3) (omega arith) (omega arith), next l (i + 3) (i + 4) (omega arith) (omega arith))
+    rw (
+      next l i (i + 1) (omega arith) refl,
+      next l (i + 1) (i + 2) (omega arith) (omega arith),
+      next l (i + 2) (i + 3) (omega arith) (omega arith),
+      next l
+          (i + 3) (i + 4) (omega arith) (omega arith),
+    )
 
 pub same-bytes : (a b c d : ℕ) → a < 256 → b < 256 → c < 256 → d < 256 → le4 (a + b * 256 + c * 65536 + d * 16777216) ≡ a ∷ b ∷ c ∷ d ∷ []
 same-bytes a b c d A B C D =
@@ -88,7 +94,8 @@ same-bytes a b c d A B C D =
     rw (a', b', c', d')
 
 pub le4-of : (l : List ℕ) (i : ℕ) → i + 4 ≤ length l → ((j : ℕ) → getD l j 0 < 256) → le4 (fourAt l i) ≡ take 4 (drop i l)
-le4-of l i h b = same-bytes (getD l i 0) (getD l (i + 1) 0) (getD l (i + 2) 0) (getD l (i + 3) 0) (b i) (b (i + 1)) (b (i + 2)) (b (i + 3)) ∙ sym (four-bytes l i h)
+le4-of l i h b = same-bytes (getD l i 0) (getD l (i + 1) 0) (getD l (i + 2) 0) (getD l (i + 3) 0) (b i) (b (i + 1)) (b (i + 2)) (b (i + 3))
+    ∙ sym (four-bytes l i h)
 
 pub four-lt : (l : List ℕ) (i : ℕ) → ((j : ℕ) → getD l j 0 < 256) → fourAt l i < 4294967296
 four-lt l i b =

@@ -21,7 +21,7 @@ itself (x ∷ l) = rw (eq-eqb x x refl, itself l)
 pub is-same : (l m : List ℕ) → l ≡ m → sameText l m ≡ true
 is-same l m e = subst (λ (k : List ℕ). sameText l k ≡ true) e (itself l)
 
-same-is : (l m : List ℕ) → sameText l m ≡ true → l ≡ m
+pub same-is : (l m : List ℕ) → sameText l m ≡ true → l ≡ m
 unfolding sameText
 same-is [] [] e = refl
 same-is [] (y ∷ m) e = let z : _≡_ {A = ℕ} 0 1 = (cc) in absurd (omega arith)

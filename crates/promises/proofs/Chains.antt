@@ -35,10 +35,13 @@ use Rattle.chip.specs.Step.{pushOf, carried, commandUnder, under}
 use Rattle.chip.specs.Events.{afterEvents, answered, quiet, pushesOf, Tops, Does}
 use Rattle.chip.proofs.Outcomes.{status-lt}
 use Rattle.chip.proofs.OnTop.{idle, floated, exchanged-words, sign-changed}
-use Rattle.chip.proofs.Events.{after-append, answered-append, quiet-append, at-rest-lt, tops-idle, underWord, does-then, does-pushes, does-command, does-float, pushes-do}
+use Rattle.chip.proofs.Events.{after-append, answered-append, quiet-append, at-rest-lt, tops-idle, underWord, does-then, does-pushes, does-command, does-float}
+use Rattle.chip.proofs.Events.{pushes-do}
 use Rattle.promises.specs.FloatWords.{FloatWord as Proper}
 use Rattle.promises.proofs.Measures.{theirs-rest, ours-rest, theirs-word, ours-word, theirs-le, ours-le}
-use Rattle.promises.specs.Chains.{eventsOf, commandsIn, chainOf, Step, Add, Subtract, Multiply, Divide, TakeFrom, Change, Constant, Constants, isReversing, reversing, workOf, wordAfter, Run, Starts, eventsIn, stateAtEnd, resultOf, Quiet, Chains, Demand3, Examples}
+use Rattle.promises.specs.Chains.{eventsOf, commandsIn, chainOf, Step, Add, Subtract, Multiply, Divide, TakeFrom, Change, Constant, Constants}
+use Rattle.promises.specs.Chains.{isReversing, reversing, workOf, wordAfter, Run, Starts, eventsIn, stateAtEnd, resultOf, Quiet, Chains, Demand3}
+use Rattle.promises.specs.Chains.{Examples}
 
 -- ---- one step
 -- every step gives a proper word and an error of four bits
@@ -66,18 +69,25 @@ coded-is false code e = e
 
 module _ (on : Settings) (bit : ℕ → Bool) where
   -- on a state that is written out
-  on-idle : (k : Step) (w : ℕ) (t : List ℕ) (u : ℕ) (v : Bool) → u < 128 → Constant k → FloatWord w → Does on (idle (bytesOf 4 w ++ t) u v) (eventsOf bit k) (workOf (on .rule) k w)
-  on-idle (Add c) w t u v h C W = does-float on FAdd (coded (bit 0) 0x10) c w t u v (coded-is (bit 0) 0x10 (codes .0)) h (theirs-word C) W (work-result (on .rule) (Add c) w C W)
-  on-idle (Subtract c) w t u v h C W = does-float on FSub (coded (bit 0) 0x11) c w t u v (coded-is (bit 0) 0x11 (codes .1)) h (theirs-word C) W (work-result (on .rule) (Subtract c) w C W)
-  on-idle (Multiply c) w t u v h C W = does-float on FMul (coded (bit 0) 0x12) c w t u v (coded-is (bit 0) 0x12 (codes .2)) h (theirs-word C) W (work-result (on .rule) (Multiply c) w C W)
-  on-idle (Divide c) w t u v h C W = does-float on FDiv (coded (bit 0) 0x13) c w t u v (coded-is (bit 0) 0x13 (codes .3)) h (theirs-word C) W (work-result (on .rule) (Divide c) w C W)
+  on-idle : (k : Step) (w : ℕ) (t : List ℕ) (u : ℕ) (v : Bool) → u < 128 → Constant k → FloatWord w → Does on (idle (bytesOf 4 w ++ t) u v) (eventsOf bit k)
+      (workOf (on .rule) k w)
+  on-idle (Add c) w t u v h C W = does-float on FAdd (coded (bit 0) 0x10) c w t u v (coded-is (bit 0) 0x10 (codes .0)) h (theirs-word C) W
+      (work-result (on .rule) (Add c) w C W)
+  on-idle (Subtract c) w t u v h C W = does-float on FSub (coded (bit 0) 0x11) c w t u v (coded-is (bit 0) 0x11 (codes .1)) h (theirs-word C) W
+      (work-result (on .rule) (Subtract c) w C W)
+  on-idle (Multiply c) w t u v h C W = does-float on FMul (coded (bit 0) 0x12) c w t u v (coded-is (bit 0) 0x12 (codes .2)) h (theirs-word C) W
+      (work-result (on .rule) (Multiply c) w C W)
+  on-idle (Divide c) w t u v h C W = does-float on FDiv (coded (bit 0) 0x13) c w t u v (coded-is (bit 0) 0x13 (codes .3)) h (theirs-word C) W
+      (work-result (on .rule) (Divide c) w C W)
   on-idle (TakeFrom c) w t u v h C W =
       let l = bytesOf 4 w ++ (bytesOf 4 c ++ underWord t) in
       does-pushes on c h
       (does-then on (exchanged-words (on .rule) (coded (bit 0) 0x19) w c (underWord t) u v (coded-is (bit 0) 0x19 (codes .5)) h)
       (does-command on (work-result (on .rule) (TakeFrom c) w C W)
-      (floated (on .rule) FSub (coded (bit 1) 0x11) c w (underWord t) (statusOf Double l 0 false) (sr (coded (bit 0) 0x19)) (coded-is (bit 1) 0x11 (codes .1)) (status-lt Double l 0 false (omega arith)) (theirs-word C) W)))
-  on-idle Change w t u v h C W = does-command on (work-result (on .rule) Change w C W) (sign-changed (on .rule) (coded (bit 0) 0x15) w t u v (coded-is (bit 0) 0x15 (codes .4)) h W)
+      (floated (on .rule) FSub (coded (bit 1) 0x11) c w (underWord t) (statusOf Double l 0 false) (sr (coded (bit 0) 0x19)) (coded-is (bit 1) 0x11 (codes .1))
+      (status-lt Double l 0 false (omega arith)) (theirs-word C) W)))
+  on-idle Change w t u v h C W = does-command on (work-result (on .rule) Change w C W) (sign-changed (on .rule) (coded (bit 0) 0x15) w t u v
+      (coded-is (bit 0) 0x15 (codes .4)) h W)
 
   -- on any state with a word on top
   step-does : (k : Step) (w : ℕ) (s : State) → Constant k → FloatWord w → Tops w s → Does on s (eventsOf bit k) (workOf (on .rule) k w)
@@ -111,7 +121,8 @@ module _ (on : Settings) where
   chained (k ∷ ks) sr w s C W T =
       let d = step-does on sr k w s (C .0) W T in
       let rest = chainOf (λ (n : ℕ). sr (commandsIn k + n)) ks in
-      let i = chained ks (λ (n : ℕ). sr (commandsIn k + n)) ((workOf (on .rule) k w) .word) (afterEvents on s (eventsOf sr k)) (C .1) (work-result (on .rule) k w (C .0) W .word) (d .tops) in
+      let i = chained ks (λ (n : ℕ). sr (commandsIn k + n)) ((workOf (on .rule) k w) .word) (afterEvents on s (eventsOf sr k)) (C .1)
+      (work-result (on .rule) k w (C .0) W .word) (d .tops) in
       record {
         all-answered = answered-append on s (eventsOf sr k) rest (d .all-answered) (i .all-answered);
         tops = subst (λ (x : State). Tops (wordAfter (on .rule) w (k ∷ ks)) x) (sym (after-append on s (eventsOf sr k) rest)) (i .tops);
@@ -133,10 +144,12 @@ module _ (on : Settings) where
 
   -- the result is the word that the chain makes
   pub result-is : (x : Run) (ks : List Step) → Starts x → Constants ks → resultOf on x ks ≡ wordAfter (on .rule) (x .word) ks
-  result-is x ks S C = ap (λ (l : List ℕ). tos 4 l) (run x ks S C .tops .stack-is) ∙ number-bytes 4 (wordAfter (on .rule) (x .word) ks) (word-proper ks (x .word) C (theirs-word (S .proper)) .fits)
+  result-is x ks S C = ap (λ (l : List ℕ). tos 4 l) (run x ks S C .tops .stack-is) ∙ number-bytes 4 (wordAfter (on .rule) (x .word) ks)
+      (word-proper ks (x .word) C (theirs-word (S .proper)) .fits)
 
   -- its bytes lie on top at the end
-  pub on-top : (x : Run) (ks : List Step) → Starts x → Constants ks → (below : List ℕ) → take 4 ((stateAtEnd on x ks) .stack ++ below) ≡ bytesOf 4 (wordAfter (on .rule) (x .word) ks)
+  pub on-top : (x : Run) (ks : List Step) → Starts x → Constants ks → (below : List ℕ) → take 4 ((stateAtEnd on x ks) .stack ++ below) ≡ bytesOf 4
+      (wordAfter (on .rule) (x .word) ks)
   on-top x ks S C below = ap (λ (l : List ℕ). take 4 (l ++ below)) (run x ks S C .tops .stack-is)
 
   -- ---- the order
@@ -154,7 +167,8 @@ module _ (on : Settings) where
   one-more true n v w x y h keep turn = (λ e. turn h .1 (omega arith), λ e. turn h .0 (omega arith))
   one-more false n v w x y h keep turn = (λ e. keep h .0 (omega arith), λ e. keep h .1 (omega arith))
 
-  word-order : (ks : List Step) (v w : ℕ) → Constants ks → FloatWord v → FloatWord w → Le v w → NoErrors (on .rule) v ks → NoErrors (on .rule) w ks → Ordered (reversing ks) (wordAfter (on .rule) v ks) (wordAfter (on .rule) w ks)
+  word-order : (ks : List Step) (v w : ℕ) → Constants ks → FloatWord v → FloatWord w → Le v w → NoErrors (on .rule) v ks → NoErrors (on .rule) w ks
+      → Ordered (reversing ks) (wordAfter (on .rule) v ks) (wordAfter (on .rule) w ks)
   word-order [] v w C A B l e f = (λ z. l, λ z. absurd (omega arith))
   word-order (k ∷ ks) v w C A B l e f =
       let v' = (workOf (on .rule) k v) .word in
@@ -165,7 +179,8 @@ module _ (on : Settings) where
       (λ h. word-order ks v' w' (C .1) A' B' h (e .1) (f .1))
       (λ h. word-order ks w' v' (C .1) B' A' h (f .1) (e .1))
 
-  ordered : (x y : Run) (ks : List Step) → Starts x → Starts y → Constants ks → Quiet on x ks → Quiet on y ks → Le (x .word) (y .word) → Ordered (reversing ks) (resultOf on x ks) (resultOf on y ks)
+  ordered : (x y : Run) (ks : List Step) → Starts x → Starts y → Constants ks → Quiet on x ks → Quiet on y ks → Le (x .word) (y .word)
+      → Ordered (reversing ks) (resultOf on x ks) (resultOf on y ks)
   ordered x y ks S T C q p l =
       subst₂ (λ (v w : ℕ). Ordered (reversing ks) v w) (sym (result-is x ks S C)) (sym (result-is y ks T C))
       (word-order ks (x .word) (y .word) C (theirs-word (S .proper)) (theirs-word (T .proper)) l (run x ks S C .no-errors q) (run y ks T C .no-errors p))
@@ -204,7 +219,13 @@ chain-examples = record {
   every-kind = (
     (
       record { fits = lit< tt; is-proper = refl },
-      (record { fits = lit< tt; is-proper = refl }, (record { fits = lit< tt; is-proper = refl }, (tt, (record { fits = lit< tt; is-proper = refl }, (record { fits = lit< tt; is-proper = refl }, tt))))),
+      (
+        record { fits = lit< tt; is-proper = refl },
+        (
+          record { fits = lit< tt; is-proper = refl },
+          (tt, (record { fits = lit< tt; is-proper = refl }, (record { fits = lit< tt; is-proper = refl }, tt))),
+        ),
+      ),
     ),
     refl,
     refl,

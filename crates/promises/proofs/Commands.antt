@@ -1,4 +1,5 @@
--- The rows of 01's tables: on a stack that is spelled as words each layout computes, the words are read back, and the status is that of the new top word. Assumes nothing.
+-- The rows of 01's tables: on a stack that is spelled as words each layout computes, the words are read back, and the status is that of the new top word.
+-- Assumes nothing.
 use mathlib.Core.Path.{_≡_, refl, sym, ap, ap₂, _∙_, subst}
 use mathlib.Core.Logic.{_⊎_, inl, inr, ⊎-elim}
 use mathlib.Core.Bool.{Bool, true, false, not, _&&_, _||_}
@@ -41,13 +42,15 @@ use Rattle.codes.specs.Command.{Nop, Add, Sub, Mul, Muu, Div, Chs, Float, Chsf,
 use Rattle.codes.specs.declared.FloatOp.{FloatOp}
 use Rattle.codes.specs.declared.FloatOp.the-variants.{Add as FAdd, Sub as FSub, Mul as FMul, Div as FDiv}
 use Rattle.chip.specs.Status.{statusOf}
-use Rattle.chip.specs.Commands.{baseRule, piOf, wordA, wordB, ends, moves, keepsA, losesA, changesA, floats, converts, widens, narrows, floatOf, outcomeOf, properOperands}
+use Rattle.chip.specs.Commands.{baseRule, piOf, wordA, wordB, ends, moves, keepsA, losesA, changesA, floats, converts, widens, narrows, floatOf, outcomeOf}
+use Rattle.chip.specs.Commands.{properOperands}
 use Rattle.chip.specs.Step.{done, carried, commandUnder}
 use Rattle.codes.specs.Command.{Known}
 use Rattle.codes.specs.Codes.{decoded}
 use Rattle.promises.proofs.Measures.{theirs-word}
 use Rattle.promises.specs.BusEvents.{piWord}
-use Rattle.promises.specs.Commands.{least, words, valueIn, fitsIn, lowOf, lowIn, word, statusBy, holding, Leaves, Refuses, Two, FixedRows, WholeNumbers, MoveRows, FloatRows, ConversionRows, Rows, Commands}
+use Rattle.promises.specs.Commands.{least, words, valueIn, fitsIn, lowOf, lowIn, word, statusBy, holding, Leaves, Refuses, Two, FixedRows, WholeNumbers}
+use Rattle.promises.specs.Commands.{MoveRows, FloatRows, ConversionRows, Rows, Commands}
 
 -- ---- the words of a stack are read back
 pub top-is : (w : Width) (a : ℕ) (t : List ℕ) → a < words w → tos (sizeOf w) (word w a t) ≡ a
@@ -87,17 +90,22 @@ module _ (w : Width) (f : ℕ → ℕ → Fixed) (b a r e : ℕ) (c : Bool) (cs 
   found : f (wordB w (word w a (word w b cs))) (wordA w (word w a (word w b cs))) ≡ outcome r e c
   found = ap₂ f (next-is w b a cs B) (top-is w a (word w b cs) A) ∙ F
 
-  keeps : keepsA w (word w a (word w b cs)) (f (wordB w (word w a (word w b cs))) (wordA w (word w a (word w b cs)))) ≡ ends w (word w r (cs ++ bytesOf (sizeOf w) a)) e c
+  keeps : keepsA w (word w a (word w b cs)) (f (wordB w (word w a (word w b cs))) (wordA w (word w a (word w b cs)))) ≡ ends w
+      (word w r (cs ++ bytesOf (sizeOf w) a)) e c
   unfolding keepsA
   keeps = ap (keepsA w (word w a (word w b cs))) found ∙ ap (λ (l : List ℕ). ends w l e c) (over-a w b a r cs)
 
-  pub loses : losesA w (word w a (word w b cs)) (f (wordB w (word w a (word w b cs))) (wordA w (word w a (word w b cs)))) ≡ ends w (word w r (cs ++ bytesOf (sizeOf w) 0)) e false
+  pub loses : losesA w (word w a (word w b cs)) (f (wordB w (word w a (word w b cs))) (wordA w (word w a (word w b cs)))) ≡ ends w
+      (word w r (cs ++ bytesOf (sizeOf w) 0)) e false
   unfolding losesA
   loses = ap (losesA w (word w a (word w b cs))) found ∙ ap (λ (l : List ℕ). ends w l e false) (over-zero w b a r cs)
 
-changes : (w : Width) (f : ℕ → Fixed) (a r e : ℕ) (c : Bool) (bs : List ℕ) → a < words w → f a ≡ outcome r e c → changesA w (word w a bs) (f (wordA w (word w a bs))) ≡ ends w (word w r bs) e false
-changes Single f a r e c bs h F = unfold changesA in ap (λ (x : ℕ). changesA Single (word Single a bs) (f x)) (top-is Single a bs h) ∙ ap (changesA Single (word Single a bs)) F
-changes Double f a r e c bs h F = unfold changesA in ap (λ (x : ℕ). changesA Double (word Double a bs) (f x)) (top-is Double a bs h) ∙ ap (changesA Double (word Double a bs)) F
+changes : (w : Width) (f : ℕ → Fixed) (a r e : ℕ) (c : Bool) (bs : List ℕ) → a < words w → f a ≡ outcome r e c
+    → changesA w (word w a bs) (f (wordA w (word w a bs))) ≡ ends w (word w r bs) e false
+changes Single f a r e c bs h F = unfold changesA in ap (λ (x : ℕ). changesA Single (word Single a bs) (f x)) (top-is Single a bs h)
+    ∙ ap (changesA Single (word Single a bs)) F
+changes Double f a r e c bs h F = unfold changesA in ap (λ (x : ℕ). changesA Double (word Double a bs) (f x)) (top-is Double a bs h)
+    ∙ ap (changesA Double (word Double a bs)) F
 
 -- ---- fixed point, over h = 2 ^ (n - 1)
 module _ (h b a : ℕ) (W : Words h b a) where
@@ -106,7 +114,8 @@ module _ (h b a : ℕ) (W : Words h b a) where
 
   pub sum-is : xadd h b a ≡ outcome ((b + a) % (2 * h)) (overflowIf (not (fits h (signed h b +ℤ signed h a)))) (leb (2 * h) (b + a))
   unfolding xadd
-  sum-is = ap (λ (x : ℕ). outcome x (overflowIf (not (fits h (signed h b +ℤ signed h a)))) (leb (2 * h) (b + a))) (sym (sum-low h b a ((b + a) % (2 * h)) W refl))
+  sum-is = ap (λ (x : ℕ). outcome x (overflowIf (not (fits h (signed h b +ℤ signed h a)))) (leb (2 * h) (b + a))) (sym (sum-low h b a ((b + a) % (2 * h)) W
+      refl))
 
   -- B - A modulo 2h, and A, make B
   back : ((b + 2 * h - a) % (2 * h) + a) % (2 * h) ≡ b
@@ -117,7 +126,8 @@ module _ (h b a : ℕ) (W : Words h b a) where
       (λ (k : b < a).
       let e : (b + 2 * h - a) % (2 * h) ≡ b + 2 * h - a = mod-eq-of-lt (omega arith) in
       let f : (b + 2 * h - a) % (2 * h) + a ≡ b + 2 * h = omega arith in
-      ap (λ (x : ℕ). x % (2 * h)) f ∙ mod-eq-sub-mod {n = b + 2 * h} {m = 2 * h} (omega arith) ∙ ap (λ (x : ℕ). x % (2 * h)) (plus-less b (2 * h)) ∙ mod-eq-of-lt L)
+      ap (λ (x : ℕ). x % (2 * h)) f ∙ mod-eq-sub-mod {n = b + 2 * h} {m = 2 * h} (omega arith) ∙ ap (λ (x : ℕ). x % (2 * h)) (plus-less b (2 * h))
+      ∙ mod-eq-of-lt L)
       (λ (k : a ≤ b).
       let e : (b + 2 * h - a) % (2 * h) ≡ b - a =
       mod-eq-sub-mod {n = b + 2 * h - a} {m = 2 * h} (omega arith) ∙ ap (λ (x : ℕ). x % (2 * h)) (less-plus b (2 * h) a k) ∙ mod-eq-of-lt (omega arith) in
@@ -175,7 +185,8 @@ negation-is : (h a : ℕ) → Words h 0 a → xchs h a ≡ outcome ((2 * h - a) 
 unfolding xchs
 negation-is h a W =
     let z : signed h 0 ≡ pos 0 = rw (lt-ltb 0 h (W .some)) in
-    let e : (2 * h - a) % (2 * h) ≡ low h (negℤ (signed h a)) = ap (λ (x : ℕ). (x - a) % (2 * h)) (sym (zero-add (2 * h))) ∙ difference-low h 0 a W ∙ ap (λ (x : ℤ). low h (x -ℤ signed h a)) z ∙ ap (low h) (+ℤ-idl (negℤ (signed h a))) in
+    let e : (2 * h - a) % (2 * h) ≡ low h (negℤ (signed h a)) = ap (λ (x : ℕ). (x - a) % (2 * h)) (sym (zero-add (2 * h))) ∙ difference-low h 0 a W
+    ∙ ap (λ (x : ℤ). low h (x -ℤ signed h a)) z ∙ ap (low h) (+ℤ-idl (negℤ (signed h a))) in
     ap (λ (x : ℕ). outcome x (overflowIf (eqb a h)) false) (sym e)
 
 no-divisor : (h b : ℕ) → xdiv h b 0 ≡ outcome b 8 false
@@ -279,7 +290,8 @@ module _ (rule : Rule) where
   popped-to Single b a cs = refl
   popped-to Double b a cs = refl
 
-  copied-to : (w : Width) (a lost : ℕ) (bs : List ℕ) → length bs ≡ 16 - (sizeOf w + sizeOf w) → outcomeOf rule (Pto w) (word w a (bs ++ bytesOf (sizeOf w) lost)) ≡ moves w (word w a (word w a bs))
+  copied-to : (w : Width) (a lost : ℕ) (bs : List ℕ) → length bs ≡ 16 - (sizeOf w + sizeOf w)
+      → outcomeOf rule (Pto w) (word w a (bs ++ bytesOf (sizeOf w) lost)) ≡ moves w (word w a (word w a bs))
   copied-to Single a lost bs h = ap (λ (l : List ℕ). moves Single (word Single a (word Single a l))) (take-at bs (bytesOf 2 lost) 12 h)
   copied-to Double a lost bs h = ap (λ (l : List ℕ). moves Double (word Double a (word Double a l))) (take-at bs (bytesOf 4 lost) 8 h)
 
@@ -296,14 +308,17 @@ module _ (rule : Rule) where
 
 -- ---- the float commands
 module _ (rule : Rule) where
-  operands : (op : FloatOp) (b a : ℕ) (cs : List ℕ) → b < words Double → a < words Double → properOperands (Float op) (word Double a (word Double b cs)) ≡ (proper b && proper a)
+  operands : (op : FloatOp) (b a : ℕ) (cs : List ℕ) → b < words Double → a < words Double → properOperands (Float op) (word Double a (word Double b cs))
+      ≡ (proper b && proper a)
   operands op b a cs B A = ap₂ (λ (x y : ℕ). proper x && proper y) (next-is Double b a cs B) (top-is Double a (word Double b cs) A)
 
-  float-row : (op : FloatOp) (b a : ℕ) → FloatWord b → FloatWord a → (floatOf rule op b a) .word < words Double → Two rule Double (Float op) b a ((floatOf rule op b a) .word) ((floatOf rule op b a) .error) false 0
+  float-row : (op : FloatOp) (b a : ℕ) → FloatWord b → FloatWord a → (floatOf rule op b a) .word < words Double → Two rule Double (Float op) b a
+      ((floatOf rule op b a) .word) ((floatOf rule op b a) .error) false 0
   float-row op b a B A h cs =
       accepted rule (Float op) (word Double a (word Double b cs)) Double ((floatOf rule op b a) .word) ((floatOf rule op b a) .error) false (cs ++ bytesOf 4 0)
       (operands op b a cs (B .fits) (A .fits) ∙ ap₂ _&&_ (B .is-proper) (A .is-proper)) h
-      (unfold floats in ap₂ (λ (x y : ℕ). floats (word Double a (word Double b cs)) (floatOf rule op x y)) (next-is Double b a cs (B .fits)) (top-is Double a (word Double b cs) (A .fits)))
+      (unfold floats in ap₂ (λ (x y : ℕ). floats (word Double a (word Double b cs)) (floatOf rule op x y)) (next-is Double b a cs (B .fits))
+      (top-is Double a (word Double b cs) (A .fits)))
 
   not-both : (p q : Bool) → (p ≡ false) ⊎ (q ≡ false) → (p && q) ≡ false
   not-both p q (inl e) = ap (λ (x : Bool). x && q) e
@@ -357,7 +372,8 @@ module _ (f : ℕ → Flagged) (a b c : ℕ) (A : a < words Double) (ds : List �
   given : f (wordA Double (three a b c ds)) ≡ f a
   given = ap f (top-is Double a (word Double b (word Double c ds)) A)
 
-  converted-to : (r e : ℕ) → f a ≡ record { word = r; error = e } → converts (three a b c ds) (f (wordA Double (three a b c ds))) ≡ ends Double (three r b c (zeros 4)) e false
+  converted-to : (r e : ℕ) → f a ≡ record { word = r; error = e } → converts (three a b c ds) (f (wordA Double (three a b c ds))) ≡ ends Double
+      (three r b c (zeros 4)) e false
   unfolding converts
   converted-to r e F = ap (converts (three a b c ds)) (given ∙ F)
 
@@ -380,9 +396,11 @@ abbrev five : ℕ → ℕ → ℕ → ℕ → ℕ → List ℕ → List ℕ
 five a b c d e fs = word Single a (word Single b (word Single c (word Single d (word Single e fs))))
 
 widened-to : (f : ℕ → Flagged) (a b c d e : ℕ) → a < words Single → (fs : List ℕ) (r : ℕ) → f a ≡ record { word = r; error = 0 }
-    → widens (five a b c d e fs) (f (wordA Single (five a b c d e fs))) ≡ ends Double (word Double r (word Single b (word Single c (word Single d (word Single e (zeros 4)))))) 0 false
+    → widens (five a b c d e fs) (f (wordA Single (five a b c d e fs))) ≡ ends Double
+    (word Double r (word Single b (word Single c (word Single d (word Single e (zeros 4)))))) 0 false
 unfolding widens
-widened-to f a b c d e A fs r F = ap (λ (x : ℕ). widens (five a b c d e fs) (f x)) (top-is Single a (word Single b (word Single c (word Single d (word Single e fs)))) A) ∙ ap (widens (five a b c d e fs)) F
+widened-to f a b c d e A fs r F = ap (λ (x : ℕ). widens (five a b c d e fs) (f x))
+    (top-is Single a (word Single b (word Single c (word Single d (word Single e fs)))) A) ∙ ap (widens (five a b c d e fs)) F
 
 -- a result without error, by its word
 pub no-error : (r : Flagged) → r .error ≡ 0 → r ≡ record { word = r .word; error = 0 }
@@ -396,19 +414,23 @@ module _ (rule : Rule) where
   unfolding wholePart
   conversion-rows = record {
     fltd-row = λ a b c A ds.
-        accepted rule (Flt Double) (three a b c ds) Double ((fltd rule a) .word) 0 false (word Double b (word Double c (zeros 4))) refl (fltd-result rule a .word .fits)
+        accepted rule (Flt Double) (three a b c ds) Double ((fltd rule a) .word) 0 false (word Double b (word Double c (zeros 4))) refl
+        (fltd-result rule a .word .fits)
         (converted-to (fltd rule) a b c A ds ((fltd rule a) .word) 0 (no-error (fltd rule a) (fltd-no-error rule a A)));
     flts-row = λ a b c d e A fs.
-        accepted rule (Flt Single) (five a b c d e fs) Double ((flts a) .word) 0 false (word Single b (word Single c (word Single d (word Single e (zeros 4))))) refl (flts-result a .word .fits)
+        accepted rule (Flt Single) (five a b c d e fs) Double ((flts a) .word) 0 false (word Single b (word Single c (word Single d (word Single e (zeros 4)))))
+        refl (flts-result a .word .fits)
         (widened-to flts a b c d e A fs ((flts a) .word) (no-error (flts a) (flts-no-error a A)));
     fixd-row = λ a b c A h ds.
         accepted rule (Fix Double) (three a b c ds) Double (complement (2 ^ 31) (negative a) (wholePart a)) 0 false (word Double b (word Double c (zeros 4)))
         (one-operand Double a (word Double b (word Double c ds)) (A .fits) ∙ A .is-proper) (complement-lt (2 ^ 31) (negative a) (wholePart a) h)
-        (converted-to (fix (2 ^ 31)) a b c (A .fits) ds (complement (2 ^ 31) (negative a) (wholePart a)) 0 (sym (fix-within (2 ^ 31) a (wholePart a) (negative a) refl h refl)));
+        (converted-to (fix (2 ^ 31)) a b c (A .fits) ds (complement (2 ^ 31) (negative a) (wholePart a)) 0
+        (sym (fix-within (2 ^ 31) a (wholePart a) (negative a) refl h refl)));
     fixs-row = λ a b c A h ds.
         accepted rule (Fix Single) (three a b c ds) Single (complement (2 ^ 15) (negative a) (wholePart a)) 0 false (word Double b (word Double c (zeros 6)))
         (one-operand Single a (word Double b (word Double c ds)) (A .fits) ∙ A .is-proper) (complement-lt (2 ^ 15) (negative a) (wholePart a) h)
-        (narrowed-to (fix (2 ^ 15)) a b c (A .fits) ds (complement (2 ^ 15) (negative a) (wholePart a)) (sym (fix-within (2 ^ 15) a (wholePart a) (negative a) refl h refl)));
+        (narrowed-to (fix (2 ^ 15)) a b c (A .fits) ds (complement (2 ^ 15) (negative a) (wholePart a))
+        (sym (fix-within (2 ^ 15) a (wholePart a) (negative a) refl h refl)));
     fixd-over = λ a b c A h ds.
         accepted rule (Fix Double) (three a b c ds) Double a 1 false (word Double b (word Double c (zeros 4)))
         (one-operand Double a (word Double b (word Double c ds)) (A .fits) ∙ A .is-proper) (A .fits)
@@ -425,7 +447,8 @@ module _ (rule : Rule) where
   unfolding commandUnder carried
   nop stack code status service is ready = rw (lt-leb 128 status ready, is)
 
-pushed-pi : (rule : Rule) (pi lost : ℕ) (abc : List ℕ) → piOf rule ≡ pi → pi < words Double → length abc ≡ 12 → Leaves rule Pupi (abc ++ bytesOf 4 lost) Double pi 0 false abc
+pushed-pi : (rule : Rule) (pi lost : ℕ) (abc : List ℕ) → piOf rule ≡ pi → pi < words Double → length abc ≡ 12 → Leaves rule Pupi (abc ++ bytesOf 4 lost) Double
+    pi 0 false abc
 pushed-pi rule pi lost abc e f h =
     accepted rule Pupi (abc ++ bytesOf 4 lost) Double pi 0 false abc refl f
     (ap₂ (λ (x : ℕ) (l : List ℕ). moves Double (word Double x l)) e (take-at abc (bytesOf 4 lost) 12 h))

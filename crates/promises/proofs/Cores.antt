@@ -40,8 +40,10 @@ use Rattle.state_bytes.specs.Calls.{Signal, signalBy, signalUnder, answerToKind
 use Rattle.state_bytes.proofs.Calling.{event-chosen}
 use Rattle.promises.proofs.Measures.{ours-state, theirs-state}
 use Rattle.promises.specs.Given.{Given, Chosen, settingsIn, eventCall}
-use Rattle.promises.specs.Chains.{Step, Add, Subtract, Multiply, Divide, TakeFrom, Change, given, eventsOf, commandsIn, chainOf, Constants, wordAfter, Run, Starts, resultOf, Quiet, runEvents}
-use Rattle.promises.specs.Cores.{Core, Meets, kindNumber, byteOf, onBus, driven, returned, answersOf, NoRecall, Keeps, Sendable, allZero, clearAfter, drivenQuietly, Begins, busRun, wordLeft, Cores}
+use Rattle.promises.specs.Chains.{Step, Add, Subtract, Multiply, Divide, TakeFrom, Change, given, eventsOf, commandsIn, chainOf, Constants, wordAfter}
+use Rattle.promises.specs.Chains.{Run, Starts, resultOf, Quiet, runEvents}
+use Rattle.promises.specs.Cores.{Core, Meets, kindNumber, byteOf, onBus, driven, returned, answersOf, NoRecall, Keeps, Sendable, allZero, clearAfter}
+use Rattle.promises.specs.Cores.{drivenQuietly, Begins, busRun, wordLeft, Cores}
 use Rattle.promises.specs.FloatWords.{FloatWord, Le}
 use Rattle.promises.proofs.Kept.{command-byte}
 use Rattle.promises.proofs.Chains.{demand-3, on-top}
@@ -108,10 +110,12 @@ abbrev signalFor : ℕ → CardAnswer → Signal
 signalFor n a = record { result = joinedOf (numberOf (a .refusal)) (a .byte); state = laidOut n (a .card) }
 
 -- the bytes of a card, read as x
-module _ (n : ℕ) (k x : Card) (good : isState (laidOut n k) ≡ true) (size : length (laidOut n k) ≡ n) (read : cardIn (k .on) (laidOut n k) ≡ x) (same : laidOut n k ≡ laidOut n x) where
+module _ (n : ℕ) (k x : Card) (good : isState (laidOut n k) ≡ true) (size : length (laidOut n k) ≡ n) (read : cardIn (k .on) (laidOut n k) ≡ x) (same : laidOut
+    n k ≡ laidOut n x) where
   kept : (e : Event) → cond (eqb (numberOf (eventIn x e .refusal)) 0) (laidOut n (eventIn x e .card)) (laidOut n k) ≡ laidOut n (eventIn x e .card)
   kept e =
-      either-eq (λ (l : List ℕ). l ≡ laidOut n (eventIn x e .card)) (numberOf (eventIn x e .refusal)) 0 _ _ (λ z. refl) (λ z. same ∙ ap (laidOut n) (sym (refused-leaves x e z)))
+      either-eq (λ (l : List ℕ). l ≡ laidOut n (eventIn x e .card)) (numberOf (eventIn x e .refusal)) 0 _ _ (λ z. refl) (λ z. same
+      ∙ ap (laidOut n) (sym (refused-leaves x e z)))
 
   abbrev signalled : List ℕ → Event → Signal
   signalled l e = record { result = joinedOf (numberOf (eventIn x e .refusal)) (eventIn x e .byte); state = l }
@@ -121,7 +125,8 @@ module _ (n : ℕ) (k x : Card) (good : isState (laidOut n k) ≡ true) (size : 
 
   signal-is : (e : Event) → signalUnder (k .on) (laidOut n k) (kindNumber e) (byteOf e) ≡ signalFor n (eventIn x e)
   signal-is e =
-      ap (λ (t : Bool). cond t (signalBy (laidOut n k) (answerToKind (cardIn (k .on) (laidOut n k)) (kindNumber e) (byteOf e))) (record { result = joinedOf 13 0; state = laidOut n k })) good
+      ap (λ (t : Bool). cond t (signalBy (laidOut n k) (answerToKind (cardIn (k .on) (laidOut n k)) (kindNumber e) (byteOf e)))
+      (record { result = joinedOf 13 0; state = laidOut n k })) good
       ∙ ap (λ (y : Card). signalBy (laidOut n k) (answerToKind y (kindNumber e) (byteOf e))) read
       ∙ ap (signalBy (laidOut n k)) (answer-is x e)
       ∙ ap (λ (m : ℕ). signalWith m e) size
@@ -134,7 +139,8 @@ long-signal k r e =
     signal-is 21 k k (laid-state k r 21 (inr refl)) (laid-length k S 21 (inr refl)) (card-long k S) refl e
 
 -- without, that of the card whose memory is empty, which leaves the same 19 bytes
-short-signal : (k : Card) → ReadyCard k → (e : Event) → signalUnder (k .on) (laidOut 19 k) (kindNumber e) (byteOf e) ≡ signalFor 19 (eventIn (cardWith (k .on) (k .chip) emptyMemory) e)
+short-signal : (k : Card) → ReadyCard k → (e : Event) → signalUnder (k .on) (laidOut 19 k) (kindNumber e) (byteOf e) ≡ signalFor 19
+    (eventIn (cardWith (k .on) (k .chip) emptyMemory) e)
 short-signal k r e =
     let S = r .chip .stack .sixteen in
     signal-is 19 k (cardWith (k .on) (k .chip) emptyMemory) (laid-state k r 19 (inl refl)) (laid-length k S 19 (inl refl)) (card-short k S) refl e
@@ -150,8 +156,10 @@ still-serves g k e r h = record { good = leaves-good k e (r .good) h; set = sett
 
 module _ (g : Given) (C : Chosen g) (c : Core) (M : Meets g c) where
   -- the call's definition on the bytes of a card
-  called : (n : ℕ) (k : Card) (e : Event) → Serves g k → eventCall g (laidOut n k) (kindNumber e) (byteOf e) ≡ signalUnder (k .on) (laidOut n k) (kindNumber e) (byteOf e)
-  called n k e r = event-chosen (g .mode) (g .rule) (laidOut n k) (kindNumber e) (byteOf e) (C .mode) (C .rule) ∙ ap (λ (on : Settings). signalUnder on (laidOut n k) (kindNumber e) (byteOf e)) (sym (r .set))
+  called : (n : ℕ) (k : Card) (e : Event) → Serves g k → eventCall g (laidOut n k) (kindNumber e) (byteOf e) ≡ signalUnder (k .on) (laidOut n k) (kindNumber e)
+      (byteOf e)
+  called n k e r = event-chosen (g .mode) (g .rule) (laidOut n k) (kindNumber e) (byteOf e) (C .mode) (C .rule)
+      ∙ ap (λ (on : Settings). signalUnder on (laidOut n k) (kindNumber e) (byteOf e)) (sym (r .set))
 
   -- the state and the number that its contract gives a core
   abbrev StateTold : ℕ → Card → Event → Type 0
@@ -168,11 +176,13 @@ module _ (g : Given) (C : Chosen g) (c : Core) (M : Meets g c) where
       ∙ ap (λ (x : Signal). x .state) (called 19 k e r ∙ short-signal k (r .good) e)
       ∙ ap (λ (s : State). laidOut 19 (cardWith (k .on) s emptyMemory)) (event-alike (cardWith (k .on) (k .chip) emptyMemory) k e refl refl .chip-same)))
       (λ a. subst (λ (m : ℕ). StateTold m k e) (sym a)
-      (M .event (laidOut 21 k) (kindNumber e) (byteOf e) (laid-bytes k (r .good) 21) (kind-small e) b .state-is ∙ ap (λ (x : Signal). x .state) (called 21 k e r ∙ long-signal k (r .good) e)))
+      (M .event (laidOut 21 k) (kindNumber e) (byteOf e) (laid-bytes k (r .good) 21) (kind-small e) b .state-is ∙ ap (λ (x : Signal). x .state) (called 21 k e r
+      ∙ long-signal k (r .good) e)))
       h
 
   pub number-long : (k : Card) (e : Event) → Serves g k → byteOf e < 256 → NumberTold 21 k e
-  number-long k e r b = M .event (laidOut 21 k) (kindNumber e) (byteOf e) (laid-bytes k (r .good) 21) (kind-small e) b .result-is ∙ ap (λ (x : Signal). x .result) (called 21 k e r ∙ long-signal k (r .good) e)
+  number-long k e r b = M .event (laidOut 21 k) (kindNumber e) (byteOf e) (laid-bytes k (r .good) 21) (kind-small e) b .result-is
+      ∙ ap (λ (x : Signal). x .result) (called 21 k e r ∙ long-signal k (r .good) e)
 
   number-short : (k : Card) (e : Event) → Serves g k → byteOf e < 256 → (e ≡ Recall → ⊥) → NumberTold 19 k e
   number-short k e r b o =
@@ -187,7 +197,8 @@ module _ (g : Given) (C : Chosen g) (c : Core) (M : Meets g c) where
       ap (λ (l : List ℕ). driven c l es) (state-told n h k e r (S .0)) ∙ states n h ((eventIn k e) .card) (still-serves g k e r (S .0)) es (S .1)
 
   -- one answer more
-  more : (n : ℕ) (k : Card) (e : Event) (es : List Event) → NumberTold n k e → StateTold n k e → returned c (laidOut n ((eventIn k e) .card)) es ≡ answersOf ((eventIn k e) .card) es
+  more : (n : ℕ) (k : Card) (e : Event) (es : List Event) → NumberTold n k e → StateTold n k e → returned c (laidOut n ((eventIn k e) .card))
+      es ≡ answersOf ((eventIn k e) .card) es
       → returned c (laidOut n k) (e ∷ es) ≡ answersOf k (e ∷ es)
   more n k e es a b d =
       ap₂ (λ (m : ℕ) (l : List ℕ). m ∷ returned c l es) a b
@@ -196,15 +207,18 @@ module _ (g : Given) (C : Chosen g) (c : Core) (M : Meets g c) where
   numbers-long : (k : Card) → Serves g k → (es : List Event) → Sendable es → returned c (laidOut 21 k) es ≡ answersOf k es
   numbers-long k r [] S = refl
   numbers-long k r (e ∷ es) S =
-      more 21 k e es (number-long k e r (S .0)) (state-told 21 (inr refl) k e r (S .0)) (numbers-long ((eventIn k e) .card) (still-serves g k e r (S .0)) es (S .1))
+      more 21 k e es (number-long k e r (S .0)) (state-told 21 (inr refl) k e r (S .0)) (numbers-long ((eventIn k e) .card) (still-serves g k e r (S .0)) es
+      (S .1))
 
   numbers-short : (k : Card) → Serves g k → (es : List Event) → Sendable es → NoRecall es → returned c (laidOut 19 k) es ≡ answersOf k es
   numbers-short k r [] S o = refl
   numbers-short k r (Chip e ∷ es) S o =
-      more 19 k (Chip e) es (number-short k (Chip e) r (S .0) (λ z. not-recall e z)) (state-told 19 (inl refl) k (Chip e) r (S .0)) (numbers-short ((eventIn k (Chip e)) .card) (still-serves g k (Chip e) r (S .0)) es (S .1) o)
+      more 19 k (Chip e) es (number-short k (Chip e) r (S .0) (λ z. not-recall e z)) (state-told 19 (inl refl) k (Chip e) r (S .0))
+      (numbers-short ((eventIn k (Chip e)) .card) (still-serves g k (Chip e) r (S .0)) es (S .1) o)
   numbers-short k r (Recall ∷ es) S o = absurd o
   numbers-short k r (Forget ∷ es) S o =
-      more 19 k Forget es (number-short k Forget r (S .0) (λ z. forget-recall z)) (state-told 19 (inl refl) k Forget r (S .0)) (numbers-short ((eventIn k Forget) .card) (still-serves g k Forget r (S .0)) es (S .1) o)
+      more 19 k Forget es (number-short k Forget r (S .0) (λ z. forget-recall z)) (state-told 19 (inl refl) k Forget r (S .0))
+      (numbers-short ((eventIn k Forget) .card) (still-serves g k Forget r (S .0)) es (S .1) o)
 
 -- ---- chains
 sendable-append : (xs ys : List ChipEvent) → Sendable (onBus xs) → Sendable (onBus ys) → Sendable (onBus (xs ++ ys))
@@ -225,7 +239,8 @@ step-sendable sr (Subtract c) = sendable-append (pushesOf 4 c) (given (sr 0) 0x1
 step-sendable sr (Multiply c) = sendable-append (pushesOf 4 c) (given (sr 0) 0x12 ∷ []) (pushes-sendable 4 c) (code-sendable (sr 0) 0x12 (lit< tt), tt)
 step-sendable sr (Divide c) = sendable-append (pushesOf 4 c) (given (sr 0) 0x13 ∷ []) (pushes-sendable 4 c) (code-sendable (sr 0) 0x13 (lit< tt), tt)
 step-sendable sr (TakeFrom c) =
-    sendable-append (pushesOf 4 c) (given (sr 0) 0x19 ∷ given (sr 1) 0x11 ∷ []) (pushes-sendable 4 c) (code-sendable (sr 0) 0x19 (lit< tt), (code-sendable (sr 1) 0x11 (lit< tt), tt))
+    sendable-append (pushesOf 4 c) (given (sr 0) 0x19 ∷ given (sr 1) 0x11 ∷ []) (pushes-sendable 4 c)
+    (code-sendable (sr 0) 0x19 (lit< tt), (code-sendable (sr 1) 0x11 (lit< tt), tt))
 step-sendable sr Change = (code-sendable (sr 0) 0x15 (lit< tt), tt)
 
 chain-sendable : (sr : ℕ → Bool) (ks : List Step) → Sendable (onBus (chainOf sr ks))
@@ -249,7 +264,8 @@ chipAnswers on s (e ∷ es) = joinedOf (numberOf ((answerTo on s e) .refusal)) (
 
 card-answers : (k : Card) (es : List ChipEvent) → answersOf k (onBus es) ≡ chipAnswers (k .on) (k .chip) es
 card-answers k [] = refl
-card-answers k (e ∷ es) = ap (λ (l : List ℕ). joinedOf (numberOf ((answerTo (k .on) (k .chip) e) .refusal)) ((answerTo (k .on) (k .chip) e) .byte) ∷ l) (card-answers ((eventIn k (Chip e)) .card) es)
+card-answers k (e ∷ es) = ap (λ (l : List ℕ). joinedOf (numberOf ((answerTo (k .on) (k .chip) e) .refusal)) ((answerTo (k .on) (k .chip) e) .byte) ∷ l)
+    (card-answers ((eventIn k (Chip e)) .card) es)
 
 -- bytes pushed and commands alone: no event reads a byte
 abbrev ReadsNone : List ChipEvent → Type 0
@@ -268,7 +284,8 @@ one-zero r byte rest all z h a =
 
 -- the first returns 0, and the rest
 more-zero : (on : Settings) (s : State) (e : ChipEvent) (es : List ChipEvent) → (answerTo on s e) .byte ≡ 0 → answered on s (e ∷ es) ≡ true
-    → (answered on ((answerTo on s e) .state) es ≡ true → allZero (chipAnswers on ((answerTo on s e) .state) es) ≡ true) → allZero (chipAnswers on s (e ∷ es)) ≡ true
+    → (answered on ((answerTo on s e) .state) es ≡ true → allZero (chipAnswers on ((answerTo on s e) .state) es) ≡ true) → allZero (chipAnswers on s (e ∷ es))
+    ≡ true
 more-zero on s e es z h f =
     let r = numberOf ((answerTo on s e) .refusal) in
     let t = (answerTo on s e) .state in
@@ -277,7 +294,8 @@ more-zero on s e es z h f =
 all-zero : (on : Settings) (s : State) (es : List ChipEvent) → ReadsNone es → answered on s es ≡ true → allZero (chipAnswers on s es) ≡ true
 all-zero on s [] n h = refl
 all-zero on s (Push b ∷ es) n h = more-zero on s (Push b) es (push-byte s b) h (λ g. all-zero on ((pushOf s b) .state) es n g)
-all-zero on s (Command k ∷ es) n h = more-zero on s (Command k) es (command-byte (on .rule) s k) h (λ g. all-zero on ((commandUnder (on .rule) s k) .state) es n g)
+all-zero on s (Command k ∷ es) n h = more-zero on s (Command k) es (command-byte (on .rule) s k) h (λ g. all-zero on ((commandUnder (on .rule) s k) .state) es n
+    g)
 all-zero on s (Pop ∷ es) n h = absurd n
 all-zero on s (Status ∷ es) n h = absurd n
 all-zero on s (Reset ∷ es) n h = absurd n
@@ -302,18 +320,22 @@ step-none sr Change = tt
 
 chain-none : (sr : ℕ → Bool) (ks : List Step) → ReadsNone (chainOf sr ks)
 chain-none sr [] = tt
-chain-none sr (k ∷ ks) = none-append (eventsOf sr k) (chainOf (λ (n : ℕ). sr (commandsIn k + n)) ks) (step-none sr k) (chain-none (λ (n : ℕ). sr (commandsIn k + n)) ks)
+chain-none sr (k ∷ ks) = none-append (eventsOf sr k) (chainOf (λ (n : ℕ). sr (commandsIn k + n)) ks) (step-none sr k)
+    (chain-none (λ (n : ℕ). sr (commandsIn k + n)) ks)
 
 -- ---- error bits
-clear-told : (n : ℕ) (k : Card) (e : ChipEvent) → ReadyCard k → byteOf (Chip e) < 256 → clearAfter (Chip e) (laidOut n ((eventIn k (Chip e)) .card)) ≡ leavesClear (k .on) (k .chip) e
-clear-told n k (Command code) r h = ap (λ (u : ℕ). eqb (errorOf u) 0) (laid-at ((eventIn k (Chip (Command code))) .card) (leaves-good k (Chip (Command code)) r h .chip .stack .sixteen) n 1)
+clear-told : (n : ℕ) (k : Card) (e : ChipEvent) → ReadyCard k → byteOf (Chip e) < 256 → clearAfter (Chip e) (laidOut n ((eventIn k (Chip e)) .card))
+    ≡ leavesClear (k .on) (k .chip) e
+clear-told n k (Command code) r h = ap (λ (u : ℕ). eqb (errorOf u) 0) (laid-at ((eventIn k (Chip (Command code))) .card) (leaves-good k (Chip (Command code)) r
+    h .chip .stack .sixteen) n 1)
 clear-told n k (Push b) r h = refl
 clear-told n k Pop r h = refl
 clear-told n k Status r h = refl
 clear-told n k Reset r h = refl
 clear-told n k Acknowledge r h = refl
 
-quietly : (g : Given) → Chosen g → (c : Core) → Meets g c → (n : ℕ) → (n ≡ 19) ⊎ (n ≡ 21) → (k : Card) → Serves g k → (es : List ChipEvent) → Sendable (onBus es) → drivenQuietly c (laidOut n k) (onBus es) ≡ quiet (k .on) (k .chip) es
+quietly : (g : Given) → Chosen g → (c : Core) → Meets g c → (n : ℕ) → (n ≡ 19) ⊎ (n ≡ 21) → (k : Card) → Serves g k → (es : List ChipEvent)
+    → Sendable (onBus es) → drivenQuietly c (laidOut n k) (onBus es) ≡ quiet (k .on) (k .chip) es
 quietly g C c M n h k r [] S = refl
 quietly g C c M n h k r (e ∷ es) S =
     ap (λ (l : List ℕ). clearAfter (Chip e) l && drivenQuietly c l (onBus es)) (state-told g C c M n h k (Chip e) r (S .0))
@@ -349,20 +371,24 @@ module _ (g : Given) (C : Chosen g) (c : Core) (M : Meets g c) where
   from-bytes : (P : List ℕ → Type 0) (state : List ℕ) → isState state ≡ true → P (laidOut (length state) (cardOf state)) → P state
   from-bytes P state i p = subst P (card-returns (settingsIn g) state i) p
 
-  calls-states : (state : List ℕ) (es : List Event) → Bytes state → isState state ≡ true → Sendable es → driven c state es ≡ laidOut (length state) (afterAll (cardOf state) es)
+  calls-states : (state : List ℕ) (es : List Event) → Bytes state → isState state ≡ true → Sendable es → driven c state es ≡ laidOut (length state)
+      (afterAll (cardOf state) es)
   calls-states state es B i S =
       from-bytes (λ (l : List ℕ). driven c l es ≡ laidOut (length state) (afterAll (cardOf state) es)) state i
       (states g C c M (length state) (ours-state i .size) (cardOf state) (serves state B i) es S)
 
-  calls-return : (state : List ℕ) (es : List Event) → Bytes state → isState state ≡ true → Sendable es → Keeps state es → returned c state es ≡ answersOf (cardOf state) es
+  calls-return : (state : List ℕ) (es : List Event) → Bytes state → isState state ≡ true → Sendable es → Keeps state es
+      → returned c state es ≡ answersOf (cardOf state) es
   calls-return state es B i S o =
       let r = serves state B i in
       let k = cardOf state in
       from-bytes (λ (l : List ℕ). returned c l es ≡ answersOf k es) state i
-      (⊎-elim (λ a. ⊎-elim (λ b. absurd (let y : ⊥ = omega arith in y)) (λ b. subst (λ (m : ℕ). returned c (laidOut m k) es ≡ answersOf k es) (sym a) (numbers-short g C c M k r es S b)) o)
+      (⊎-elim (λ a. ⊎-elim (λ b. absurd (let y : ⊥ = omega arith in y)) (λ b. subst (λ (m : ℕ). returned c (laidOut m k) es ≡ answersOf k es) (sym a)
+      (numbers-short g C c M k r es S b)) o)
       (λ a. subst (λ (m : ℕ). returned c (laidOut m k) es ≡ answersOf k es) (sym a) (numbers-long g C c M k r es S)) (ours-state i .size))
 
-  calls-quiet : (state : List ℕ) (es : List ChipEvent) → Bytes state → isState state ≡ true → Sendable (onBus es) → drivenQuietly c state (onBus es) ≡ true → quiet (settingsIn g) (stateOf state) es ≡ true
+  calls-quiet : (state : List ℕ) (es : List ChipEvent) → Bytes state → isState state ≡ true → Sendable (onBus es) → drivenQuietly c state (onBus es) ≡ true
+      → quiet (settingsIn g) (stateOf state) es ≡ true
   calls-quiet state es B i S q =
       sym (from-bytes (λ (l : List ℕ). drivenQuietly c l (onBus es) ≡ quiet (settingsIn g) (stateOf state) es) state i
       (quietly g C c M (length state) (ours-state i .size) (cardOf state) (serves state B i) es S)) ∙ q
@@ -370,8 +396,10 @@ module _ (g : Given) (C : Chosen g) (c : Core) (M : Meets g c) where
   module _ (state : List ℕ) (w : ℕ) (sr : ℕ → Bool) (ks : List Step) (B : Begins state w) (K : Constants ks) where
     answers : allZero (returned c state (busRun w sr ks)) ≡ true
     answers =
-        ap allZero (calls-return state (busRun w sr ks) (B .bytes) (theirs-state (B .good)) (sent w sr ks) (inr (bus-told (runEvents w sr ks))) ∙ card-answers (cardOf state) (runEvents w sr ks))
-        ∙ all-zero (settingsIn g) (stateOf state) (runEvents w sr ks) (none-append (pushesOf 4 w) (chainOf sr ks) tt (chain-none sr ks)) (demand-3 (settingsIn g) .every-answered (runFrom state w sr) ks (starts state w sr B) K)
+        ap allZero (calls-return state (busRun w sr ks) (B .bytes) (theirs-state (B .good)) (sent w sr ks) (inr (bus-told (runEvents w sr ks)))
+        ∙ card-answers (cardOf state) (runEvents w sr ks))
+        ∙ all-zero (settingsIn g) (stateOf state) (runEvents w sr ks) (none-append (pushesOf 4 w) (chainOf sr ks) tt (chain-none sr ks))
+        (demand-3 (settingsIn g) .every-answered (runFrom state w sr) ks (starts state w sr B) K)
 
     top-bytes : take 4 (driven c state (busRun w sr ks)) ≡ bytesOf 4 (wordAfter (settingsIn g .rule) w ks)
     top-bytes =
@@ -403,8 +431,10 @@ cores g C c M = record {
   chain-word = λ state w sr ks B K. top-word g C c M state w sr ks B K;
   chain-even = λ state state' v w sr sr' ks B B' K q q' l e.
       subst₂ Le (result-told g C c M state v sr ks B K) (result-told g C c M state' w sr' ks B' K)
-      (demand-3 (settingsIn g) .even-keeps (runFrom state v sr) (runFrom state' w sr') ks (starts state v sr B) (starts state' w sr' B') K (quiet-told g C c M state v sr ks B K q) (quiet-told g C c M state' w sr' ks B' K q') l e);
+      (demand-3 (settingsIn g) .even-keeps (runFrom state v sr) (runFrom state' w sr') ks (starts state v sr B) (starts state' w sr' B') K
+      (quiet-told g C c M state v sr ks B K q) (quiet-told g C c M state' w sr' ks B' K q') l e);
   chain-odd = λ state state' v w sr sr' ks B B' K q q' l e.
       subst₂ Le (result-told g C c M state' w sr' ks B' K) (result-told g C c M state v sr ks B K)
-      (demand-3 (settingsIn g) .odd-turns (runFrom state v sr) (runFrom state' w sr') ks (starts state v sr B) (starts state' w sr' B') K (quiet-told g C c M state v sr ks B K q) (quiet-told g C c M state' w sr' ks B' K q') l e);
+      (demand-3 (settingsIn g) .odd-turns (runFrom state v sr) (runFrom state' w sr') ks (starts state v sr B) (starts state' w sr' B') K
+      (quiet-told g C c M state v sr ks B K q) (quiet-told g C c M state' w sr' ks B' K q') l e);
 }

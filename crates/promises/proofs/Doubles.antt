@@ -29,8 +29,10 @@ use Rattle.host_floats.specs.declared.entry.Inward.{Inward}
 use Rattle.host_floats.specs.declared.entry.Inward.the-variants.{Exact, Rounded, Refused}
 use Rattle.host_floats.proofs.Apart.{held-endless, held-small, endless-minus, endless-small, minus-small}
 use Rattle.host_floats.proofs.DoubleOut.{double-value, goes-out, stays-in, no-nan-out}
-use Rattle.host_floats.proofs.Brought.{held-large-by, endless-large-by, minus-large-by, small-large-by, Right, exact, rounded, endless, minus, small, large, right}
-use Rattle.host_floats.proofs.DoubleBack.{brought-once, answers-exact, answers-rounded, answers-endless, answers-minus, answers-small, answers-large, double-back, exact-bits}
+use Rattle.host_floats.proofs.Brought.{held-large-by, endless-large-by, minus-large-by, small-large-by, Right, exact, rounded, endless, minus, small, large}
+use Rattle.host_floats.proofs.Brought.{right}
+use Rattle.host_floats.proofs.DoubleBack.{brought-once, answers-exact, answers-rounded, answers-endless, answers-minus, answers-small, answers-large}
+use Rattle.host_floats.proofs.DoubleBack.{double-back, exact-bits}
 use Rattle.host_buffers.specs.declared.Entry.{Entry}
 use Rattle.host_buffers.specs.declared.Reply.{Reply}
 use Rattle.host_buffers.specs.Buffers.{outwardEntry, inwardEntry, wordEntry, floatEntry, floatEntries, replyTo, Turn, wordsTurn, floatsTurn, Turns}
@@ -39,7 +41,9 @@ use Rattle.host_buffers.proofs.Answers.{part-words, no-room-words, bad-word, wo
 use Rattle.host_buffers.proofs.Blocks.{block, whole}
 use Rattle.host_buffers.proofs.Found.{roundedBelow, Taken, reply-bad, reply-done, First, all-or-first, none-rounded, rounded-none}
 use Rattle.promises.proofs.Measures.{theirs-held, ours-held, theirs-brought, ours-brought, theirs-large, ours-large}
-use Rattle.promises.specs.Doubles.{carriedBits, outward, inward, OutwardExact, InwardAnswered, BroughtOnce, floatIn, wordBytes, floatBytes, turned, WordsCall, Names, cut, nearest, isRounded, howMany, FloatsCall, BufferCalls, BuffersKept, WordsBack, FloatsBack, WordsToF64Determined, F64ToWordsDetermined}
+use Rattle.promises.specs.Doubles.{carriedBits, outward, inward, OutwardExact, InwardAnswered, BroughtOnce, floatIn, wordBytes, floatBytes, turned}
+use Rattle.promises.specs.Doubles.{WordsCall, Names, cut, nearest, isRounded, howMany, FloatsCall, BufferCalls, BuffersKept, WordsBack, FloatsBack}
+use Rattle.promises.specs.Doubles.{WordsToF64Determined, F64ToWordsDetermined}
 
 -- ---- one entry, outward
 -- the bits of a word's f64 stand for that f64
@@ -51,7 +55,11 @@ again w e =
 pub outward-exact : OutwardExact
 unfolding size88
 outward-exact w l = (
-  λ e. (ap (λ (o : Outward). outwardEntry o .refusal) (goes-out w e), subst (λ (x : Float). HasValue x (negative w) (size88 w) (2 ^ 88)) (again w e) (double-value w e)),
+  λ e. (
+    ap (λ (o : Outward). outwardEntry o .refusal) (goes-out w e),
+    subst (λ (x : Float). HasValue x (negative w) (size88 w) (2 ^ 88)) (again w e)
+        (double-value w e),
+  ),
   λ e. ap (λ (o : Outward). outwardEntry o .refusal) (stays-in w e),
 )
 
@@ -133,7 +141,8 @@ inward-answered rule p l =
       );
       carried = λ w y e. ours-held (was-rounded rule x r w y e h .3);
       carried-bits = λ w y e.
-          ap carriedBits e ∙ ap (toBits binary64) (subst OwnFloat e (own rule p)) ∙ sym (ap (λ (o : Outward). outwardEntry o .bits) (goes-out w (was-rounded rule x r w y e h .3 .word .is-proper)));
+          ap carriedBits e ∙ ap (toBits binary64) (subst OwnFloat e (own rule p))
+          ∙ sym (ap (λ (o : Outward). outwardEntry o .bits) (goes-out w (was-rounded rule x r w y e h .3 .word .is-proper)));
       answered = answered rule x r h;
       ten = (λ d. subst (Because rule x) d why, λ a. ap numberIn (answers-endless rule x r a h));
       fifteen = (λ d. subst (Because rule x) d why, λ a. ap numberIn (answers-minus rule x r a h));
@@ -217,7 +226,8 @@ module _ (words out : List ℕ) where
     words-all t =
         as-turned
         (words-written words out (record { refusal = 0; number = 0 }) w (omega arith)
-        (ap (λ (k : ℕ). record { refusal = 0; number = k }) (sym (never-rounded (λ (i : ℕ). outwardOf (fourAt words (i * 4))) (length words / 4))) ∙ reply-done (wordEntry words) (length words / 4) t)
+        (ap (λ (k : ℕ). record { refusal = 0; number = k }) (sym (never-rounded (λ (i : ℕ). outwardOf (fourAt words (i * 4))) (length words / 4)))
+        ∙ reply-done (wordEntry words) (length words / 4) t)
         (firstBytes le8 (wordEntry words) (length words / 4) ++ drop (2 * length words) out)
         refl
         (ap (λ (k : ℕ). firstBytes le8 (wordEntry words) (length words / 4) ++ drop k out) (sym double)))
@@ -254,7 +264,8 @@ is-rule {rule} h = le-leb rule 1 (omega arith)
 how-many : (how : Rule) (floats : List ℕ) (n : ℕ) → roundedBelow (floatEntry how floats) n ≡ howMany (λ (j : ℕ). inwardOf how (floatIn floats j)) n
 unfolding roundedBelow howMany
 how-many how floats zero = refl
-how-many how floats (suc n) = ap₂ _+_ (how-many how floats n) (one (inwardOf how (eightAt floats (n * 8))) ∙ ap (λ (p : ℕ). isRounded (inwardOf how p)) (float-in floats n))
+how-many how floats (suc n) = ap₂ _+_ (how-many how floats n) (one (inwardOf how (eightAt floats (n * 8))) ∙ ap (λ (p : ℕ). isRounded (inwardOf how p))
+    (float-in floats n))
   where
     one : (r : Inward) → inwardEntry r .rounded ≡ isRounded r
     one (Exact v) = refl
@@ -278,7 +289,8 @@ module _ (rule : ℕ) (floats out : List ℕ) where
     by-rule : (s : Reply) → s ≡ replyTo (floatEntries how floats) → s ≡ replyTo (floatEntries (ruleOf rule) floats)
     by-rule s e = e ∙ ap (λ (q : Rule). replyTo (floatEntries q floats)) (sym (r .1))
 
-    floats-first : (b : First (floatEntry how floats) (length floats / 8)) → floatsTurn rule floats out ≡ turned (floatEntry how floats (b .i) .refusal) (b .i + 1) out
+    floats-first : (b : First (floatEntry how floats) (length floats / 8)) → floatsTurn rule floats out ≡ turned (floatEntry how floats (b .i) .refusal)
+        (b .i + 1) out
     floats-first b =
         as-turned
         (bad-float rule floats out (is-rule (r .0)) (record { refusal = floatEntry how floats (b .i) .refusal; number = b .i + 1 }) w (omega arith)
@@ -286,10 +298,12 @@ module _ (rule : ℕ) (floats out : List ℕ) where
 
     floats-all : Taken (floatEntry how floats) (length floats / 8)
         → floatsTurn rule floats out
-        ≡ turned 0 (roundedBelow (floatEntry how floats) (length floats / 8)) (firstBytes le4 (floatEntry how floats) (length floats / 8) ++ drop (length floats / 2) out)
+        ≡ turned 0 (roundedBelow (floatEntry how floats) (length floats / 8)) (firstBytes le4 (floatEntry how floats) (length floats / 8)
+        ++ drop (length floats / 2) out)
     floats-all t =
         as-turned
-        (floats-written rule floats out (is-rule (r .0)) (record { refusal = 0; number = roundedBelow (floatEntry how floats) (length floats / 8) }) w (omega arith)
+        (floats-written rule floats out (is-rule (r .0)) (record { refusal = 0; number = roundedBelow (floatEntry how floats) (length floats / 8) }) w
+        (omega arith)
         (by-rule _ (reply-done (floatEntry how floats) (length floats / 8) t))
         (firstBytes le4 (floatEntry how floats) (length floats / 8) ++ drop (length floats / 2) out)
         refl
@@ -323,7 +337,8 @@ floats-call floats out = record {
       let e = floats-all rule floats out how (named q) w h (λ j l. refusal-in how floats j ∙ t j l) in (
         ap (λ (u : Turn). u .result) e,
         ap (λ (u : Turn). u .number) e ∙ how-many how floats n,
-        λ i g. ap (λ (u : Turn). take 4 (drop (i * 4) (u .out))) e ∙ block 4 le4 (λ x. refl) f n i (drop m out) g ∙ ap (λ (y : Entry). wordBytes (y .bits)) (entry-in how floats i),
+        λ i g. ap (λ (u : Turn). take 4 (drop (i * 4) (u .out))) e ∙ block 4 le4 (λ x. refl) f n i (drop m out) g ∙ ap (λ (y : Entry). wordBytes (y .bits))
+            (entry-in how floats i),
         ap (λ (u : Turn). drop m (u .out)) e ∙ past 4 le4 (λ x. refl) f n m out d h,
         ap (λ (u : Turn). length (u .out)) e ∙ long 4 le4 (λ x. refl) f n m out d h,
       );
@@ -349,7 +364,12 @@ record WordsTaken (words out : List ℕ) : Type 0 where
   taken : Taken (wordEntry words) (length words / 4)
 
 words-taken : (words out : List ℕ) → wordsTurn words out .result ≡ 0 → WordsTaken words out
-words-taken words out e = record { entries = entries; room = room; taken = ⊎-elim (λ t. t) (λ b. absurd (first b)) (all-or-first (wordEntry words) (length words / 4)) }
+words-taken words out e = record {
+  entries = entries;
+  room = room;
+  taken = ⊎-elim (λ t. t) (λ b. absurd (first b)) (all-or-first (wordEntry words)
+      (length words / 4));
+}
   where
     entries : length words % 4 ≡ 0
     entries = ⊎-elim (λ h. h) (λ h. let z = returned (words-part words out h) e in absurd (omega arith)) (equal-or-not (length words % 4) 0)
@@ -381,7 +401,8 @@ floats-taken rule floats out e = record {
     entries = ⊎-elim (λ h. h) (λ h. let z = returned (floats-part rule floats out good h) e in absurd (omega arith)) (equal-or-not (length floats % 8) 0)
 
     room : length floats / 2 ≤ length out
-    room = ⊎-elim (λ h. let z = returned (floats-room rule floats out good entries h) e in absurd (omega arith)) (λ h. h) (either (length out) (length floats / 2))
+    room = ⊎-elim (λ h. let z = returned (floats-room rule floats out good entries h) e in absurd (omega arith)) (λ h. h)
+        (either (length out) (length floats / 2))
 
     first : First (floatEntry (ruleOf rule) floats) (length floats / 8) → ⊥
     first b = b .refused (returned (floats-first rule floats out (ruleOf rule) (good, refl) entries room b) e)
@@ -407,7 +428,8 @@ sent-back : (how : Rule) (w : ℕ) → FloatWord w → inward how (outward w .bi
 sent-back how w f = ap (λ (p : ℕ). inward how p) (sent-bits w f) ∙ ap inwardEntry (double-back how w f)
 
 -- a block of a buffer that is its entries' bytes
-own-block : (c : ℕ) (le : ℕ → List ℕ) (size : (x : ℕ) → length (le x) ≡ c) (f : ℕ → Entry) (n i : ℕ) → i < n → take c (drop (i * c) (firstBytes le f n)) ≡ le (f i .bits)
+own-block : (c : ℕ) (le : ℕ → List ℕ) (size : (x : ℕ) → length (le x) ≡ c) (f : ℕ → Entry) (n i : ℕ) → i < n → take c (drop (i * c) (firstBytes le f n))
+    ≡ le (f i .bits)
 own-block c le size f n i h = ap (λ (l : List ℕ). take c (drop (i * c) l)) (sym (append-nil (firstBytes le f n))) ∙ block c le size f n i [] h
 
 pub words-come-back : WordsBack
@@ -429,7 +451,8 @@ words-come-back rule good words out back b e l = ap (λ (t : List ℕ). floatsTu
     how = ruleOf rule
 
     sent : take (2 * length words) (wordsTurn words out .out) ≡ buffer
-    sent = ap (λ (t : Turn). take (2 * length words) (t .out)) (words-all words out (k .entries) (k .room) (k .taken)) ∙ front 8 le8 (λ x. refl) f n (2 * length words) out (double words out (k .entries) (k .room)) (k .room)
+    sent = ap (λ (t : Turn). take (2 * length words) (t .out)) (words-all words out (k .entries) (k .room) (k .taken)) ∙ front 8 le8 (λ x. refl) f n
+        (2 * length words) out (double words out (k .entries) (k .room)) (k .room)
 
     size : length buffer ≡ n * 8
     size = first-length 8 le8 (λ x. refl) f n
@@ -451,7 +474,8 @@ words-come-back rule good words out back b e l = ap (λ (t : List ℕ). floatsTu
         ∙ ap₂ (λ (i j : ℕ). turned 0 (roundedBelow g i) (firstBytes le4 g i ++ drop j back)) count half
         ∙ ap₂ (λ (i : ℕ) (t : List ℕ). turned 0 i (t ++ drop (length words) back))
         (rounded-none g n (λ j h. ap (λ (y : Entry). y .rounded) (same j h)))
-        (whole 4 le4 (λ x. refl) g n words (omega arith) (λ i h. ap (λ (y : Entry). le4 (y .bits)) (same i h) ∙ le4-of words (i * 4) (omega arith) (byte-at words b)))
+        (whole 4 le4 (λ x. refl) g n words (omega arith) (λ i h. ap (λ (y : Entry). le4 (y .bits)) (same i h) ∙ le4-of words (i * 4) (omega arith)
+        (byte-at words b)))
 
 -- ---- in and back
 -- an f64 that is taken and not rounded is exact for a word
@@ -494,7 +518,8 @@ floats-come-back rule floats out back b e m l = ap (λ (t : List ℕ). wordsTurn
     all = floats-all rule floats out how (k .good, refl) (k .entries) (k .room) (k .taken)
 
     sent : take (length floats / 2) (floatsTurn rule floats out .out) ≡ buffer
-    sent = ap (λ (t : Turn). take (length floats / 2) (t .out)) all ∙ front 4 le4 (λ x. refl) f n (length floats / 2) out (half rule floats out how (k .good, refl) (k .entries) (k .room)) (k .room)
+    sent = ap (λ (t : Turn). take (length floats / 2) (t .out)) all ∙ front 4 le4 (λ x. refl) f n (length floats / 2) out
+        (half rule floats out how (k .good, refl) (k .entries) (k .room)) (k .room)
 
     size : length buffer ≡ n * 4
     size = first-length 4 le4 (λ x. refl) f n
@@ -506,10 +531,12 @@ floats-come-back rule floats out back b e m l = ap (λ (t : List ℕ). wordsTurn
     float-lt i = eight-lt floats (i * 8) (byte-at floats b)
 
     exact-at : (i : ℕ) → i < n → inwardOf how (eightAt floats (i * 8)) ≡ Exact (f i .bits)
-    exact-at i h = exact-one how (ofBits binary64 (eightAt floats (i * 8))) (inwardOf how (eightAt floats (i * 8))) (right how (eightAt floats (i * 8)) (float-lt i)) (k .taken i h) (none-rounded f n none i h)
+    exact-at i h = exact-one how (ofBits binary64 (eightAt floats (i * 8))) (inwardOf how (eightAt floats (i * 8))) (right how (eightAt floats (i * 8))
+        (float-lt i)) (k .taken i h) (none-rounded f n none i h)
 
     word-at : (i : ℕ) → i < n → FloatWord (f i .bits)
-    word-at i h = was-exact how (ofBits binary64 (eightAt floats (i * 8))) (inwardOf how (eightAt floats (i * 8))) (f i .bits) (exact-at i h) (right how (eightAt floats (i * 8)) (float-lt i)) .0 .word
+    word-at i h = was-exact how (ofBits binary64 (eightAt floats (i * 8))) (inwardOf how (eightAt floats (i * 8))) (f i .bits) (exact-at i h)
+        (right how (eightAt floats (i * 8)) (float-lt i)) .0 .word
 
     same : (i : ℕ) → i < n → wordEntry buffer i ≡ record { refusal = 0; bits = eightAt floats (i * 8); rounded = 0 }
     same i h =
@@ -526,7 +553,8 @@ floats-come-back rule floats out back b e m l = ap (λ (t : List ℕ). wordsTurn
         words-all buffer back (omega arith) (omega arith) (λ j h. ap (λ (y : Entry). y .refusal) (same j (omega arith)))
         ∙ ap₂ (λ (i j : ℕ). turned 0 0 (firstBytes le8 g i ++ drop j back)) count twice
         ∙ ap (λ (t : List ℕ). turned 0 0 (t ++ drop (length floats) back))
-        (whole 8 le8 (λ x. refl) g n floats (omega arith) (λ i h. ap (λ (y : Entry). le8 (y .bits)) (same i h) ∙ le8-of floats (i * 8) (omega arith) (byte-at floats b)))
+        (whole 8 le8 (λ x. refl) g n floats (omega arith) (λ i h. ap (λ (y : Entry). le8 (y .bits)) (same i h) ∙ le8-of floats (i * 8) (omega arith)
+        (byte-at floats b)))
 
 -- ---- kept, and determined
 pub buffers-kept : BuffersKept
@@ -536,7 +564,8 @@ buffers-kept rule input out = (words-kept, floats-kept)
     words-kept n = ⊎-elim entries (λ h. ap (λ (t : Turn). t .out) (words-part input out h)) (equal-or-not (length input % 4) 0)
       where
         roomy : length input % 4 ≡ 0 → 2 * length input ≤ length out → wordsTurn input out .out ≡ out
-        roomy w h = ⊎-elim (λ t. absurd (n (ap (λ (u : Turn). u .result) (words-all input out w h t)))) (λ b. ap (λ (t : Turn). t .out) (words-first input out w h b)) (all-or-first (wordEntry input) (length input / 4))
+        roomy w h = ⊎-elim (λ t. absurd (n (ap (λ (u : Turn). u .result) (words-all input out w h t)))) (λ b. ap (λ (t : Turn). t .out)
+            (words-first input out w h b)) (all-or-first (wordEntry input) (length input / 4))
 
         entries : length input % 4 ≡ 0 → wordsTurn input out .out ≡ out
         entries w = ⊎-elim (λ h. ap (λ (t : Turn). t .out) (words-room input out w h)) (roomy w) (either (length out) (2 * length input))

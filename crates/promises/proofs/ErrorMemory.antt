@@ -1,4 +1,5 @@
--- The error memory is what the history says: a call's history is that of the card that its bytes stand for, a record's events are the record, and 19 bytes are 21 with an
+-- The error memory is what the history says: a call's history is that of the card that its bytes stand for, a record's events are the record, and 19 bytes are
+-- 21 with an
 -- empty memory. Assumes nothing.
 use mathlib.Core.Path.{_≡_, refl, sym, ap, ap₂, subst, _∙_}
 use mathlib.Core.Logic.{inl, inr, ⊎-elim}
@@ -28,7 +29,8 @@ use Rattle.error_memory.proofs.Good.{ReadyCard}
 use Rattle.record_files.proofs.Tests.{either-eq}
 use Rattle.record_files.proofs.Append.{nothing}
 use Rattle.record_runs.specs.Record.{Event as RecordEvent}
-use Rattle.record_runs.specs.Record.{Push as PushRecord, Pop as PopRecord, Command as CommandRecord, Status as StatusRecord, Reset as ResetRecord, Acknowledge as AcknowledgeRecord, Recall as RecallRecord, Forget as ForgetRecord}
+use Rattle.record_runs.specs.Record.{Push as PushRecord, Pop as PopRecord, Command as CommandRecord, Status as StatusRecord, Reset as ResetRecord}
+use Rattle.record_runs.specs.Record.{Acknowledge as AcknowledgeRecord, Recall as RecallRecord, Forget as ForgetRecord}
 use Rattle.record_runs.specs.Record.{kindOf, Carried, Holds, before, pushAll, popAll, answerOf}
 use Rattle.record_runs.specs.Run.{Outcome, runOf}
 use Rattle.record_runs.proofs.Prefix.{lawful}
@@ -49,7 +51,8 @@ use Rattle.promises.specs.RecordFiles.{IsRecord}
 use Rattle.promises.proofs.RecordFiles.{theirs-record}
 use Rattle.promises.specs.Records.{joined, EachTaken, repliesOf, inTurn}
 use Rattle.promises.specs.Cores.{Core, Meets, kindNumber, byteOf, Sendable, driven}
-use Rattle.promises.specs.ErrorMemory.{noted, callHistory, memoryAt, recordEvents, eventsIn, rememberedAfter, Lent, ErrorMemory, RecordsAreEvents, lengthened, ShortStates}
+use Rattle.promises.specs.ErrorMemory.{noted, callHistory, memoryAt, recordEvents, eventsIn, rememberedAfter, Lent, ErrorMemory, RecordsAreEvents}
+use Rattle.promises.specs.ErrorMemory.{lengthened, ShortStates}
 use Rattle.promises.proofs.Records.{in-turn, record-run, recall-record, bytes-parts}
 use Rattle.promises.proofs.Kept.{command-byte, event-ready}
 use Rattle.promises.proofs.Cores.{all-good, Serves, still-serves, state-told, number-long, cores}
@@ -73,7 +76,8 @@ noted-told k r (Chip (Command code)) h =
 noted-told k r (Chip Status) h = refl
 noted-told k r (Chip Reset) h =
     let a = resetOf (k .on .mode) (k .chip) in
-    ap (λ (x : Bool). cond x (from emptyMemory) h) (below (numberOf (a .refusal)) (a .byte) (ap (λ (y : Answer). y .byte) (reset-is (k .on .mode) (k .chip) (lt-leb 128 (k .chip .status) (r .chip .ready)))))
+    ap (λ (x : Bool). cond x (from emptyMemory) h) (below (numberOf (a .refusal)) (a .byte) (ap (λ (y : Answer). y .byte) (reset-is (k .on .mode) (k .chip)
+    (lt-leb 128 (k .chip .status) (r .chip .ready)))))
 noted-told k r (Chip Acknowledge) h = refl
 noted-told k r Recall h = refl
 noted-told k r Forget h = rw (lt-leb 128 (k .chip .status) (r .chip .ready))
@@ -89,7 +93,8 @@ module _ (g : Given) (C : Chosen g) (c : Core) (M : Meets g c) where
       let a = eventIn k e in
       let left = still-serves g k e r (S .0) in
       let s = state-told g C c M 21 (inr refl) k e r (S .0) in
-      let status : getD ((c .event (laidOut 21 k) (kindNumber e) (byteOf e)) .state) 17 0 ≡ a .card .chip .status = ap (λ (l : List ℕ). getD l 17 0) s ∙ laid-at (a .card) (left .good .chip .stack .sixteen) 21 1 in
+      let status : getD ((c .event (laidOut 21 k) (kindNumber e) (byteOf e)) .state) 17 0 ≡ a .card .chip .status = ap (λ (l : List ℕ). getD l 17 0) s
+      ∙ laid-at (a .card) (left .good .chip .stack .sixteen) 21 1 in
       ap₂ (λ (l : List ℕ) (x : History). callHistory c l es x) s
       (ap₂ (λ (n u : ℕ). noted e n u h) (number-long g C c M k e r (S .0)) status ∙ noted-told k (r .good) e h)
       ∙ told-alike (a .card) left es (tells k e h) (S .1)
@@ -116,7 +121,8 @@ after-joined k [] ys = refl
 after-joined k (x ∷ xs) ys = after-joined ((eventIn k x) .card) xs ys
 
 -- a block is its single bytes
-pushes-are : (on : Settings) (p : List ℕ) (a : Answer) (m : Memory) → cardWith on (pushAll a p .state) m ≡ afterAll (cardWith on (a .state) m) (map (λ (b : ℕ). Chip (Push b)) p)
+pushes-are : (on : Settings) (p : List ℕ) (a : Answer) (m : Memory) → cardWith on (pushAll a p .state) m ≡ afterAll (cardWith on (a .state) m)
+    (map (λ (b : ℕ). Chip (Push b)) p)
 pushes-are on [] a m = refl
 pushes-are on (b ∷ p) a m = pushes-are on p (pushOf (a .state) b) m
 
@@ -131,7 +137,8 @@ record-is k r e h = by e (h .kind-is) (h .carried)
     kind : (n : ℕ) → n < 256 → getD r 2 0 + getD r 3 0 * 256 ≡ n → getD r 2 0 ≡ n
     kind n a b = omega arith
 
-    by : (x : RecordEvent) → getD r 2 0 + getD r 3 0 * 256 ≡ kindOf x → Carried mostPayload (getD r 4 0) x → answerOf k (drop 4 r) x .card ≡ afterAll k (recordEvents r)
+    by : (x : RecordEvent) → getD r 2 0 + getD r 3 0 * 256 ≡ kindOf x → Carried mostPayload (getD r 4 0) x → answerOf k (drop 4 r) x .card ≡ afterAll k
+        (recordEvents r)
     by (PushRecord n) i c = rw (kind 1 (lit< tt) i) (pushes-are (k .on) (drop 4 r) (before (k .chip)) (k .memory))
     by (PopRecord n) i c = rw (kind 2 (lit< tt) i, ← c .0) (pops-are (k .on) n (before (k .chip)) (k .memory))
     by (CommandRecord code) i c = rw (kind 3 (lit< tt) i, c)
@@ -163,9 +170,11 @@ recall = 2 ∷ 0 ∷ 7 ∷ 0 ∷ []
 abbrev replyWith : Memory → List ℕ
 replyWith m = 5 ∷ 0 ∷ 135 ∷ 0 ∷ 0 ∷ m .bits ∷ m .code ∷ []
 
-recall-behind : (k : Card) (rs : List (List ℕ)) (room : ℕ) → ReadyCard k → Bytes (joined rs) → EachTaken k rs room → length (joined (repliesOf k rs room)) + 7 ≤ room
+recall-behind : (k : Card) (rs : List (List ℕ)) (room : ℕ) → ReadyCard k → Bytes (joined rs) → EachTaken k rs room → length (joined (repliesOf k rs room))
+    + 7 ≤ room
     → runOf k (joined rs ++ recall) room .written ≡ joined (repliesOf k rs room) ++ replyWith (afterAll k (eventsIn rs) .memory)
-recall-behind k [] room r B h fits = ap (λ (o : Outcome). o .written) (recall-record (k .on) (k .chip) (k .memory) room (lt-leb 128 (k .chip .status) (r .chip .ready)) (omega arith))
+recall-behind k [] room r B h fits = ap (λ (o : Outcome). o .written) (recall-record (k .on) (k .chip) (k .memory) room (lt-leb 128 (k .chip .status)
+    (r .chip .ready)) (omega arith))
 recall-behind k (x ∷ rs) room r B h fits =
     let o = runOf k x room in
     let left = room - length (o .written) in
@@ -179,7 +188,8 @@ recall-behind k (x ∷ rs) room r B h fits =
     ∙ sym (append-assoc (o .written) (joined (repliesOf (o .state) rs left)) (replyWith (afterAll (o .state) (eventsIn rs) .memory)))
     ∙ ap (λ (y : Card). (o .written ++ joined (repliesOf (o .state) rs left)) ++ replyWith (y .memory)) e
 
-module _ (g : Given) (C : Chosen g) (c : Core) (M : Meets g c) (state : List ℕ) (rs : List (List ℕ)) (replies report : List ℕ) (L : Lent g state rs replies report) where
+module _ (g : Given) (C : Chosen g) (c : Core) (M : Meets g c) (state : List ℕ) (rs : List (List ℕ)) (replies report : List ℕ) (L : Lent g state rs replies
+    report) where
   abbrev start : Card
   start = cardIn (settingsIn g) state
 
@@ -192,13 +202,15 @@ module _ (g : Given) (C : Chosen g) (c : Core) (M : Meets g c) (state : List ℕ
       let o = runOf start (joined rs) (length replies) in
       let after = run-ready start (joined rs) (length replies) ready (L .bytes .1) in
       ap memoryAt (M .run state (joined rs) replies report (L .bytes .0) (L .bytes .1) (L .bytes .2) (L .bytes .3) .state-is
-      ∙ ap (λ (x : Called). x .state) (good (g .mode) (g .rule) state (joined rs) replies report (L .nine) (C .mode) (C .rule) (theirs-state (L .good)) (omega arith))
+      ∙ ap (λ (x : Called). x .state) (good (g .mode) (g .rule) state (joined rs) replies report (L .nine) (C .mode) (C .rule) (theirs-state (L .good))
+      (omega arith))
       ∙ ap (λ (m : ℕ). laidOut m (o .state)) n)
       ∙ two-bytes (o .state) (after .chip .stack .sixteen)
       ∙ ap (λ (k : Card). k .memory) (records-are-events start rs (length replies) (L .each))
       ∙ memory-is-history start (eventsIn rs)
 
-  recall-says : take 7 (drop (length (joined (repliesOf start rs (length replies)))) ((c .run state (joined rs ++ recall) replies report) .replies)) ≡ replyWith (rememberedAfter start (eventsIn rs))
+  recall-says : take 7 (drop (length (joined (repliesOf start rs (length replies)))) ((c .run state (joined rs ++ recall) replies report) .replies))
+      ≡ replyWith (rememberedAfter start (eventsIn rs))
   recall-says =
       let ws = joined (repliesOf start rs (length replies)) in
       let m = length-append (joined rs) recall in
@@ -208,8 +220,10 @@ module _ (g : Given) (C : Chosen g) (c : Core) (M : Meets g c) (state : List ℕ
       let reply = replyWith (rememberedAfter start (eventsIn rs)) in
       let rest = drop (length (runOf start (joined rs ++ recall) (length replies) .written)) replies in
       ap (λ (l : List ℕ). take 7 (drop (length ws) l))
-      (M .run state (joined rs ++ recall) replies report (L .bytes .0) (bytes-append (joined rs) recall (L .bytes .1) (lit< tt, (lit< tt, (lit< tt, (lit< tt, tt))))) (L .bytes .2) (L .bytes .3) .replies-is
-      ∙ ap (λ (x : Called). x .replies) (good (g .mode) (g .rule) state (joined rs ++ recall) replies report (L .nine) (C .mode) (C .rule) (theirs-state (L .good)) (omega arith))
+      (M .run state (joined rs ++ recall) replies report (L .bytes .0) (bytes-append (joined rs) recall (L .bytes .1)
+      (lit< tt, (lit< tt, (lit< tt, (lit< tt, tt))))) (L .bytes .2) (L .bytes .3) .replies-is
+      ∙ ap (λ (x : Called). x .replies) (good (g .mode) (g .rule) state (joined rs ++ recall) replies report (L .nine) (C .mode) (C .rule)
+      (theirs-state (L .good)) (omega arith))
       ∙ ap (λ (l : List ℕ). l ++ rest) w
       ∙ append-assoc ws reply rest)
       ∙ ap (take 7) (drop-append-seam ws (reply ++ rest))
@@ -262,7 +276,8 @@ module _ (l : List ℕ) (n : length l ≡ 19) where
 -- the first 19 of a card's 21 bytes are its 19
 first-19 : (k : Card) → length (k .chip .stack) ≡ 16 → laidOut 19 k ≡ take 19 (laidOut 21 k)
 first-19 k n =
-    append-nil (stateBytesOf (k .chip)) ∙ sym (take-at (stateBytesOf (k .chip)) (k .memory .bits ∷ k .memory .code ∷ []) 19 (length-append (k .chip .stack) (_ ∷ _ ∷ _ ∷ []) ∙ omega arith))
+    append-nil (stateBytesOf (k .chip)) ∙ sym (take-at (stateBytesOf (k .chip)) (k .memory .bits ∷ k .memory .code ∷ []) 19 (length-append (k .chip .stack)
+    (_ ∷ _ ∷ _ ∷ []) ∙ omega arith))
 
 -- a call's slices, one by one
 called-as : (x : Called) (d : Called) → Calls d (x .result) (x .state) (x .replies) (x .report) → x ≡ d
@@ -289,27 +304,41 @@ module _ (on : Settings) (l : List ℕ) (n : length l ≡ 19) where
 
     abbrev way : Bool → Bool → Bool → List ℕ → ℕ → Called
     way x y z state size =
-        cond x (cond y (cond z (away InputTooLong state replies) (ranOf size outcome replies)) (away BadState state replies)) (record { result = 14; state = state; replies = replies; report = report })
+        cond x (cond y (cond z (away InputTooLong state replies) (ranOf size outcome replies)) (away BadState state replies))
+        (record { result = 14; state = state; replies = replies; report = report })
 
     away-alike : (r : Refusal) → away r l replies ≡ shortCall (away r (lengthened l) replies)
-    away-alike r = ap (λ (s : List ℕ). record { result = numberOf r; state = s; replies = replies; report = numberOf r ∷ 0 ∷ 0 ∷ 0 ∷ 0 ∷ 0 ∷ 0 ∷ 0 ∷ 0 ∷ [] }) front
+    away-alike r = ap (λ (s : List ℕ). record { result = numberOf r; state = s; replies = replies; report = numberOf r ∷ 0 ∷ 0 ∷ 0 ∷ 0 ∷ 0 ∷ 0 ∷ 0 ∷ 0 ∷ [] })
+        front
 
     ways : (x y z : Bool) → (y ≡ true → length (outcome .state .chip .stack) ≡ 16) → way x y z l 19 ≡ shortCall (way x y z (lengthened l) 21)
     ways true true true h = away-alike InputTooLong
-    ways true true false h = ap (λ (s : List ℕ). record { result = outcome .refusal; state = s; replies = ranOf 19 outcome replies .replies; report = ranOf 19 outcome replies .report }) (first-19 (outcome .state) (h refl))
+    ways true true false h = ap (λ (s : List ℕ). record {
+      result = outcome .refusal;
+      state = s;
+      replies = ranOf 19 outcome replies .replies;
+      report = ranOf 19
+          outcome replies .report;
+    }) (first-19 (outcome .state) (h refl))
     ways true false z h = away-alike BadState
     ways false y z h = ap (λ (s : List ℕ). record { result = 14; state = s; replies = replies; report = report }) front
 
-    short-call : Bytes l → Bytes input → cond (eqb (length report) 9) (callUnder on l input replies) (record { result = 14; state = l; replies = replies; report = report })
-        ≡ shortCall (cond (eqb (length report) 9) (callUnder on (lengthened l) input replies) (record { result = 14; state = lengthened l; replies = replies; report = report }))
+    short-call : Bytes l → Bytes input → cond (eqb (length report) 9) (callUnder on l input replies)
+        (record { result = 14; state = l; replies = replies; report = report })
+        ≡ shortCall (cond (eqb (length report) 9) (callUnder on (lengthened l) input replies)
+        (record { result = 14; state = lengthened l; replies = replies; report = report }))
     short-call B I =
         let x = eqb (length report) 9 in
         let z = ltb 12288 (length input) in
         ap (λ (m : ℕ). way x (isState l) z l m) n
         ∙ ways x (isState l) z (λ g. run-ready (cardIn on l) input (length replies) (card-ready on l B g) I .chip .stack .sixteen)
         ∙ sym (ap (λ (c : Called). shortCall c) (
-        ap (λ (y : Bool). cond x (cond y (cond z (away InputTooLong (lengthened l) replies) (ranOf (length (lengthened l)) (runOf (cardIn on (lengthened l)) input (length replies)) replies)) (away BadState (lengthened l) replies)) (record { result = 14; state = lengthened l; replies = replies; report = report })) (same-good l n)
-        ∙ ap₂ (λ (m : ℕ) (k : Card). cond x (cond (isState l) (cond z (away InputTooLong (lengthened l) replies) (ranOf m (runOf k input (length replies)) replies)) (away BadState (lengthened l) replies)) (record { result = 14; state = lengthened l; replies = replies; report = report })) (longer l n) (same-card l n on)))
+        ap (λ (y : Bool). cond x (cond y (cond z (away InputTooLong (lengthened l) replies) (ranOf (length (lengthened l)) (runOf (cardIn on (lengthened l))
+        input (length replies)) replies)) (away BadState (lengthened l) replies))
+        (record { result = 14; state = lengthened l; replies = replies; report = report })) (same-good l n)
+        ∙ ap₂ (λ (m : ℕ) (k : Card). cond x (cond (isState l) (cond z (away InputTooLong (lengthened l) replies) (ranOf m (runOf k input (length replies))
+        replies)) (away BadState (lengthened l) replies)) (record { result = 14; state = lengthened l; replies = replies; report = report })) (longer l n)
+        (same-card l n on)))
 
   -- and through the event
   module _ (kind byte : ℕ) where
@@ -317,10 +346,12 @@ module _ (on : Settings) (l : List ℕ) (n : length l ≡ 19) where
     answer = answerToKind (cardIn on l) kind byte
 
     abbrev turn : Bool → Bool → List ℕ → ℕ → Signal
-    turn y z state size = cond y (record { result = joinedOf (numberOf (answer .refusal)) (answer .byte); state = cond z (laidOut size (answer .card)) state }) (record { result = joinedOf 13 0; state = state })
+    turn y z state size = cond y (record { result = joinedOf (numberOf (answer .refusal)) (answer .byte); state = cond z (laidOut size (answer .card)) state })
+        (record { result = joinedOf 13 0; state = state })
 
     turns : (y z : Bool) → (y ≡ true → length (answer .card .chip .stack) ≡ 16) → turn y z l 19 ≡ shortSignal (turn y z (lengthened l) 21)
-    turns true true h = ap (λ (s : List ℕ). record { result = joinedOf (numberOf (answer .refusal)) (answer .byte); state = s }) (first-19 (answer .card) (h refl))
+    turns true true h = ap (λ (s : List ℕ). record { result = joinedOf (numberOf (answer .refusal)) (answer .byte); state = s })
+        (first-19 (answer .card) (h refl))
     turns true false h = ap (λ (s : List ℕ). record { result = joinedOf (numberOf (answer .refusal)) (answer .byte); state = s }) front
     turns false z h = ap (λ (s : List ℕ). record { result = joinedOf 13 0; state = s }) front
 
@@ -330,8 +361,10 @@ module _ (on : Settings) (l : List ℕ) (n : length l ≡ 19) where
         ap (λ (m : ℕ). turn (isState l) z l m) n
         ∙ turns (isState l) z (λ g. event-ready (cardIn on l) kind byte b (card-ready on l B g) .chip .stack .sixteen)
         ∙ sym (ap (λ (x : Signal). shortSignal x) (
-        ap (λ (y : Bool). cond y (signalBy (lengthened l) (answerToKind (cardIn on (lengthened l)) kind byte)) (record { result = joinedOf 13 0; state = lengthened l })) (same-good l n)
-        ∙ ap (λ (k : Card). cond (isState l) (signalBy (lengthened l) (answerToKind k kind byte)) (record { result = joinedOf 13 0; state = lengthened l })) (same-card l n on)
+        ap (λ (y : Bool). cond y (signalBy (lengthened l) (answerToKind (cardIn on (lengthened l)) kind byte))
+        (record { result = joinedOf 13 0; state = lengthened l })) (same-good l n)
+        ∙ ap (λ (k : Card). cond (isState l) (signalBy (lengthened l) (answerToKind k kind byte)) (record { result = joinedOf 13 0; state = lengthened l }))
+        (same-card l n on)
         ∙ ap (λ (m : ℕ). turn (isState l) z (lengthened l) m) (longer l n)))
 
 -- the longer bytes are bytes
@@ -344,10 +377,12 @@ short-states g C c M = record {
       called-as (c .run state input replies report) _ (M .run state input replies report B I W P)
       ∙ run-chosen (g .mode) (g .rule) state input replies report (C .mode) (C .rule)
       ∙ short-call (settingsIn g) state n input replies report B I
-      ∙ ap (λ (x : Called). shortCall x) (sym (run-chosen (g .mode) (g .rule) (lengthened state) input replies report (C .mode) (C .rule)) ∙ sym (called-as (c .run (lengthened state) input replies report) _ (M .run (lengthened state) input replies report (longer-bytes state B) I W P)));
+      ∙ ap (λ (x : Called). shortCall x) (sym (run-chosen (g .mode) (g .rule) (lengthened state) input replies report (C .mode) (C .rule))
+      ∙ sym (called-as (c .run (lengthened state) input replies report) _ (M .run (lengthened state) input replies report (longer-bytes state B) I W P)));
   event = λ state kind byte n B k b.
       signalled-as (c .event state kind byte) _ (M .event state kind byte B k b)
       ∙ event-chosen (g .mode) (g .rule) state kind byte (C .mode) (C .rule)
       ∙ short-signal (settingsIn g) state n kind byte B b
-      ∙ ap (λ (x : Signal). shortSignal x) (sym (event-chosen (g .mode) (g .rule) (lengthened state) kind byte (C .mode) (C .rule)) ∙ sym (signalled-as (c .event (lengthened state) kind byte) _ (M .event (lengthened state) kind byte (longer-bytes state B) k b)));
+      ∙ ap (λ (x : Signal). shortSignal x) (sym (event-chosen (g .mode) (g .rule) (lengthened state) kind byte (C .mode) (C .rule))
+      ∙ sym (signalled-as (c .event (lengthened state) kind byte) _ (M .event (lengthened state) kind byte (longer-bytes state B) k b)));
 }

@@ -44,8 +44,10 @@ use Rattle.promises.specs.Given.{Given, Chosen, settingsIn, runCall}
 use Rattle.promises.specs.Records.{countAt}
 use Rattle.promises.specs.Chains.{Step, runEvents}
 use Rattle.promises.specs.Cores.{Core, Meets, byteOf, Sendable, NoRecall, Keeps, driven, returned, answersOf, allZero, kindNumber, busRun, wordLeft}
-use Rattle.promises.specs.EventFiles.{recordOf, fileOf, codesBefore, replyTo, repliesTo, FileOfEvents, Lent, EventFiles, chainFile, zerosFor, Demand3Files}
-use Rattle.promises.proofs.Records.{counts-exact, push-record, pop-record, command-record, status-record, reset-record, acknowledge-record, recall-record, forget-record}
+use Rattle.promises.specs.EventFiles.{recordOf, fileOf, codesBefore, replyTo, repliesTo, FileOfEvents, Lent, EventFiles, chainFile, zerosFor}
+use Rattle.promises.specs.EventFiles.{Demand3Files}
+use Rattle.promises.proofs.Records.{counts-exact, push-record, pop-record, command-record, status-record, reset-record, acknowledge-record}
+use Rattle.promises.proofs.Records.{recall-record, forget-record}
 use Rattle.promises.proofs.Refusals.{refusals}
 use Rattle.promises.proofs.Kept.{command-byte}
 use Rattle.promises.proofs.Pending.{bus-events}
@@ -75,13 +77,16 @@ module _ (on : Settings) (s : State) (m : Memory) (G : ReadyCard (cardWith on s 
       let z = refusals on .push-done s b calm in
       let y = push-byte s b in
       push-record on s m (b ∷ []) room calm (omega arith) (omega arith) h
-      ∙ ap (λ (n : ℕ). took (cardWith on ((pushOf s b) .state) m) 5 (3 ∷ 0 ∷ 129 ∷ 0 ∷ n ∷ [])) (sym (refusal-in (numberOf ((pushOf s b) .refusal)) ((pushOf s b) .byte) (omega arith) ∙ z))
+      ∙ ap (λ (n : ℕ). took (cardWith on ((pushOf s b) .state) m) 5 (3 ∷ 0 ∷ 129 ∷ 0 ∷ n ∷ [])) (sym (refusal-in (numberOf ((pushOf s b) .refusal))
+      ((pushOf s b) .byte) (omega arith) ∙ z))
 
   commands : (code : ℕ) → 5 ≤ room → Alike (cardWith on s m) (Chip (Command code)) room
   commands code h =
       let y = command-byte (on .rule) s code in
       command-record on s m code room h
-      ∙ ap (λ (n : ℕ). took (cardWith on ((commandUnder (on .rule) s code) .state) (keptAfter m (Command code) (commandUnder (on .rule) s code))) 5 (3 ∷ 0 ∷ 131 ∷ 0 ∷ n ∷ [])) (sym (refusal-in (numberOf ((commandUnder (on .rule) s code) .refusal)) ((commandUnder (on .rule) s code) .byte) (omega arith)))
+      ∙ ap (λ (n : ℕ). took (cardWith on ((commandUnder (on .rule) s code) .state) (keptAfter m (Command code) (commandUnder (on .rule) s code))) 5
+      (3 ∷ 0 ∷ 131 ∷ 0 ∷ n ∷ [])) (sym (refusal-in (numberOf ((commandUnder (on .rule) s code) .refusal)) ((commandUnder (on .rule) s code) .byte)
+      (omega arith)))
 
   pops : 6 ≤ room → Alike (cardWith on s m) (Chip Pop) room
   pops h =
@@ -90,7 +95,8 @@ module _ (on : Settings) (s : State) (m : Memory) (G : ReadyCard (cardWith on s 
       let z : numberOf (a .refusal) ≡ 0 = refusals on .pop-done s calm in
       let y : a .byte < 256 = subst (λ (n : ℕ). n < 256) (sym (ap (λ (x : Answer). x .byte) e)) (byte-at (s .stack) (G .chip .stack .bytes) 0) in
       pop-record on s m 1 room calm (omega arith) (omega arith) h
-      ∙ ap₂ (λ (n b : ℕ). took (cardWith on (a .state) m) 5 (4 ∷ 0 ∷ 130 ∷ 0 ∷ n ∷ b ∷ [])) (sym (refusal-in (numberOf (a .refusal)) (a .byte) y ∙ z)) (sym (byte-in (numberOf (a .refusal)) (a .byte) y))
+      ∙ ap₂ (λ (n b : ℕ). took (cardWith on (a .state) m) 5 (4 ∷ 0 ∷ 130 ∷ 0 ∷ n ∷ b ∷ [])) (sym (refusal-in (numberOf (a .refusal)) (a .byte) y ∙ z))
+      (sym (byte-in (numberOf (a .refusal)) (a .byte) y))
 
   reads : 6 ≤ room → Alike (cardWith on s m) (Chip Status) room
   reads h =
@@ -100,12 +106,14 @@ module _ (on : Settings) (s : State) (m : Memory) (G : ReadyCard (cardWith on s 
       status-record on s m room calm h
       ∙ ap (λ (t : State). took (cardWith on t m) 4 (4 ∷ 0 ∷ 132 ∷ 0 ∷ 0 ∷ s .status ∷ [])) (sym (r .2))
       ∙ ap₂ (λ (n b : ℕ). took (cardWith on ((readOf s) .state) m) 4 (4 ∷ 0 ∷ 132 ∷ 0 ∷ n ∷ b ∷ []))
-      (sym (refusal-in (numberOf ((readOf s) .refusal)) ((readOf s) .byte) y ∙ r .0)) (sym (byte-in (numberOf ((readOf s) .refusal)) ((readOf s) .byte) y ∙ r .1))
+      (sym (refusal-in (numberOf ((readOf s) .refusal)) ((readOf s) .byte) y ∙ r .0)) (sym (byte-in (numberOf ((readOf s) .refusal)) ((readOf s) .byte) y
+      ∙ r .1))
 
   resets : 5 ≤ room → Alike (cardWith on s m) (Chip Reset) room
   resets h =
       reset-record on s m room calm h
-      ∙ ap (λ (a : Answer). took (answerWith on m Reset a .card) 4 (3 ∷ 0 ∷ 133 ∷ 0 ∷ joinedOf (numberOf (a .refusal)) (a .byte) / 256 ∷ [])) (sym (reset-is (on .mode) s calm))
+      ∙ ap (λ (a : Answer). took (answerWith on m Reset a .card) 4 (3 ∷ 0 ∷ 133 ∷ 0 ∷ joinedOf (numberOf (a .refusal)) (a .byte) / 256 ∷ []))
+      (sym (reset-is (on .mode) s calm))
 
   acknowledges : 5 ≤ room → Alike (cardWith on s m) (Chip Acknowledge) room
   acknowledges h =
@@ -113,13 +121,15 @@ module _ (on : Settings) (s : State) (m : Memory) (G : ReadyCard (cardWith on s 
       let y = g .byte-read in
       acknowledge-record on s m room calm h
       ∙ ap (λ (t : State). took (cardWith on t m) 4 (3 ∷ 0 ∷ 134 ∷ 0 ∷ 0 ∷ [])) (sym (g .state))
-      ∙ ap (λ (n : ℕ). took (cardWith on ((acknowledgeOf s) .state) m) 4 (3 ∷ 0 ∷ 134 ∷ 0 ∷ n ∷ [])) (sym (refusal-in (numberOf ((acknowledgeOf s) .refusal)) ((acknowledgeOf s) .byte) (omega arith) ∙ g .number))
+      ∙ ap (λ (n : ℕ). took (cardWith on ((acknowledgeOf s) .state) m) 4 (3 ∷ 0 ∷ 134 ∷ 0 ∷ n ∷ [])) (sym (refusal-in (numberOf ((acknowledgeOf s) .refusal))
+      ((acknowledgeOf s) .byte) (omega arith) ∙ g .number))
 
   recalls : 7 ≤ room → Alike (cardWith on s m) Recall room
   recalls h =
       let b : m .bits < 256 = ⊎-elim (λ z. omega (arith, z .0)) (λ z. omega (arith, z .in-places)) (memory-cases (m .bits) (m .code) (G .memory .stands)) in
       recall-record on s m room calm h
-      ∙ rw calm (ap₂ (λ (n i : ℕ). took (cardWith on s m) 4 (5 ∷ 0 ∷ 135 ∷ 0 ∷ n ∷ i ∷ m .code ∷ [])) (sym (refusal-in 0 (m .bits) b)) (sym (byte-in 0 (m .bits) b)))
+      ∙ rw calm (ap₂ (λ (n i : ℕ). took (cardWith on s m) 4 (5 ∷ 0 ∷ 135 ∷ 0 ∷ n ∷ i ∷ m .code ∷ [])) (sym (refusal-in 0 (m .bits) b))
+      (sym (byte-in 0 (m .bits) b)))
 
   forgets : 5 ≤ room → Alike (cardWith on s m) Forget room
   forgets h = forget-record on s m room calm h ∙ rw calm
@@ -188,7 +198,8 @@ replies-told g C c M state es B I S o =
     ⊎-elim
     (λ long.
     let back : laidOut 21 k ≡ state = ap (λ (n : ℕ). laidOut n k) (sym long) ∙ card-returns (settingsIn g) state i in
-    ap₂ (repliesTo es) ns (subst (λ (l : List ℕ). codesBefore c l es ≡ codesOf k es) back (codes-long g C c M k (record { good = card-ready (settingsIn g) state B i; set = refl }) es S)))
+    ap₂ (repliesTo es) ns (subst (λ (l : List ℕ). codesBefore c l es ≡ codesOf k es) back
+    (codes-long g C c M k (record { good = card-ready (settingsIn g) state B i; set = refl }) es S)))
     (λ none. ap (λ (l : List ℕ). repliesTo es l (codesBefore c state es)) ns ∙ same-replies es (answersOf k es) (codesBefore c state es) (codesOf k es) none)
     o
 
@@ -218,7 +229,8 @@ event-files g C c M state es replies report S L =
     let o : fileRun k file (length replies) ≡ took (afterAll k es) (length file) ws =
     files es k (length replies) G S (subst (λ (l : List ℕ). length l ≤ length replies) same (L .room)) ∙ ap (took (afterAll k es) (length file)) (sym same) in
     let call : runCall g state file replies report ≡ ranOf (length state) (took (afterAll k es) (length file) ws) replies =
-    good (g .mode) (g .rule) state file replies report (L .nine) (C .mode) (C .rule) (theirs-state (L .good)) (L .short) ∙ ap (λ (x : Outcome). ranOf (length state) x replies) o in
+    good (g .mode) (g .rule) state file replies report (L .nine) (C .mode) (C .rule) (theirs-state (L .good)) (L .short)
+    ∙ ap (λ (x : Outcome). ranOf (length state) x replies) o in
     let counts = counts-exact g C state file replies report (L .nine) (L .good) (L .short) in
     record {
       result = told .result-is ∙ ap (λ (x : Called). x .result) call;
@@ -238,7 +250,8 @@ all-zeros c (e ∷ es) state h =
     ap₂ (λ (n : ℕ) (l : List ℕ). n ∷ l) (eqb-true (x .result) 0 (p .0)) (all-zeros c es (x .state) (p .1))
 
 -- the word on top after the file is the word on top after the events
-on-top : (g : Given) → Chosen g → (c : Core) → Meets g c → (state : List ℕ) (w : ℕ) (sr : ℕ → Bool) (ks : List Step) (replies report : List ℕ) → Lent c state (busRun w sr ks) replies report
+on-top : (g : Given) → Chosen g → (c : Core) → Meets g c → (state : List ℕ) (w : ℕ) (sr : ℕ → Bool) (ks : List Step) (replies report : List ℕ)
+    → Lent c state (busRun w sr ks) replies report
     → tos 4 ((c .run state (chainFile w sr ks) replies report) .state) ≡ wordLeft c state (busRun w sr ks)
 on-top g C c M state w sr ks replies report L = ap (tos 4) (event-files g C c M state (busRun w sr ks) replies report (sent w sr ks) L .state-is)
 
@@ -246,8 +259,12 @@ pub demand-3-files : Demand3Files
 demand-3-files g C c M = record {
   answers = λ state w sr ks replies report B K L.
       let f = event-files g C c M state (busRun w sr ks) replies report (sent w sr ks) L in
-      let z = all-zeros c (busRun w sr ks) state (cores g C c M .chain-answers state w sr ks B K) in
-      (f .result, f .replies-are ∙ ap (λ (l : List ℕ). l ++ drop (length l) replies) (ap (λ (m : List ℕ). repliesTo (busRun w sr ks) m (codesBefore c state (busRun w sr ks))) z ∙ same-replies (busRun w sr ks) (zerosFor (busRun w sr ks)) (codesBefore c state (busRun w sr ks)) (zerosFor (busRun w sr ks)) (bus-told (runEvents w sr ks))));
+      let z = all-zeros c (busRun w sr ks) state (cores g C c M .chain-answers state w sr ks B K) in (
+        f .result,
+        f .replies-are ∙ ap (λ (l : List ℕ). l ++ drop (length l) replies)
+            (ap (λ (m : List ℕ). repliesTo (busRun w sr ks) m (codesBefore c state (busRun w sr ks))) z ∙ same-replies (busRun w sr ks)
+            (zerosFor (busRun w sr ks)) (codesBefore c state (busRun w sr ks)) (zerosFor (busRun w sr ks)) (bus-told (runEvents w sr ks))),
+      );
   bytes = λ state w sr ks replies report B K L.
       ap (take 4) (event-files g C c M state (busRun w sr ks) replies report (sent w sr ks) L .state-is) ∙ cores g C c M .chain-bytes state w sr ks B K;
   even = λ state state' v w sr sr' ks replies replies' report report' B B' K L L' q q' l e.

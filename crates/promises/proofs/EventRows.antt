@@ -14,5 +14,6 @@ use Rattle.state_bytes.specs.Calls.{signalOf}
 use Rattle.promises.specs.EventRows.{EventRows}
 
 pub event-rows : EventRows
-unfolding signalOf isState pushOf popOf readOf resetOf acknowledgeOf carried commandUnder decoded statusOf keepsA losesA changesA floats converts widens narrows roots xadd xsub xmul xmuu xdiv xchs add sub mul div fltd flts fix chsf sqrt size
+unfolding signalOf isState pushOf popOf readOf resetOf acknowledgeOf carried commandUnder decoded statusOf keepsA losesA changesA floats converts widens narrows
+    roots xadd xsub xmul xmuu xdiv xchs add sub mul div fltd flts fix chsf sqrt size
 event-rows = refl

@@ -44,7 +44,8 @@ pub product-exact : (r : Rule) (b a : ℕ) → FloatWord b → FloatWord a → E
 unfolding value-of
 product-exact r b a B A = ours-exactly r (exactProduct b a) (2 ^ 176) (negℤ (pos 129)) (pos 126) (mul r b a) (mul-exactly r b a (B .is-proper) (A .is-proper))
 
-pub quotient-exact : (r : Rule) (b a : ℕ) → FloatWord b → FloatWord a → (mantissa a ≡ 0 → ⊥) → ExactlyBy r (dividend b a) (divisor a) (negℤ (pos 127)) (pos 128) (div r b a)
+pub quotient-exact : (r : Rule) (b a : ℕ) → FloatWord b → FloatWord a → (mantissa a ≡ 0 → ⊥) → ExactlyBy r (dividend b a) (divisor a) (negℤ (pos 127)) (pos 128)
+    (div r b a)
 unfolding size-of
 quotient-exact r b a B A nz =
     ours-exactly r (dividend b a) (divisor a) (negℤ (pos 127)) (pos 128) (div r b a) (div-exactly r b a (B .is-proper) (A .is-proper) nz)
@@ -53,7 +54,8 @@ pub fltd-exact : (r : Rule) (a : ℕ) → a < 2 ^ 32 → ExactlyBy r (integer (2
 fltd-exact r a h = ours-exactly r (integer (2 ^ 31) a) 1 (pos 1) (pos 32) (fltd r a) (fltd-exactly r a h)
 
 -- FLTS of a word is FLTD of the same number in 32 bits
-long : (r : Rule) (a b : ℕ) → b < 2 ^ 32 → integer (2 ^ 31) b ≡ integer (2 ^ 15) a → ExactlyBy r (integer (2 ^ 15) a) 1 (pos 1) (pos 32) (cut r (integer (2 ^ 15) a) 1)
+long : (r : Rule) (a b : ℕ) → b < 2 ^ 32 → integer (2 ^ 31) b ≡ integer (2 ^ 15) a → ExactlyBy r (integer (2 ^ 15) a) 1 (pos 1) (pos 32)
+    (cut r (integer (2 ^ 15) a) 1)
 unfolding fltd
 long r a b h e = subst (λ (z : ℤ). ExactlyBy r z 1 (pos 1) (pos 32) (cut r z 1)) e (fltd-exact r b h)
 
@@ -99,7 +101,8 @@ unfolding mul
 product-kept r b a w W e = own-value r w (exactProduct b a) (2 ^ 176) (theirs-word W) (pow-pos 176)
     (sym (twice (value w) (2 ^ 88) (2 ^ 88)) ∙ ap (λ (z : ℤ). z *ℤ pos (2 ^ 88)) e)
 
-pub quotient-kept : (r : Rule) (b a w : ℕ) → FloatWord w → (mantissa a ≡ 0 → ⊥) → value w *ℤ pos (divisor a) ≡ dividend b a *ℤ pos (2 ^ 88) → div r b a ≡ clean w
+pub quotient-kept : (r : Rule) (b a w : ℕ) → FloatWord w → (mantissa a ≡ 0 → ⊥) → value w *ℤ pos (divisor a) ≡ dividend b a *ℤ pos (2 ^ 88) → div r b
+    a ≡ clean w
 unfolding value-of
 quotient-kept r b a w W nz e = div-cut r b a nz ∙ own-value r w (dividend b a) (divisor a) (theirs-word W) (size-pos a nz) e
 

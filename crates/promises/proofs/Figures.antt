@@ -54,11 +54,13 @@ value-by w k m sign a b c = rw (a, b, c)
 positive : (k m : ℕ) → k < 128 → m < 16777216 → value (wordWith false k m) ≡ pos (m * 2 ^ k)
 positive k m K M =
     let small : (k + 64) % 128 * 16777216 + m < 2147483648 = omega arith in
-    value-by (wordWith false k m) k m false (lt-leb 2147483648 (wordWith false k m) (omega arith)) (places-are 0 k m (omega arith) K M) (digits-are 0 k m (omega arith) K M)
+    value-by (wordWith false k m) k m false (lt-leb 2147483648 (wordWith false k m) (omega arith)) (places-are 0 k m (omega arith) K M)
+    (digits-are 0 k m (omega arith) K M)
 
 minus : (k m : ℕ) → k < 128 → m < 16777216 → value (wordWith true k m) ≡ negℤ (pos (m * 2 ^ k))
 minus k m K M =
-    value-by (wordWith true k m) k m true (le-leb 2147483648 (wordWith true k m) (omega arith)) (places-are 1 k m (omega arith) K M) (digits-are 1 k m (omega arith) K M)
+    value-by (wordWith true k m) k m true (le-leb 2147483648 (wordWith true k m) (omega arith)) (places-are 1 k m (omega arith) K M)
+    (digits-are 1 k m (omega arith) K M)
 
 -- every word has fields
 below-half : (w : ℕ) → w < 2147483648 → w ≡ ((w / 16777216 + 64) % 128 + 64) % 128 * 16777216 + w % 16777216

@@ -29,7 +29,8 @@ hex-lt a k [] h d = omega arith
 hex-lt a k (b ∷ s) h d =
     let e = both (isDigit b) (areDigits s) d in
     let v = digit-lt b (e .0) in
-    let more : k * 16 * 16 ^ length s ≡ k * 16 ^ length (b ∷ s) = mul-assoc k 16 (16 ^ length s) ∙ ap (λ (x : ℕ). k * x) (mul-comm 16 (16 ^ length s) ∙ sym (pow-suc 16 (length s))) in
+    let more : k * 16 * 16 ^ length s ≡ k * 16 ^ length (b ∷ s) = mul-assoc k 16 (16 ^ length s) ∙ ap (λ (x : ℕ). k * x) (mul-comm 16 (16 ^ length s)
+    ∙ sym (pow-suc 16 (length s))) in
     subst (λ (x : ℕ). hexFrom (a * 16 + digitValue b) s < x) more (hex-lt (a * 16 + digitValue b) (k * 16) s (omega arith) (e .1))
 
 constant-lt : (s : List ℕ) → length s ≡ 8 → areDigits s ≡ true → constantWord s < 2 ^ 32
@@ -63,8 +64,10 @@ module _ (letters : List ℕ) (n : length letters ≡ 32) (B : Bytes letters) wh
 
     product-leaves : {s : List ℕ} {f : Formula} → IsProduct s f → properIn letters f ≡ true → Leaves letters f
     product-leaves (factor p) h = factor-leaves p h
-    product-leaves (times {f = f} {g = g} p q e) h = let t = both (properIn letters f) (properIn letters g) h in (product-leaves p (t .0), factor-leaves q (t .1))
-    product-leaves (over {f = f} {g = g} p q e) h = let t = both (properIn letters f) (properIn letters g) h in (product-leaves p (t .0), factor-leaves q (t .1))
+    product-leaves (times {f = f} {g = g} p q e) h = let t = both (properIn letters f) (properIn letters g) h
+        in (product-leaves p (t .0), factor-leaves q (t .1))
+    product-leaves (over {f = f} {g = g} p q e) h = let t = both (properIn letters f) (properIn letters g) h
+        in (product-leaves p (t .0), factor-leaves q (t .1))
 
     factor-leaves : {s : List ℕ} {f : Formula} → IsFactor s f → properIn letters f ≡ true → Leaves letters f
     factor-leaves (letter {k = k} i e) h = record { fits = letter-lt letters k n B i; is-proper = h }

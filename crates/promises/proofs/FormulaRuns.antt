@@ -1,4 +1,5 @@
--- The file of a formula run from any state at rest: with at most four words on top none falls off the bottom before it is used, by induction over the formula. Assumes nothing.
+-- The file of a formula run from any state at rest: with at most four words on top none falls off the bottom before it is used, by induction over the formula.
+-- Assumes nothing.
 use mathlib.Core.Path.{_≡_, refl, sym, ap, _∙_}
 use mathlib.Core.List.{List, [], _∷_, _++_, append-assoc}
 use Prim.Native.Nat.{ℕ, suc, _+_, _≤_, _<_, max}
@@ -43,7 +44,8 @@ record Did (on : Settings) (letters : List ℕ) (f : Formula) (ws : List ℕ) (s
   step : Step on s m (fileOf letters f) (repliesTo f) (evaluated (on .rule) letters f ∷ ws)
   word : FloatWord (evaluated (on .rule) letters f)
 
-did : (on : Settings) (letters : List ℕ) (f : Formula) (ws : List ℕ) (s : State) (m : Memory) → Leaves letters f → On ws s → length ws + needOf f ≤ 4 → Did on letters f ws s m
+did : (on : Settings) (letters : List ℕ) (f : Formula) (ws : List ℕ) (s : State) (m : Memory) → Leaves letters f → On ws s → length ws + needOf f ≤ 4 → Did on
+    letters f ws s m
 unfolding needOf fileOf repliesTo evaluated
 did on letters (Letter k) ws s m W O h = record { step = pushed on (letterWord letters k) ws s m O (omega arith); word = W }
 did on letters (Constant d) ws s m W O h = record { step = pushed on (constantWord d) ws s m O (omega arith); word = W }

@@ -61,7 +61,8 @@ tree-back (theirs.Constant s) = refl
 tree-back (theirs.Minus f) = ap theirs.Minus (tree-back f)
 tree-back (theirs.Brackets f) = ap theirs.Brackets (tree-back f)
 tree-back (theirs.Joined o l r) =
-    ap (λ (x : theirs.Operator). theirs.Joined x (tree (leaf l)) (tree (leaf r))) (sign-back o) ∙ ap₂ (λ (x y : theirs.Formula). theirs.Joined o x y) (tree-back l) (tree-back r)
+    ap (λ (x : theirs.Operator). theirs.Joined x (tree (leaf l)) (tree (leaf r))) (sign-back o) ∙ ap₂ (λ (x y : theirs.Formula). theirs.Joined o x y)
+    (tree-back l) (tree-back r)
 
 pub leaf-back : (f : Formula) → leaf (tree f) ≡ f
 leaf-back (Letter k) = refl

@@ -78,7 +78,8 @@ pub record Step (on : Settings) (s : State) (m : Memory) (file replies : List �
   pub ran : Ran on s m file replies end left
   pub stands : On ws end
 
-pub then-step : {on : Settings} {s : State} {m : Memory} {a b p q ws vs : List ℕ} (A : Step on s m a p ws) → Step on (A .end) (A .left) b q vs → Step on s m (a ++ b) (p ++ q) vs
+pub then-step : {on : Settings} {s : State} {m : Memory} {a b p q ws vs : List ℕ} (A : Step on s m a p ws) → Step on (A .end) (A .left) b q vs
+    → Step on s m (a ++ b) (p ++ q) vs
 then-step A B = record { end = B .end; left = B .left; ran = both-ran (A .ran) (B .ran); stands = B .stands }
 
 -- ---- one push record
@@ -88,7 +89,8 @@ pushed-bytes w =
     let b : w / 16777216 ≡ w / 256 / 256 / 256 = omega arith in
     rw (a, b)
 
-pub pushed : (on : Settings) (w : ℕ) (ws : List ℕ) (s : State) (m : Memory) → On ws s → length ws ≤ 3 → Step on s m (pushRecord w) (3 ∷ 0 ∷ 129 ∷ 0 ∷ 0 ∷ []) (w ∷ ws)
+pub pushed : (on : Settings) (w : ℕ) (ws : List ℕ) (s : State) (m : Memory) → On ws s → length ws ≤ 3 → Step on s m (pushRecord w) (3 ∷ 0 ∷ 129 ∷ 0 ∷ 0 ∷ [])
+    (w ∷ ws)
 pushed on w ws s m O h =
     let n = 12 - length (words ws) in
     let k : 12 ≡ length (words ws) + n = omega (arith, words-length ws) in
@@ -105,7 +107,8 @@ pushed on w ws s m O h =
       stands = record {
         rest = take n (O .rest);
         stack-is =
-            ap (λ (l : List ℕ). bytesOf 4 w ++ l) (ap (take 12) (O .stack-is) ∙ ap (λ (i : ℕ). take i (words ws ++ O .rest)) k ∙ take-append-add (words ws) (O .rest) n)
+            ap (λ (l : List ℕ). bytesOf 4 w ++ l) (ap (take 12) (O .stack-is) ∙ ap (λ (i : ℕ). take i (words ws ++ O .rest)) k ∙ take-append-add (words ws)
+            (O .rest) n)
             ∙ sym (append-assoc (bytesOf 4 w) (words ws) (take n (O .rest)));
         sixteen = length-append (bytesOf 4 w) (take 12 (s .stack)) ∙ ap (λ (i : ℕ). 4 + i) (length-take-le 12 (s .stack) (omega (arith, O .sixteen)));
         at-rest = record { taken = O .at-rest .taken; whole = O .at-rest .whole };
@@ -118,7 +121,8 @@ spelled s l e R = ap₂ (λ (l : List ℕ) (p : Bool). record { stack = l; pendi
 
 -- the word w on top of t, which begins with some words
 commanded : (on : Settings) (s : State) (m : Memory) (code w : ℕ) (ws t rest : List ℕ) (error : ℕ) → error < 16 → t ≡ words ws ++ rest → length t ≡ 12
-    → commandUnder (on .rule) s code ≡ done 0 (idle (bytesOf 4 w ++ t) (statusOf Double (bytesOf 4 w ++ t) error false) (sr code)) → Step on s m (commandRecord code) (3 ∷ 0 ∷ 131 ∷ 0 ∷ 0 ∷ []) (w ∷ ws)
+    → commandUnder (on .rule) s code ≡ done 0 (idle (bytesOf 4 w ++ t) (statusOf Double (bytesOf 4 w ++ t) error false) (sr code))
+    → Step on s m (commandRecord code) (3 ∷ 0 ∷ 131 ∷ 0 ∷ 0 ∷ []) (w ∷ ws)
 commanded on s m code w ws t rest error h e n a =
     let l = bytesOf 4 w ++ t in
     record {
@@ -136,22 +140,35 @@ commanded on s m code w ws t rest error h e n a =
       };
     }
 
-pub operated : (on : Settings) (op : FloatOp) (code b a : ℕ) (ws : List ℕ) (s : State) (m : Memory) → decoded (code % 128) ≡ Known (Float op) → FloatWord b → FloatWord a
-    → Result (floatOf (on .rule) op b a) → On (a ∷ b ∷ ws) s → Step on s m (commandRecord code) (3 ∷ 0 ∷ 131 ∷ 0 ∷ 0 ∷ []) ((floatOf (on .rule) op b a) .word ∷ ws)
+pub operated : (on : Settings) (op : FloatOp) (code b a : ℕ) (ws : List ℕ) (s : State) (m : Memory) → decoded (code % 128) ≡ Known (Float op) → FloatWord b
+    → FloatWord a
+    → Result (floatOf (on .rule) op b a) → On (a ∷ b ∷ ws) s → Step on s m (commandRecord code) (3 ∷ 0 ∷ 131 ∷ 0 ∷ 0 ∷ []) ((floatOf (on .rule) op b a) .word
+    ∷ ws)
 operated on op code b a ws s m k B A R O =
     let t = words ws ++ O .rest in
     let r = floatOf (on .rule) op b a in
     let e : s .stack ≡ bytesOf 4 a ++ (bytesOf 4 b ++ t) =
-    O .stack-is ∙ append-assoc (bytesOf 4 a) (bytesOf 4 b ++ words ws) (O .rest) ∙ ap (λ (l : List ℕ). bytesOf 4 a ++ l) (append-assoc (bytesOf 4 b) (words ws) (O .rest)) in
-    let n : length (t ++ zeros 4) ≡ 12 = omega (arith, O .sixteen, ap length e, length-append (bytesOf 4 a) (bytesOf 4 b ++ t), length-append (bytesOf 4 b) t, length-append t (zeros 4)) in
+    O .stack-is ∙ append-assoc (bytesOf 4 a) (bytesOf 4 b ++ words ws) (O .rest) ∙ ap (λ (l : List ℕ). bytesOf 4 a ++ l) (append-assoc (bytesOf 4 b) (words ws)
+    (O .rest)) in
+    let n : length (t ++ zeros 4) ≡ 12 = omega (
+      arith,
+      O .sixteen,
+      ap length e,
+      length-append (bytesOf 4 a) (bytesOf 4 b ++ t),
+      length-append (bytesOf 4 b) t,
+      length-append t (zeros 4),
+    ) in
     commanded on s m code (r .word) ws (t ++ zeros 4) (O .rest ++ zeros 4) (r .error) (R .small) (append-assoc (words ws) (O .rest) (zeros 4)) n
-    (ap (λ (x : State). commandUnder (on .rule) x code) (spelled s (bytesOf 4 a ++ (bytesOf 4 b ++ t)) e (O .at-rest)) ∙ floated (on .rule) op code b a t (s .status) (s .service) k (at-rest-lt (O .at-rest)) B A)
+    (ap (λ (x : State). commandUnder (on .rule) x code) (spelled s (bytesOf 4 a ++ (bytesOf 4 b ++ t)) e (O .at-rest)) ∙ floated (on .rule) op code b a t
+    (s .status) (s .service) k (at-rest-lt (O .at-rest)) B A)
 
-pub negated : (on : Settings) (a : ℕ) (ws : List ℕ) (s : State) (m : Memory) → FloatWord a → On (a ∷ ws) s → Step on s m (commandRecord minusCode) (3 ∷ 0 ∷ 131 ∷ 0 ∷ 0 ∷ []) (chsf a ∷ ws)
+pub negated : (on : Settings) (a : ℕ) (ws : List ℕ) (s : State) (m : Memory) → FloatWord a → On (a ∷ ws) s → Step on s m (commandRecord minusCode)
+    (3 ∷ 0 ∷ 131 ∷ 0 ∷ 0 ∷ []) (chsf a ∷ ws)
 unfolding decoded
 negated on a ws s m A O =
     let t = words ws ++ O .rest in
     let e : s .stack ≡ bytesOf 4 a ++ t = O .stack-is ∙ append-assoc (bytesOf 4 a) (words ws) (O .rest) in
     let n : length t ≡ 12 = omega (arith, O .sixteen, ap length e, length-append (bytesOf 4 a) t) in
     commanded on s m minusCode (chsf a) ws t (O .rest) 0 (omega arith) refl n
-    (ap (λ (x : State). commandUnder (on .rule) x minusCode) (spelled s (bytesOf 4 a ++ t) e (O .at-rest)) ∙ sign-changed (on .rule) minusCode a t (s .status) (s .service) refl (at-rest-lt (O .at-rest)) A)
+    (ap (λ (x : State). commandUnder (on .rule) x minusCode) (spelled s (bytesOf 4 a ++ t) e (O .at-rest)) ∙ sign-changed (on .rule) minusCode a t (s .status)
+    (s .service) refl (at-rest-lt (O .at-rest)) A)

@@ -26,10 +26,12 @@ use Rattle.promises.specs.PrintedText.{written}
 use Rattle.promises.specs.FormulaText as book
 use Rattle.promises.specs.FormulaText.{Formula, IsText, needOf}
 use Rattle.promises.specs.Given.{settingsIn, runCall}
-use Rattle.promises.specs.Formulas.{FormulaDetermined, OneTree, Stated, Refuses, no-formula, improper, needs-more, no-room, Takes, FormulaRefusals, fileIn, Evaluates, EvaluatesCall, FormulaRuns}
+use Rattle.promises.specs.Formulas.{FormulaDetermined, OneTree, Stated, Refuses, no-formula, improper, needs-more, no-room, Takes, FormulaRefusals}
+use Rattle.promises.specs.Formulas.{fileIn, Evaluates, EvaluatesCall, FormulaRuns}
 use Rattle.promises.specs.Formulas.{WrongTranslators, lettersGiven, FormulaExamples}
 use Rattle.promises.proofs.Measures.{theirs-rest}
-use Rattle.promises.proofs.FormulaText.{tree, leaf, tree-back, leaf-back, need-is, proper-is, file-is, word-is, replies-are, theirs-sum, theirs-text, ours-text}
+use Rattle.promises.proofs.FormulaText.{tree, leaf, tree-back, leaf-back, need-is, proper-is, file-is, word-is, replies-are, theirs-sum, theirs-text}
+use Rattle.promises.proofs.FormulaText.{ours-text}
 use Rattle.promises.proofs.Translations as crate
 
 pub formula-determined : FormulaDetermined
@@ -79,18 +81,24 @@ module _ {text letters : List ℕ} {room : ℕ} where
   theirs-refuses (needs-more f S p m) =
       crate.needs-more (tree f) (theirs-stated S) (proper-is letters f ∙ p) (subst (λ (n : ℕ). 4 < n) (sym (need-is f)) m)
   theirs-refuses (no-room f S p m r) =
-      crate.no-room (tree f) (theirs-stated S) (proper-is letters f ∙ p) (subst (λ (n : ℕ). n ≤ 4) (sym (need-is f)) m) (subst (λ (l : List ℕ). room < length l) (sym (file-is letters f)) r)
+      crate.no-room (tree f) (theirs-stated S) (proper-is letters f ∙ p) (subst (λ (n : ℕ). n ≤ 4) (sym (need-is f)) m) (subst (λ (l : List ℕ). room < length l)
+      (sym (file-is letters f)) r)
 
   ours-refuses : {n : ℕ} → crate.Refuses text letters room n → Refuses text letters room n
   ours-refuses (crate.no-formula h) = no-formula (λ f S. h (tree f) (theirs-stated S))
   ours-refuses (crate.improper t S p) = improper (leaf t) (ours-stated S) (sym (proper-at letters t) ∙ p)
   ours-refuses (crate.needs-more t S p m) = needs-more (leaf t) (ours-stated S) (sym (proper-at letters t) ∙ p) (subst (λ (n : ℕ). 4 < n) (need-at t) m)
   ours-refuses (crate.no-room t S p m r) =
-      no-room (leaf t) (ours-stated S) (sym (proper-at letters t) ∙ p) (subst (λ (n : ℕ). n ≤ 4) (need-at t) m) (subst (λ (l : List ℕ). room < length l) (file-at letters t) r)
+      no-room (leaf t) (ours-stated S) (sym (proper-at letters t) ∙ p) (subst (λ (n : ℕ). n ≤ 4) (need-at t) m) (subst (λ (l : List ℕ). room < length l)
+      (file-at letters t) r)
 
 -- ---- the refusals
 is-translated : (text letters file : List ℕ) (f : Formula) → Takes text letters (length file) f
-    → formulaCall text letters file ≡ record { result = length (book.fileOf letters f); file = book.fileOf letters f ++ drop (length (book.fileOf letters f)) file }
+    → formulaCall text letters file ≡ record {
+      result = length (book.fileOf letters f);
+      file = book.fileOf letters f ++ drop (length (book.fileOf letters f))
+          file;
+    }
 is-translated text letters file f T =
     subst (λ (l : List ℕ). formulaCall text letters file ≡ record { result = length l; file = l ++ drop (length l) file }) (file-is letters f)
     (crate.is-translated text letters file (tree f) (theirs-takes T))
@@ -110,16 +118,22 @@ pub formula-runs : FormulaRuns
 formula-runs = record {
   records = λ on s m text letters file f room T B six R h.
       subst₂ (λ (l : List ℕ) (w : ℕ). Evaluates on s m (fileIn (formulaCall text letters file)) l room w) (replies-are f) (word-is letters (on .rule) f)
-      (crate.as-records on s m text letters file (tree f) room (theirs-takes T) B six (theirs-rest R) (subst (λ (l : List ℕ). length l ≤ room) (sym (replies-are f)) h));
+      (crate.as-records on s m text letters file (tree f) room (theirs-takes T) B six (theirs-rest R)
+      (subst (λ (l : List ℕ). length l ≤ room) (sym (replies-are f)) h));
   calls = λ g C state replies report text letters file f T B S h w n r.
-      subst₂ (λ (l : List ℕ) (v : ℕ). EvaluatesCall (runCall g state (fileIn (formulaCall text letters file)) replies report) (fileIn (formulaCall text letters file)) l replies v)
+      subst₂ (λ (l : List ℕ) (v : ℕ). EvaluatesCall (runCall g state (fileIn (formulaCall text letters file)) replies report)
+      (fileIn (formulaCall text letters file)) l replies v)
       (replies-are f) (word-is letters (settingsIn g .rule) f)
-      (crate.as-call g C state replies report text letters file (tree f) (theirs-takes T) B S h w n (subst (λ (l : List ℕ). length l ≤ length replies) (sym (replies-are f)) r));
+      (crate.as-call g C state replies report text letters file (tree f) (theirs-takes T) B S h w n (subst (λ (l : List ℕ). length l ≤ length replies)
+      (sym (replies-are f)) r));
   proper = λ rule text letters file f T B. subst FloatWord (word-is letters rule f) (crate.word-proper rule text letters file (tree f) (theirs-takes T) B);
   short = λ text letters file f T.
       let t = theirs-takes T in
-      let n = crate.file-short text letters (length file) (tree f) t in
-      (rw (crate.file-is text letters file (tree f) t) n, subst (λ (l : List ℕ). length l ≤ 1664) (replies-are f) (omega (arith, replies-few letters (tree f))));
+      let n = crate.file-short text letters (length file) (tree f) t in (
+        rw (crate.file-is text letters file (tree f) t) n,
+        subst (λ (l : List ℕ). length l ≤ 1664) (replies-are f)
+            (omega (arith, replies-few letters (tree f))),
+      );
 }
 
 -- ---- wrong translators: a text of one letter, whose word is zero, with room for its file

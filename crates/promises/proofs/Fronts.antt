@@ -1,4 +1,5 @@
--- The number of a bad record from its bytes: each test of the head goes the way that the bytes say, and a head that stops ends the run at once. Assumes nothing.
+-- The number of a bad record from its bytes: each test of the head goes the way that the bytes say, and a head that stops ends the run at once. Assumes
+-- nothing.
 use mathlib.Core.Path.{_≡_, refl, ap, ap₂, _∙_}
 use mathlib.Core.Logic.{_⊎_, ⊎-elim}
 use mathlib.Core.List.{List, [], _∷_}
@@ -38,7 +39,8 @@ broken l r e = ap (headIn mostPayload l) e
 row-is : (l : List ℕ) (n k : ℕ) → wordAt l 0 ≡ 2 + n → wordAt l 2 ≡ k → n ≤ 240 → 4 + n ≤ length l → headOf l ≡ rowUnder mostPayload k n (getD l 4 0)
 row-is l n k a b d e =
     let m : wordAt l 0 - 2 ≡ n = omega arith in
-    ap (headIn mostPayload l) (whole mostPayload l (omega arith) (omega arith) (omega arith) (omega arith)) ∙ ap₂ (λ (i j : ℕ). rowUnder mostPayload i j (getD l 4 0)) b m
+    ap (headIn mostPayload l) (whole mostPayload l (omega arith) (omega arith) (omega arith) (omega arith))
+    ∙ ap₂ (λ (i j : ℕ). rowUnder mostPayload i j (getD l 4 0)) b m
 
 -- ---- rows
 -- a kind that is none is none of the eight
@@ -94,17 +96,21 @@ fronts = record {
       (λ i. broken (a ∷ b ∷ rest) BadLength (low mostPayload (a ∷ b ∷ rest) (omega arith) i))
       (λ i. broken (a ∷ b ∷ rest) BadLength (high mostPayload (a ∷ b ∷ rest) (omega arith) i (⊎-elim (λ z. absurd (omega arith)) (λ z. z) h))))
       (omega arith) (omega arith);
-  bytes-missing = λ s room a b rest i j h. stops-with s (a ∷ b ∷ rest) room CutShort (broken (a ∷ b ∷ rest) CutShort (cut mostPayload (a ∷ b ∷ rest) (omega arith) i j (omega arith))) (omega arith) (omega arith);
+  bytes-missing = λ s room a b rest i j h. stops-with s (a ∷ b ∷ rest) room CutShort (broken (a ∷ b ∷ rest) CutShort
+      (cut mostPayload (a ∷ b ∷ rest) (omega arith) i j (omega arith))) (omega arith) (omega arith);
   bad-kind = λ s room n c d rest i j h.
       let l : List ℕ = (2 + n) ∷ 0 ∷ c ∷ d ∷ rest in
-      stops-with s l room NoSuchKind (row-is l n (c + d * 256) (omega arith) refl i (omega arith) ∙ other-kind (c + d * 256) n (getD l 4 0) h) (omega arith) (omega arith);
-  push-none = λ s room rest. let l : List ℕ = 2 ∷ 0 ∷ 1 ∷ 0 ∷ rest in stops-with s l room BadLength (row-is l 0 1 refl refl (omega arith) (omega arith)) (omega arith) (omega arith);
+      stops-with s l room NoSuchKind (row-is l n (c + d * 256) (omega arith) refl i (omega arith) ∙ other-kind (c + d * 256) n (getD l 4 0) h) (omega arith)
+      (omega arith);
+  push-none = λ s room rest. let l : List ℕ = 2 ∷ 0 ∷ 1 ∷ 0 ∷ rest in stops-with s l room BadLength (row-is l 0 1 refl refl (omega arith) (omega arith))
+      (omega arith) (omega arith);
   pop-payload = λ s room n rest i j h.
       let l : List ℕ = (2 + n) ∷ 0 ∷ 2 ∷ 0 ∷ rest in
       stops-with s l room BadLength (row-is l n 2 (omega arith) refl i (omega arith) ∙ not-one n (getD l 4 0) h .0) (omega arith) (omega arith);
   pop-count = λ s room n rest h.
       let l : List ℕ = 3 ∷ 0 ∷ 2 ∷ 0 ∷ n ∷ rest in
-      stops-with s l room BadLength (row-is l 1 2 refl refl (omega arith) (omega arith) ∙ ⊎-elim (λ z. pop-low n z) (λ z. pop-high n z) h) (omega arith) (omega arith);
+      stops-with s l room BadLength (row-is l 1 2 refl refl (omega arith) (omega arith) ∙ ⊎-elim (λ z. pop-low n z) (λ z. pop-high n z) h) (omega arith)
+      (omega arith);
   command-payload = λ s room n rest i j h.
       let l : List ℕ = (2 + n) ∷ 0 ∷ 3 ∷ 0 ∷ rest in
       stops-with s l room BadLength (row-is l n 3 (omega arith) refl i (omega arith) ∙ not-one n (getD l 4 0) h .1) (omega arith) (omega arith);
@@ -114,12 +120,54 @@ fronts = record {
   push-room = λ s room n rest a b j h.
       crowded s ((2 + n) ∷ 0 ∷ 1 ∷ 0 ∷ rest) room (Push n) (record { length-is = omega arith; kind-is = refl; there = omega arith; small = b; carried = a }) h;
   pop-room = λ s room n rest a b h.
-      crowded s (3 ∷ 0 ∷ 2 ∷ 0 ∷ n ∷ rest) room (Pop n) (record { length-is = refl; kind-is = refl; there = omega arith; small = omega arith; carried = (refl, a, b) }) h;
+      crowded s (3 ∷ 0 ∷ 2 ∷ 0 ∷ n ∷ rest) room (Pop n) (record {
+        length-is = refl;
+        kind-is = refl;
+        there = omega arith;
+        small = omega arith;
+        carried = (refl, a, b);
+      }) h;
   command-room = λ s room code rest h.
-      crowded s (3 ∷ 0 ∷ 3 ∷ 0 ∷ code ∷ rest) room (Command code) (record { length-is = refl; kind-is = refl; there = omega arith; small = omega arith; carried = refl }) h;
-  status-room = λ s room rest h. crowded s (2 ∷ 0 ∷ 4 ∷ 0 ∷ rest) room Status (record { length-is = refl; kind-is = refl; there = omega arith; small = omega arith; carried = tt }) h;
-  reset-room = λ s room rest h. crowded s (2 ∷ 0 ∷ 5 ∷ 0 ∷ rest) room Reset (record { length-is = refl; kind-is = refl; there = omega arith; small = omega arith; carried = tt }) h;
-  acknowledge-room = λ s room rest h. crowded s (2 ∷ 0 ∷ 6 ∷ 0 ∷ rest) room Acknowledge (record { length-is = refl; kind-is = refl; there = omega arith; small = omega arith; carried = tt }) h;
-  recall-room = λ s room rest h. crowded s (2 ∷ 0 ∷ 7 ∷ 0 ∷ rest) room Recall (record { length-is = refl; kind-is = refl; there = omega arith; small = omega arith; carried = tt }) h;
-  forget-room = λ s room rest h. crowded s (2 ∷ 0 ∷ 8 ∷ 0 ∷ rest) room Forget (record { length-is = refl; kind-is = refl; there = omega arith; small = omega arith; carried = tt }) h;
+      crowded s (3 ∷ 0 ∷ 3 ∷ 0 ∷ code ∷ rest) room (Command code) (record {
+        length-is = refl;
+        kind-is = refl;
+        there = omega arith;
+        small = omega arith;
+        carried = refl;
+      }) h;
+  status-room = λ s room rest h. crowded s (2 ∷ 0 ∷ 4 ∷ 0 ∷ rest) room Status (record {
+    length-is = refl;
+    kind-is = refl;
+    there = omega arith;
+    small = omega arith;
+    carried = tt;
+  }) h;
+  reset-room = λ s room rest h. crowded s (2 ∷ 0 ∷ 5 ∷ 0 ∷ rest) room Reset (record {
+    length-is = refl;
+    kind-is = refl;
+    there = omega arith;
+    small = omega arith;
+    carried = tt;
+  }) h;
+  acknowledge-room = λ s room rest h. crowded s (2 ∷ 0 ∷ 6 ∷ 0 ∷ rest) room Acknowledge (record {
+    length-is = refl;
+    kind-is = refl;
+    there = omega arith;
+    small = omega arith;
+    carried = tt;
+  }) h;
+  recall-room = λ s room rest h. crowded s (2 ∷ 0 ∷ 7 ∷ 0 ∷ rest) room Recall (record {
+    length-is = refl;
+    kind-is = refl;
+    there = omega arith;
+    small = omega arith;
+    carried = tt;
+  }) h;
+  forget-room = λ s room rest h. crowded s (2 ∷ 0 ∷ 8 ∷ 0 ∷ rest) room Forget (record {
+    length-is = refl;
+    kind-is = refl;
+    there = omega arith;
+    small = omega arith;
+    carried = tt;
+  }) h;
 }

@@ -1,4 +1,5 @@
--- The statements on host floats: what is answered is right for the value, of right answers there is one, and so each number and each word is given exactly where it is due. Assumes nothing.
+-- The statements on host floats: what is answered is right for the value, of right answers there is one, and so each number and each word is given exactly
+-- where it is due. Assumes nothing.
 use mathlib.Core.Path.{_≡_, refl, sym, ap, _∙_, subst}
 use mathlib.Core.Logic.{inl, inr}
 use mathlib.Core.Bool.{true, cond}

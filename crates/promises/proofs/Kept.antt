@@ -1,4 +1,5 @@
--- What a call that is turned away leaves, by the way through its definition; what a bad or cut file leaves, by the runs of its whole records; and what a front of
+-- What a call that is turned away leaves, by the way through its definition; what a bad or cut file leaves, by the runs of its whole records; and what a front
+-- of
 -- a file takes that ends with 0 the longer front takes too, by the append law. Assumes nothing.
 use mathlib.Core.Path.{_≡_, refl, sym, ap, _∙_}
 use mathlib.Core.Logic.{_⊎_}
@@ -47,7 +48,8 @@ use Rattle.state_bytes.proofs.Calling.{bad-state, too-long, good}
 use Rattle.promises.specs.Given.{Given, Chosen, settingsIn, runCall, eventCall}
 use Rattle.promises.specs.StateBytes.{IsState}
 use Rattle.promises.specs.Records.{countAt}
-use Rattle.promises.specs.Kept.{NoReport, NoState, LongInput, GoodStates, StateReturns, EmptyInput, EventKept, OutKept, StateStays, StateStaysEvent, RepliesStay, StopsThere, BadFile, CutCall, CutFile, LastEnd}
+use Rattle.promises.specs.Kept.{NoReport, NoState, LongInput, GoodStates, StateReturns, EmptyInput, EventKept, OutKept, StateStays, StateStaysEvent}
+use Rattle.promises.specs.Kept.{RepliesStay, StopsThere, BadFile, CutCall, CutFile, LastEnd}
 use Rattle.promises.proofs.Measures.{ours-state, theirs-state, no-state-is}
 use Rattle.promises.proofs.Records.{counts-exact}
 use Rattle.promises.proofs.RunCall.{stops-on}
@@ -69,7 +71,8 @@ state-returns on l S = card-returns on l (theirs-state S)
 
 pub empty-input : EmptyInput
 empty-input g C state replies report a b =
-    good (g .mode) (g .rule) state [] replies report a (C .mode) (C .rule) (theirs-state b) (omega arith) ∙ rw (nothing lawful (cardIn (settingsIn g) state) (length replies), state-returns (settingsIn g) state b)
+    good (g .mode) (g .rule) state [] replies report a (C .mode) (C .rule) (theirs-state b) (omega arith)
+    ∙ rw (nothing lawful (cardIn (settingsIn g) state) (length replies), state-returns (settingsIn g) state b)
 
 pub out-kept : OutKept
 unfolding sentOf
@@ -85,13 +88,16 @@ module _ (g : Given) (state input replies report : List ℕ) where
   Away c = (0 < c .result) × (c .state ≡ state) × (c .replies ≡ replies)
 
   pub calls : (P : Called → Type 0) → ((c : Called) → Away c → P c)
-      → (length report ≡ 9 → Chosen g → isState state ≡ true → length input ≤ 12288 → P (ranOf (length state) (runOf (cardIn (settingsIn g) state) input (length replies)) replies))
+      → (length report ≡ 9 → Chosen g → isState state ≡ true → length input ≤ 12288 → P (ranOf (length state) (runOf (cardIn (settingsIn g) state) input
+      (length replies)) replies))
       → P (runCall g state input replies report)
   unfolding callOf
   calls P away ran =
       either-eq P (length report) 9 _ _
-      (λ n. either P (isMode (g .mode)) (λ k. either P (isRule (g .rule)) (λ q. either P (isState state) (λ b. either-lt P 12288 (length input) _ _ (λ d. away _ (omega arith, refl, refl))
-      (λ d. ran n (record { mode = leb-true (g .mode) 1 k; rule = leb-true (g .rule) 1 q }) b d)) (λ b. away _ (omega arith, refl, refl))) (λ q. away _ (omega arith, refl, refl))) (λ k. away _ (omega arith, refl, refl)))
+      (λ n. either P (isMode (g .mode)) (λ k. either P (isRule (g .rule)) (λ q. either P (isState state) (λ b. either-lt P 12288 (length input) _ _
+      (λ d. away _ (omega arith, refl, refl))
+      (λ d. ran n (record { mode = leb-true (g .mode) 1 k; rule = leb-true (g .rule) 1 q }) b d)) (λ b. away _ (omega arith, refl, refl)))
+      (λ q. away _ (omega arith, refl, refl))) (λ k. away _ (omega arith, refl, refl)))
       (λ n. away _ (omega arith, refl, refl))
     where
       either : {x y : Called} (P : Called → Type 0) (b : Bool) → (b ≡ true → P x) → (b ≡ false → P y) → P (cond b x y)
@@ -142,14 +148,16 @@ bad-file g C state input replies report a S d =
     let n = length-take-le (o .taken) input f in
     let exact = le4-exact (o .taken) (omega arith) in
     rw (good (g .mode) (g .rule) state input replies report a (C .mode) (C .rule) b d, exact)
-    (good (g .mode) (g .rule) state (take (o .taken) input) replies report a (C .mode) (C .rule) b (omega arith) ∙ ap (λ (p : Outcome). ranOf (length state) p replies) (up-to-stop lawful s input room))
+    (good (g .mode) (g .rule) state (take (o .taken) input) replies report a (C .mode) (C .rule) b (omega arith)
+    ∙ ap (λ (p : Outcome). ranOf (length state) p replies) (up-to-stop lawful s input room))
 
 -- ---- a file cut after any byte
 
 pub cut-file : CutFile
 cut-file g state input replies report =
     calls g state input replies report
-    (λ c. c .result ≡ 0 → (k : ℕ) → k ≤ length input → (n : ℕ) × CutCall (runCall g state (take k input) replies report) (runCall g state (take n input) replies report) k n)
+    (λ c. c .result ≡ 0 → (k : ℕ) → k ≤ length input → (n : ℕ) × CutCall (runCall g state (take k input) replies report) (runCall g state (take n input) replies
+    report) k n)
     (λ c a z. let y : ⊥ = omega (arith, a .0) in absurd y)
     (λ a C b d z k most.
     let s = cardIn (settingsIn g) state in
@@ -162,7 +170,11 @@ cut-file g state input replies report =
     let ln = length-take-le n input (omega arith) in
     let exact = le4-exact (runOf s (take n input) room .taken) (omega (arith, c .whole-taken)) in (
       n,
-      rw (good (g .mode) (g .rule) state (take k input) replies report a (C .mode) (C .rule) b (omega arith), good (g .mode) (g .rule) state (take n input) replies report a (C .mode) (C .rule) b (omega arith)) record {
+      rw (
+        good (g .mode) (g .rule) state (take k input) replies report a (C .mode) (C .rule) b (omega arith),
+        good (g .mode) (g .rule) state (take n input)
+            replies report a (C .mode) (C .rule) b (omega arith),
+      ) record {
         upto = up;
         whole-done = c .whole-done;
         whole-taken = exact ∙ c .whole-taken;
@@ -194,7 +206,8 @@ pub last-end : LastEnd
 last-end g state input replies report z k n most c m up w =
     let s = cardIn (settingsIn g) state in
     let room = length replies in
-    let is = calls g state input replies report (λ (x : Called). x .result ≡ 0 → (length report ≡ 9) × (isState state ≡ true) × (length input ≤ 12288) × Chosen g)
+    let is = calls g state input replies report (λ (x : Called). x .result ≡ 0 → (length report ≡ 9) × (isState state ≡ true) × (length input ≤ 12288)
+    × Chosen g)
     (λ x a y. let q : ⊥ = omega (arith, a .0) in absurd q) (λ a C b d y. (a, b, d, C)) z in
     let long = is .2 in
     let lk = length-take-le k input most in
@@ -205,7 +218,8 @@ last-end g state input replies report z k n most c m up w =
     count-after (runCall g state (take k input) replies report .report) ∙ ap (λ (l : List ℕ). countAt l 0) (c .counts-are)
     ∙ sym (count-after (runCall g state (take n input) replies report .report)) ∙ c .whole-taken in
     let done : runOf s (take m input) room .refusal ≡ 0 =
-    sym (ap (λ (x : Called). x .result) (good (g .mode) (g .rule) state (take m input) replies report (is .0) (is .3 .mode) (is .3 .rule) (is .1) (omega arith))) ∙ w in
+    sym (ap (λ (x : Called). x .result) (good (g .mode) (g .rule) state (take m input) replies report (is .0) (is .3 .mode) (is .3 .rule) (is .1)
+    (omega arith))) ∙ w in
     let front = takes-more s (take k input) room m (omega arith) (ap (λ (l : List ℕ). runOf s l room .refusal) (take-take m k input up) ∙ done) in
     omega arith
 
@@ -218,7 +232,8 @@ command-byte rule s code =
     picked (λ (a : Answer). a .byte ≡ 0) (busy s) _ _ refl (by-kind (decoded (code % 128)))
   where
     by-kind : (k : Kind) → answerByKind rule s (sr code) k .byte ≡ 0
-    by-kind (Known c) = picked (λ (a : Answer). a .byte ≡ 0) (s .pending) _ _ refl (picked (λ (a : Answer). a .byte ≡ 0) (properOperands c (s .stack)) _ _ refl refl)
+    by-kind (Known c) = picked (λ (a : Answer). a .byte ≡ 0) (s .pending) _ _ refl (picked (λ (a : Answer). a .byte ≡ 0) (properOperands c (s .stack)) _ _ refl
+        refl)
     by-kind Derived = refl
     by-kind Unknown = refl
 
@@ -268,7 +283,8 @@ event-kept g state kind byte bytes = by (isMode (g .mode)) (isRule (g .rule)) (i
     a = answerToKind (cardIn (settingsIn g) state) kind byte
 
     small : a .byte < 256
-    small = event-byte (cardIn (settingsIn g) state) kind byte (byte-at (take 16 state) (bytes-take 16 state bytes) 0) (byte-at state bytes 17) (bits-byte state bytes)
+    small = event-byte (cardIn (settingsIn g) state) kind byte (byte-at (take 16 state) (bytes-take 16 state bytes) 0) (byte-at state bytes 17)
+        (bits-byte state bytes)
 
     by : (k q b : Bool) → 256 ≤ (cond k (cond q (cond b (signalBy state a) (unsent BadState state)) (unsent BadRule state)) (unsent BadMode state)) .result
         → (cond k (cond q (cond b (signalBy state a) (unsent BadState state)) (unsent BadRule state)) (unsent BadMode state)) .state ≡ state
@@ -284,7 +300,8 @@ event-kept g state kind byte bytes = by (isMode (g .mode)) (isRule (g .rule)) (i
 pub state-stays : StateStays
 state-stays g state input replies report h i S =
     let b = theirs-state S in
-    let stays = calls g state input replies report (λ c. (isState (c .state) ≡ true) × (length (c .state) ≡ length state)) (λ c a. (ap isState (a .1) ∙ b, ap length (a .1)))
+    let stays = calls g state input replies report (λ c. (isState (c .state) ≡ true) × (length (c .state) ≡ length state))
+    (λ c a. (ap isState (a .1) ∙ b, ap length (a .1)))
     (λ n C d m.
     let k = runOf (cardIn (settingsIn g) state) input (length replies) .state in
     let r = run-ready (cardIn (settingsIn g) state) input (length replies) (card-ready (settingsIn g) state h b) i in
@@ -313,11 +330,13 @@ unfolding signalOf
 event-stays g state kind byte h i b z =
     let a = answerToKind (cardIn (settingsIn g) state) kind byte in
     let r = event-ready (cardIn (settingsIn g) state) kind byte i (card-ready (settingsIn g) state h b) in
-    rw b (by (isMode (g .mode)) (isRule (g .rule)) _ (either-eq (λ (l : List ℕ). (isState l ≡ true) × (length l ≡ length state)) (numberOf (a .refusal)) 0 (laidOut (length state) (a .card)) state
+    rw b (by (isMode (g .mode)) (isRule (g .rule)) _ (either-eq (λ (l : List ℕ). (isState l ≡ true) × (length l ≡ length state)) (numberOf (a .refusal)) 0
+    (laidOut (length state) (a .card)) state
     (λ y. (laid-state (a .card) r (length state) z, laid-length (a .card) (r .chip .stack .sixteen) (length state) z)) (λ y. (b, refl))))
   where
     by : (x y : Bool) (t : Signal) → (isState (t .state) ≡ true) × (length (t .state) ≡ length state)
-        → (isState (cond x (cond y t (unsent BadRule state)) (unsent BadMode state) .state) ≡ true) × (length (cond x (cond y t (unsent BadRule state)) (unsent BadMode state) .state) ≡ length state)
+        → (isState (cond x (cond y t (unsent BadRule state)) (unsent BadMode state) .state) ≡ true)
+        × (length (cond x (cond y t (unsent BadRule state)) (unsent BadMode state) .state) ≡ length state)
     by true true t q = q
     by true false t q = (b, refl)
     by false y t q = (b, refl)

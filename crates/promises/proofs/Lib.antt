@@ -49,3 +49,4 @@ pub mod ChainFiles
 pub mod RunRows
 pub mod EventRows
 pub mod CallRows
+pub mod DecimalNumbers

@@ -6,8 +6,8 @@ use mathlib.Core.List.{List, [], _∷_, _++_}
 use Prim.Native.Nat.{ℕ, zero, suc, _+_, _*_, _-_, _/_, _%_, _^_, _≤_, _<_}
 use native.Mathlib.Nat.{div-lt-iff-lt-mul, div-add-mod', mod-lt, pow-suc}
 use native.Mathlib.Omega.{arith}
-use borrow.Author.Tests.{ltb-true, ltb-false, lt-ltb}
-use lib.Dec.{ltb, lit<, lit≤}
+use borrow.Author.Tests.{eqb-true, ltb-true, ltb-false, lt-ltb}
+use lib.Dec.{eqb, ltb, lit<, lit≤}
 use lib.ListN.{length, take, drop, getD, replicate, length-replicate}
 use lib.Seq.{take-append-seam}
 use Rattle.terms.specs.Refusal.{numberOf}
@@ -26,10 +26,17 @@ use Rattle.promises.proofs.PrintedText.{decimal-is}
 use Rattle.listing.specs.Listing.{dataText, lineOf, endOf, replyKind, replyRefusal, replySize, replyData, linesUpTo, hasReply, linesOf, listingOf, printedOf}
 use Rattle.little.proofs.Exact.{two-bytes}
 use Rattle.listing.proofs.Listed.{reply-listed, core-kind}
-use Rattle.list_text.specs.Printout.{callFor, printoutOf}
+use Rattle.options.specs.declared.Asked.{Asked}
+use Rattle.options.specs.declared.Asked.the-variants.{Under, Nothing}
+use Rattle.options.specs.Options.{sameText, am9511Text, nearestText, askedOf}
+use Rattle.options.proofs.Texts.{same-is}
+use Rattle.list_text.specs.Printout.{callUnder, printoutUnder, textOf, toldOf}
 use Rattle.promises.proofs.RecordFiles.{theirs-record}
 use Rattle.promises.specs.Records.{joined, EachTaken, repliesOf, total, lengths}
-use Rattle.promises.specs.Listings.{valueOf, Digits, Decimal, hexText, recordLine, linesFor, lastLine, fresh, Listings}
+use Rattle.promises.specs.PrintedText.{written}
+use Rattle.promises.specs.Given.{Given, Chosen}
+use Rattle.promises.specs.Listings.{valueOf, Digits, Decimal, hexText, recordLine, linesFor, lastLine}
+use Rattle.promises.specs.Listings.{Asks, neither, older, nearest, both, fresh, Listings}
 use Rattle.promises.proofs.Records.{record-run}
 use Rattle.little.proofs.Exact.{le4-exact}
 use Rattle.record_runs.proofs.Prefix.{lawful}
@@ -62,14 +69,17 @@ lines-are (r ∷ rs) s room number h =
     let more = joined (repliesOf (o .state) rs (room - length (o .written))) in
     ap (λ (l : List ℕ). linesOf number (l ++ more)) w
     ∙ reply-listed number (kindOf e) n (dataOf s e) more (low e)
-    ∙ ap₂ (λ (x y : List ℕ). x ++ y) (line r (kindOf e) n (dataOf s e) (o .written) (theirs-record one .held .kind-is) w) (lines-are rs (o .state) (room - length (o .written)) (number + 1) (h .2))
+    ∙ ap₂ (λ (x y : List ℕ). x ++ y) (line r (kindOf e) n (dataOf s e) (o .written) (theirs-record one .held .kind-is) w)
+    (lines-are rs (o .state) (room - length (o .written)) (number + 1) (h .2))
   where
-    line : (r : List ℕ) (kind n : ℕ) (bytes reply : List ℕ) → getD r 2 0 + getD r 3 0 * 256 ≡ kind → reply ≡ replyOf kind n bytes → lineOf number kind n bytes ≡ recordLine number r reply
+    line : (r : List ℕ) (kind n : ℕ) (bytes reply : List ℕ) → getD r 2 0 + getD r 3 0 * 256 ≡ kind → reply ≡ replyOf kind n bytes
+        → lineOf number kind n bytes ≡ recordLine number r reply
     line r kind n bytes reply k w =
         ap (λ (t : List ℕ). their-decimal number ++ ((32 ∷ their-decimal kind) ++ ((32 ∷ their-decimal n) ++ (t ++ (10 ∷ []))))) (data-same bytes)
         ∙ ap (λ (t : List ℕ). t ++ ((32 ∷ their-decimal kind) ++ ((32 ∷ their-decimal n) ++ (hexText bytes ++ (10 ∷ []))))) (decimal-is number)
         ∙ ap₂ (λ (t u : List ℕ). decimal number ++ ((32 ∷ t) ++ ((32 ∷ u) ++ (hexText bytes ++ (10 ∷ []))))) (decimal-is kind) (decimal-is n)
-        ∙ ap₂ (λ (x : ℕ) (l : List ℕ). decimal number ++ ((32 ∷ decimal x) ++ ((32 ∷ decimal (getD l 4 0)) ++ (hexText (drop 5 l) ++ (10 ∷ []))))) (sym k) (sym w)
+        ∙ ap₂ (λ (x : ℕ) (l : List ℕ). decimal number ++ ((32 ∷ decimal x) ++ ((32 ∷ decimal (getD l 4 0)) ++ (hexText (drop 5 l) ++ (10 ∷ []))))) (sym k)
+        (sym w)
 
 last-is : (refusal taken : ℕ) → endOf refusal taken ≡ lastLine refusal taken
 last-is refusal taken = ap₂ (λ (t u : List ℕ). 101 ∷ 110 ∷ 100 ∷ ((32 ∷ t) ++ ((32 ∷ u) ++ (10 ∷ [])))) (decimal-is refusal) (decimal-is taken)
@@ -82,26 +92,67 @@ fresh-good : isState (replicate 19 0) ≡ true
 unfolding isState
 fresh-good = refl
 
-module _ (input : List ℕ) where
-  call-is : length input ≤ 12288 → callFor input ≡ ranOf 19 (runOf fresh input 65536) (replicate 65536 0)
-  call-is h =
-      good 0 0 (replicate 19 0) input (replicate 65536 0) (replicate 9 0) refl (lit≤ tt) (lit≤ tt) fresh-good h
-      ∙ ap (λ (n : ℕ). ranOf 19 (runOf fresh input n) (replicate 65536 0)) (length-replicate {A = ℕ} 65536 0)
+module _ (g : Given) (C : Chosen g) (input : List ℕ) where
+  abbrev run : Outcome
+  run = runOf (fresh g) input 65536
 
-  text-is : length input ≤ 12288 → printoutOf input ≡ linesOf 1 (runOf fresh input 65536 .written) ++ endOf (runOf fresh input 65536 .refusal) (runOf fresh input 65536 .taken)
+  call-is : length input ≤ 12288 → callUnder (g .mode) (g .rule) input ≡ ranOf 19 run (replicate 65536 0)
+  call-is h =
+      good (g .mode) (g .rule) (replicate 19 0) input (replicate 65536 0) (replicate 9 0) refl (C .mode) (C .rule) fresh-good h
+      ∙ ap (λ (n : ℕ). ranOf 19 (runOf (fresh g) input n) (replicate 65536 0)) (length-replicate {A = ℕ} 65536 0)
+
+  text-is : length input ≤ 12288 → printoutUnder (g .mode) (g .rule) input ≡ linesOf 1 (run .written) ++ endOf (run .refusal) (run .taken)
   text-is h =
-      let o = runOf fresh input 65536 in
-      let t = tally lawful fresh input 65536 in
+      let t = tally lawful (fresh g) input 65536 in
       let i = t .in-file in
       let f = t .few in
-      let w = o .written in
+      let w = run .written in
       ap (λ (c : Called). printedOf (c .replies) (c .report)) (call-is h)
-      ∙ ap₂ (λ (m n : ℕ). listingOf (take m (w ++ drop (length w) (replicate 65536 0))) (o .refusal) n) (count-back (length w) (omega arith)) (count-back (o .taken) (omega arith))
-      ∙ ap (λ (l : List ℕ). listingOf l (o .refusal) (o .taken)) (take-append-seam w (drop (length w) (replicate 65536 0)))
+      ∙ ap₂ (λ (m n : ℕ). listingOf (take m (w ++ drop (length w) (replicate 65536 0))) (run .refusal) n)
+      (count-back (length w) (omega arith)) (count-back (run .taken) (omega arith))
+      ∙ ap (λ (l : List ℕ). listingOf l (run .refusal) (run .taken)) (take-append-seam w (drop (length w) (replicate 65536 0)))
 
-  long-is : 12288 < length input → printoutOf input ≡ 101 ∷ 110 ∷ 100 ∷ 32 ∷ 57 ∷ 32 ∷ 48 ∷ 10 ∷ []
+  long-is : 12288 < length input → printoutUnder (g .mode) (g .rule) input ≡ written "end 9 0" ++ (10 ∷ [])
   unfolding linesUpTo hasReply their-spelled
-  long-is h = ap (λ (c : Called). printedOf (c .replies) (c .report)) (too-long 0 0 (replicate 19 0) input (replicate 65536 0) (replicate 9 0) refl (lit≤ tt) (lit≤ tt) fresh-good h)
+  long-is h =
+      ap (λ (c : Called). printedOf (c .replies) (c .report))
+      (too-long (g .mode) (g .rule) (replicate 19 0) input (replicate 65536 0) (replicate 9 0) refl (C .mode) (C .rule) fresh-good h)
+
+-- ---- what a call asks for
+chosen : {words : ℕ} {first second : List ℕ} {g : Given} → Asks words first second g → Chosen g
+chosen (neither e) = record { mode = lit≤ tt; rule = lit≤ tt }
+chosen (older e f) = record { mode = lit≤ tt; rule = lit≤ tt }
+chosen (nearest e f) = record { mode = lit≤ tt; rule = lit≤ tt }
+chosen (both e f s) = record { mode = lit≤ tt; rule = lit≤ tt }
+
+asked : {words : ℕ} {first second : List ℕ} {g : Given} → Asks words first second g → askedOf words first second ≡ Under (g .mode) (g .rule)
+unfolding askedOf sameText
+asked (neither e) = rw e
+asked (older e f) = rw (e, f)
+asked (nearest e f) = rw (e, f)
+asked (both e f s) = rw (e, f, s)
+
+told-is : {words : ℕ} {first second : List ℕ} {g : Given} → (input : List ℕ) → Asks words first second g
+    → toldOf words first second input ≡ printoutUnder (g .mode) (g .rule) input
+told-is input A = ap (λ (a : Asked). textOf a input) (asked A)
+
+usage-is : (words : ℕ) (first second : List ℕ) → ((g : Given) → Asks words first second g → ⊥) → askedOf words first second ≡ Nothing
+unfolding askedOf
+usage-is words first second h =
+    by (eqb words 1) refl (eqb words 2) refl (eqb words 3) refl
+    (sameText first am9511Text) refl (sameText first nearestText) refl (sameText second nearestText) refl
+  where
+    by : (a : Bool) → eqb words 1 ≡ a → (b : Bool) → eqb words 2 ≡ b → (c : Bool) → eqb words 3 ≡ c
+        → (p : Bool) → sameText first am9511Text ≡ p → (q : Bool) → sameText first nearestText ≡ q → (r : Bool) → sameText second nearestText ≡ r
+        → cond a (Under 0 0) (cond b (cond p (Under 1 0) (cond q (Under 0 1) Nothing)) (cond c (cond p (cond r (Under 1 1) Nothing) Nothing) Nothing)) ≡ Nothing
+    by true e b f c i p j q k r l = absurd (h _ (neither (eqb-true words 1 e)))
+    by false e true f c i true j q k r l = absurd (h _ (older (eqb-true words 2 f) (same-is first am9511Text j)))
+    by false e true f c i false j true k r l = absurd (h _ (nearest (eqb-true words 2 f) (same-is first nearestText k)))
+    by false e true f c i false j false k r l = refl
+    by false e false f true i true j q k true l = absurd (h _ (both (eqb-true words 3 i) (same-is first am9511Text j) (same-is second nearestText l)))
+    by false e false f true i true j q k false l = refl
+    by false e false f true i false j q k r l = refl
+    by false e false f false i p j q k r l = refl
 
 -- ---- characters
 value-snoc : (n : ℕ) (l : List ℕ) (c : ℕ) → valueOf n (l ++ (c ∷ [])) ≡ valueOf n l * 10 + (c - 48)
@@ -138,9 +189,11 @@ digit-more n l h p =
 spells : (most n : ℕ) → n < 10 ^ most → Decimal n (spelled most n)
 unfolding spelled
 spells zero n h = let e : n < 1 = h in record { value = omega arith; digits = tt; first = λ z. absurd (omega arith) }
-spells (suc most) n h = pick (spells most (n / 10) (div-lt-iff-lt-mul {k = 10} {x = n} {y = 10 ^ most} (lit< tt) .1 (subst (λ (x : ℕ). n < x) (pow-suc 10 most) h))) (ltb n 10) refl
+spells (suc most) n h = pick (spells most (n / 10) (div-lt-iff-lt-mul {k = 10} {x = n} {y = 10 ^ most} (lit< tt) .1 (subst (λ (x : ℕ). n < x) (pow-suc 10 most)
+    h))) (ltb n 10) refl
   where
-    pick : Decimal (n / 10) (spelled most (n / 10)) → (b : Bool) → ltb n 10 ≡ b → Decimal n (cond b (digit n ∷ []) (spelled most (n / 10) ++ (digit (n % 10) ∷ [])))
+    pick : Decimal (n / 10) (spelled most (n / 10)) → (b : Bool)
+        → ltb n 10 ≡ b → Decimal n (cond b (digit n ∷ []) (spelled most (n / 10) ++ (digit (n % 10) ∷ [])))
     pick p true e = one-digit n (ltb-true n 10 e)
     pick p false e = digit-more n (spelled most (n / 10)) (ltb-false n 10 e) p
 
@@ -157,11 +210,14 @@ read-back kind refusal bytes rest h =
 
 pub listings : Listings
 listings = record {
-  printed = λ input h p.
-      text-is input h
-      ∙ ap₂ (λ (l : List ℕ) (n : ℕ). linesOf 1 l ++ endOf (runOf fresh input 65536 .refusal) n) (p .replies) (p .taken)
-      ∙ ap₂ (λ (l m : List ℕ). l ++ m) (lines-are (p .records) fresh 65536 1 (p .each)) (last-is (runOf fresh input 65536 .refusal) (total (lengths (p .records))));
-  long = λ input h. long-is input h;
+  printed = λ words first second input g A h p.
+      let r = runOf (fresh g) input 65536 in
+      told-is input A
+      ∙ text-is g (chosen A) input h
+      ∙ ap₂ (λ (l : List ℕ) (n : ℕ). linesOf 1 l ++ endOf (r .refusal) n) (p .replies) (p .taken)
+      ∙ ap₂ (λ (l m : List ℕ). l ++ m) (lines-are (p .records) (fresh g) 65536 1 (p .each)) (last-is (r .refusal) (total (lengths (p .records))));
+  long = λ words first second input g A h. told-is input A ∙ long-is g (chosen A) input h;
+  usage = λ words first second input h. ap (λ (a : Asked). textOf a input) (usage-is words first second h);
   read-back = λ kind refusal bytes rest h. read-back kind refusal bytes rest h;
   characters = record { decimals = λ n h. spells 20 n h; hex-digits = refl };
 }

@@ -54,7 +54,8 @@ module _ (s : State) (b : busy s ≡ false) (h : length (s .stack) ≡ 16) where
   after-pushes : (p : List ℕ) → length p ≡ 240 → afterPushes s p ≡ held (reverse (drop 224 p)) (s .pending) (s .status) (s .service)
   after-pushes p n =
       pushes-state p s (ready s b)
-      ∙ ap₂ (λ (l : List ℕ) (q : Bool). held l q (s .status) (s .service)) (last-pushed p (s .stack) 224 h n) (ap (λ (k : ℕ). turned k (s .pending)) n ∙ same-pending)
+      ∙ ap₂ (λ (l : List ℕ) (q : Bool). held l q (s .status) (s .service)) (last-pushed p (s .stack) 224 h n) (ap (λ (k : ℕ). turned k (s .pending)) n
+      ∙ same-pending)
 
 -- ---- the statement
 pub long-blocks : LongBlocks
@@ -65,7 +66,8 @@ long-blocks = record {
       ∙ ap₂ (λ (t : State) (k : ℕ). took (cardWith on t m) (4 + k) (3 ∷ 0 ∷ 129 ∷ 0 ∷ 0 ∷ [])) (after-pushes s b h p n) n;
   pop-240 = λ on s m room b h i.
       pop-alone on s m 240 room b (lit≤ tt) (lit≤ tt) i
-      ∙ ap₂ (λ (t : State) (l : List ℕ). took (cardWith on t m) 5 (243 ∷ 0 ∷ 130 ∷ 0 ∷ 0 ∷ l)) (after-pops s b h) (pops-bytes 240 s (ready s b) ∙ rounds 15 (s .stack) h .0);
+      ∙ ap₂ (λ (t : State) (l : List ℕ). took (cardWith on t m) 5 (243 ∷ 0 ∷ 130 ∷ 0 ∷ 0 ∷ l)) (after-pops s b h) (pops-bytes 240 s (ready s b)
+      ∙ rounds 15 (s .stack) h .0);
   in-turn = in-turn;
   round = λ s n i b h l. ap (λ (k : List ℕ). getD k i 0) (pops-bytes n s (ready s b)) ∙ byte-round n i (s .stack) h l;
 }

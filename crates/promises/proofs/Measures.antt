@@ -1,4 +1,5 @@
--- The book's measures are those of the crates: where a definition of the book is a record of its own, or the crate's does not unfold by itself, each is made of the
+-- The book's measures are those of the crates: where a definition of the book is a record of its own, or the crate's does not unfold by itself, each is made of
+-- the
 -- other here, `ours-*` the book's and `theirs-*` the crate's; every other one computes to the crate's by itself. Assumes nothing.
 use mathlib.Core.Path.{_≡_, refl, ap}
 use mathlib.Core.Logic.{inl, inr, ⊎-elim}
@@ -251,7 +252,14 @@ theirs-memory bits code h =
 pub ours-state : {l : List ℕ} → isState l ≡ true → IsState l
 ours-state {l} h =
     let g = state-stands l h in
-    record { size = g .size; pending = g .chip .pending; ready = g .chip .ready; service = g .chip .service; memory = λ n. ours-memory (getD l 19 0) (getD l 20 0) (g .memory n) }
+    record {
+      size = g .size;
+      pending = g .chip .pending;
+      ready = g .chip .ready;
+      service = g .chip .service;
+      memory = λ n. ours-memory (getD l 19 0)
+          (getD l 20 0) (g .memory n);
+    }
 
 pub theirs-state : {l : List ℕ} → IsState l → isState l ≡ true
 theirs-state {l} h = stands-state l (record {

@@ -53,7 +53,8 @@ use Rattle.promises.proofs.RunCall.{after-joined, stops-on}
 pub no-such-mode : NoMode
 no-such-mode = record {
   run = λ g state input replies report k n. bad-mode (g .mode) (g .rule) state input replies report n k;
-  event = λ g state kind byte k. let s = no-mode (g .mode) (g .rule) state kind byte k 16 4096 refl refl in λ i. record { result = sym (s .result-is) i; state = sym (s .state-is) i };
+  event = λ g state kind byte k. let s = no-mode (g .mode) (g .rule) state kind byte k 16 4096 refl refl
+      in λ i. record { result = sym (s .result-is) i; state = sym (s .state-is) i };
 }
 
 -- ---- the older reset
@@ -70,16 +71,19 @@ seven P a b c d e f g (suc (suc (suc (suc (suc (suc (suc n))))))) h = absurd (le
 
 -- of a stack realigned: as it lay, and after a byte pushed or popped
 below : (s : List ℕ) → length s ≡ 16 → (i : ℕ) → i < 7 → wordOf i (keptStack true s) ≡ tos 2 (drop (1 + 2 * i) s)
-below s h = spelled (λ (l : List ℕ). (i : ℕ) → i < 7 → wordOf i (keptStack true l) ≡ tos 2 (drop (1 + 2 * i) l)) s h (seven _ refl refl refl refl refl refl refl)
+below s h = spelled (λ (l : List ℕ). (i : ℕ) → i < 7 → wordOf i (keptStack true l) ≡ tos 2 (drop (1 + 2 * i) l)) s h (seven _ refl refl refl refl refl refl
+    refl)
 
 last : (s : List ℕ) → length s ≡ 16 → wordOf 7 (keptStack true s) ≡ 0
 last s h = spelled (λ (l : List ℕ). wordOf 7 (keptStack true l) ≡ 0) s h refl
 
 under-push : (s : List ℕ) (b : ℕ) → length s ≡ 16 → (i : ℕ) → i < 7 → wordOf i (keptStack true (pushed s b)) ≡ wordOf i s
-under-push s b h = spelled (λ (l : List ℕ). (i : ℕ) → i < 7 → wordOf i (keptStack true (pushed l b)) ≡ wordOf i l) s h (seven _ refl refl refl refl refl refl refl)
+under-push s b h = spelled (λ (l : List ℕ). (i : ℕ) → i < 7 → wordOf i (keptStack true (pushed l b)) ≡ wordOf i l) s h (seven _ refl refl refl refl refl refl
+    refl)
 
 under-pop : (s : List ℕ) → length s ≡ 16 → (i : ℕ) → i < 7 → wordOf i (keptStack true (popped s)) ≡ wordOf (suc i) s
-under-pop s h = spelled (λ (l : List ℕ). (i : ℕ) → i < 7 → wordOf i (keptStack true (popped l)) ≡ wordOf (suc i) l) s h (seven _ refl refl refl refl refl refl refl)
+under-pop s h = spelled (λ (l : List ℕ). (i : ℕ) → i < 7 → wordOf i (keptStack true (popped l)) ≡ wordOf (suc i) l) s h (seven _ refl refl refl refl refl refl
+    refl)
 
 module _ (on : Settings) (m : on .mode ≡ Am9511) where
   left : (s : State) → busy s ≡ false → (afterEvents on s (ResetEvent ∷ [])) .stack ≡ keptStack (s .pending) (s .stack)
@@ -89,7 +93,8 @@ module _ (on : Settings) (m : on .mode ≡ Am9511) where
   left-as s p h e = left s h ∙ ap (λ (x : Bool). keptStack x (s .stack)) e
 
   -- a byte moved before it
-  left-after : (s : State) (stack : List ℕ) → busy s ≡ false → s .pending ≡ false → (afterEvents on (moved s stack) (ResetEvent ∷ [])) .stack ≡ keptStack true stack
+  left-after : (s : State) (stack : List ℕ) → busy s ≡ false → s .pending ≡ false → (afterEvents on (moved s stack) (ResetEvent ∷ [])) .stack ≡ keptStack true
+      stack
   left-after s stack h e = left-as (moved s stack) true h (ap not e)
 
   older : OlderReset on
@@ -127,7 +132,8 @@ module _ (by : Settings) where
   told c r (Push n) q z = refl
   told c r (Pop n) q z = refl
   told c r (Command code) q z =
-      ap (λ (x : Rule). let a = answerWith by (c .memory) (CommandEvent code) (commandUnder x (c .chip) code) in took (a .card) 5 (replyOf 3 (numberOf (a .refusal)) [])) (sym q)
+      ap (λ (x : Rule). let a = answerWith by (c .memory) (CommandEvent code) (commandUnder x (c .chip) code)
+      in took (a .card) 5 (replyOf 3 (numberOf (a .refusal)) [])) (sym q)
   told c r Status q z = refl
   told c r Reset q z = absurd (z refl)
   told c r Acknowledge q z = refl
@@ -162,9 +168,11 @@ module _ (by : Settings) where
   same-settings c p Recall = settings-stay c RecallEvent
   same-settings c p Forget = settings-stay c ForgetEvent
 
-  same-rule : (c : Card) (r : List ℕ) (room : ℕ) (one : IsRecord r) → c .on .rule ≡ by .rule → runOf c r room .refusal ≡ 0 → runOf c r room .state .on .rule ≡ by .rule
+  same-rule : (c : Card) (r : List ℕ) (room : ℕ) (one : IsRecord r) → c .on .rule ≡ by .rule → runOf c r room .refusal ≡ 0 → runOf c r room .state .on .rule
+      ≡ by .rule
   same-rule c r room one q t =
-      ap (λ (o : Outcome). o .state .on .rule) (record-run c r room one t) ∙ ap (λ (x : Settings). x .rule) (same-settings c (drop 4 r) (theirs-record one .event)) ∙ q
+      ap (λ (o : Outcome). o .state .on .rule) (record-run c r room one t) ∙ ap (λ (x : Settings). x .rule)
+      (same-settings c (drop 4 r) (theirs-record one .event)) ∙ q
 
   -- the room that records in turn leave
   abbrev roomAfter : Card → List (List ℕ) → ℕ → ℕ
@@ -185,12 +193,14 @@ module _ (by : Settings) where
       let e = one-told c r room (t .0) q (z .0) (t .1) in (
         t .0,
         ap (λ (p : Outcome). p .refusal) e ∙ t .1,
-        subst (λ (p : Outcome). EachTaken (p .state) rs (room - length (p .written))) (sym e) (each-told (o .state) rs (room - length (o .written)) (same-rule c r room (t .0) q (t .1)) (z .1) (t .2)),
+        subst (λ (p : Outcome). EachTaken (p .state) rs (room - length (p .written))) (sym e) (each-told (o .state) rs (room - length (o .written))
+            (same-rule c r room (t .0) q (t .1)) (z .1) (t .2)),
       )
 
   -- records in turn, and a rest that goes alike on every card
   turns : (c : Card) (rs : List (List ℕ)) (rest : List ℕ) (room : ℕ) → c .on .rule ≡ by .rule → NoReset rs → EachTaken c rs room
-      → ((k : Card) → runOf (over k) rest (roomAfter c rs room) ≡ retold (runOf k rest (roomAfter c rs room))) → inTurn (over c) rs rest room ≡ retold (inTurn c rs rest room)
+      → ((k : Card) → runOf (over k) rest (roomAfter c rs room) ≡ retold (runOf k rest (roomAfter c rs room)))
+      → inTurn (over c) rs rest room ≡ retold (inTurn c rs rest room)
   turns c [] rest room q z t f = f c
   turns c (r ∷ rs) rest room q z t f =
       let o = runOf c r room in
@@ -202,18 +212,23 @@ module _ (by : Settings) where
       → runOf (over k) (split .rest) (roomAfter c (split .records) room) ≡ retold (runOf k (split .rest) (roomAfter c (split .records) room))
   rest-told c l room split k =
       let o = runOf c l room in
-      let n : roomAfter c (split .records) room ≡ room - length (o .written) = room-left c (split .records) room ∙ ap (λ (w : List ℕ). room - length w) (sym (split .replies)) in
-      either-eq (λ (x : ℕ). runOf (over k) (split .rest) (roomAfter c (split .records) room) ≡ retold (runOf k (split .rest) (roomAfter c (split .records) room))) (o .refusal) 0 0 0
+      let n : roomAfter c (split .records) room ≡ room - length (o .written) = room-left c (split .records) room ∙ ap (λ (w : List ℕ). room - length w)
+      (sym (split .replies)) in
+      either-eq (λ (x : ℕ). runOf (over k) (split .rest) (roomAfter c (split .records) room) ≡ retold (runOf k (split .rest) (roomAfter c (split .records)
+      room))) (o .refusal) 0 0 0
       (λ e.
-      subst (λ (r : List ℕ). runOf (over k) r (roomAfter c (split .records) room) ≡ retold (runOf k r (roomAfter c (split .records) room))) (sym (split .complete e))
+      subst (λ (r : List ℕ). runOf (over k) r (roomAfter c (split .records) room) ≡ retold (runOf k r (roomAfter c (split .records) room)))
+      (sym (split .complete e))
       (nothing lawful (over k) (roomAfter c (split .records) room) ∙ sym (ap retold (nothing lawful k (roomAfter c (split .records) room)))))
       (λ e.
-      let r : drop (o .taken) l ≡ split .rest = ap₂ (λ (i : ℕ) (x : List ℕ). drop i x) (split .taken) (split .parts) ∙ after-joined (split .records) (split .rest) in
+      let r : drop (o .taken) l ≡ split .rest = ap₂ (λ (i : ℕ) (x : List ℕ). drop i x) (split .taken) (split .parts) ∙ after-joined (split .records)
+      (split .rest) in
       let there : (d : Card) → runOf d (split .rest) (roomAfter c (split .records) room) ≡ record { refusal = o .refusal; state = d; taken = 0; written = [] } =
       λ d. ap₂ (λ (x : List ℕ) (i : ℕ). runOf d x i) (sym r) n ∙ stops-on c l room e d in
       there (over k) ∙ sym (ap retold (there k)))
 
-  run-told : (c : Card) (l : List ℕ) (room : ℕ) → c .on .rule ≡ by .rule → (split : Split c l room (runOf c l room)) → NoReset (split .records) → runOf (over c) l room ≡ retold (runOf c l room)
+  run-told : (c : Card) (l : List ℕ) (room : ℕ) → c .on .rule ≡ by .rule → (split : Split c l room (runOf c l room)) → NoReset (split .records)
+      → runOf (over c) l room ≡ retold (runOf c l room)
   run-told c l room q split z =
       let rs = split .records in
       let rest = split .rest in
@@ -234,7 +249,8 @@ module _ (by : Settings) where
   event-told c kind byte q z =
       either-eq T kind 1 _ _ (λ e. record { is = refl }) (λ a.
       either-eq T kind 2 _ _ (λ e. record { is = refl }) (λ b.
-      either-eq T kind 3 _ _ (λ e. record { is = ap (λ (x : Rule). answerWith by (c .memory) (CommandEvent byte) (commandUnder x (c .chip) byte)) (sym q) }) (λ d.
+      either-eq T kind 3 _ _ (λ e. record { is = ap (λ (x : Rule). answerWith by (c .memory) (CommandEvent byte) (commandUnder x (c .chip) byte)) (sym q) })
+      (λ d.
       either-eq T kind 4 _ _ (λ e. record { is = refl }) (λ f.
       either-eq T kind 5 _ _ (λ e. absurd (z e)) (λ g.
       either-eq T kind 6 _ _ (λ e. record { is = refl }) (λ h.
@@ -249,18 +265,21 @@ module _ (g h : Given) (C : Chosen g) (D : Chosen h) (same : g .rule ≡ h .rule
   rules : settingsIn g .rule ≡ settingsIn h .rule
   rules = ap ruleOf same
 
-  calls-alike : (state input replies report : List ℕ) (split : Split (cardIn (settingsIn g) state) input (length replies) (runOf (cardIn (settingsIn g) state) input (length replies)))
+  calls-alike : (state input replies report : List ℕ) (split : Split (cardIn (settingsIn g) state) input (length replies) (runOf (cardIn (settingsIn g) state)
+      input (length replies)))
       → NoReset (split .records) → runCall g state input replies report ≡ runCall h state input replies report
   calls-alike state input replies report split z =
       let e = run-told (settingsIn h) (cardIn (settingsIn g) state) input (length replies) rules split z in
       run-chosen (g .mode) (g .rule) state input replies report (C .mode) (C .rule)
-      ∙ ap (λ (o : Outcome). cond (eqb (length report) 9) (cond (isState state) (cond (ltb 12288 (length input)) (away InputTooLong state replies) (ranOf (length state) o replies)) (away BadState state replies)) (record { result = 14; state = state; replies = replies; report = report })) (sym e)
+      ∙ ap (λ (o : Outcome). cond (eqb (length report) 9) (cond (isState state) (cond (ltb 12288 (length input)) (away InputTooLong state replies)
+      (ranOf (length state) o replies)) (away BadState state replies)) (record { result = 14; state = state; replies = replies; report = report })) (sym e)
       ∙ sym (run-chosen (h .mode) (h .rule) state input replies report (D .mode) (D .rule))
 
   events-alike : (state : List ℕ) (kind byte : ℕ) → (kind ≡ 5 → ⊥) → eventCall g state kind byte ≡ eventCall h state kind byte
   events-alike state kind byte z =
       event-chosen (g .mode) (g .rule) state kind byte (C .mode) (C .rule)
-      ∙ ap (λ (a : CardAnswer). cond (isState state) (signalBy state a) (unsent BadState state)) (sym (event-told (settingsIn h) (cardIn (settingsIn g) state) kind byte rules z .is))
+      ∙ ap (λ (a : CardAnswer). cond (isState state) (signalBy state a) (unsent BadState state)) (sym (event-told (settingsIn h) (cardIn (settingsIn g) state)
+      kind byte rules z .is))
       ∙ sym (event-chosen (h .mode) (h .rule) state kind byte (D .mode) (D .rule))
 
 pub modes-differ-at-reset-alone : ModesAlike

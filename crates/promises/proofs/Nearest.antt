@@ -15,7 +15,8 @@ use Rattle.promises.specs.Stack.{bytesOf, zeros}
 use Rattle.promises.specs.BusEvents.{resetState, piWord}
 use Rattle.promises.specs.Nearest.{ByRule, NearestResults}
 use Rattle.promises.proofs.Measures.{theirs-word, ours-word, theirs-pair, ours-pair, theirs-near-pair, theirs-root, ours-exactly-root}
-use Rattle.promises.proofs.Exact.{sum-exact, difference-exact, product-exact, quotient-exact, fltd-exact, flts-brought, sum-kept, difference-kept, product-kept, quotient-kept}
+use Rattle.promises.proofs.Exact.{sum-exact, difference-exact, product-exact, quotient-exact, fltd-exact, flts-brought, sum-kept, difference-kept}
+use Rattle.promises.proofs.Exact.{product-kept, quotient-kept}
 
 by-rule : (rule : Rule) → ByRule rule
 by-rule rule = record {

@@ -72,7 +72,8 @@ module _ (s : Card) (r : List ℕ) (room : ℕ) (one : IsRecord r) (w : WithinOl
   abbrev event : Event
   event = theirs-record one .event
 
-  turn-is : turnUnder 16 s r room ≡ cond (ltb room (5 + answeredOf event)) (stopped NoRoom s) (worked s event (answerOf s (take (payloadOf event) (drop 4 r)) event))
+  turn-is : turnUnder 16 s r room ≡ cond (ltb room (5 + answeredOf event)) (stopped NoRoom s) (worked s event (answerOf s (take (payloadOf event) (drop 4 r))
+      event))
   unfolding turnUnder
   turn-is = rw (head-is {most = 16} r event (held one w))
 
@@ -91,7 +92,14 @@ module _ (s : Card) (r : List ℕ) (room : ℕ) (one : IsRecord r) (w : WithinOl
           let o = alone (lawful-under 16 (lit≤ tt)) s r room some (ap (λ (u : Turned). u .refusal) t) in
           let n : turnUnder 16 s r room .size ≡ length r = ap (λ (u : Turned). u .size) t ∙ sym (theirs-record one .size) in
           let all : take (turnUnder 16 s r room .size) r ≡ r = ap (λ (k : ℕ). take k r) n ∙ take-all (length r) r (omega arith) in
-          omega (arith, sym (ap (λ (l : List ℕ). runUnder 16 s l room .refusal) all) ∙ sym (ap (λ (x : Outcome). x .refusal) (sym o)) ∙ refl, ap (λ (l : List ℕ). runUnder 16 s l room .refusal) all, ap (λ (x : Outcome). x .refusal) o, z)
+          omega (
+            arith,
+            sym (ap (λ (l : List ℕ). runUnder 16 s l room .refusal) all) ∙ sym (ap (λ (x : Outcome). x .refusal) (sym o))
+                ∙ refl,
+            ap (λ (l : List ℕ). runUnder 16 s l room .refusal) all,
+            ap (λ (x : Outcome). x .refusal) o,
+            z,
+          )
 
   old-record : runUnder 16 s r room ≡ runUnder 240 s r room
   old-record = sym (same-run 16 240 (lit≤ tt) (lit≤ tt) s r room no-seven)
@@ -117,5 +125,6 @@ old-limits = record {
   same = same-run 16 240 (lit≤ tt) (lit≤ tt);
   up-to = same-up-to 16 240 (lit≤ tt) (lit≤ tt);
   call = λ g C state input replies report a b d no.
-      good (g .mode) (g .rule) state input replies report a (C .mode) (C .rule) (theirs-state b) d ∙ ap (λ (o : Outcome). ranOf (length state) o replies) (same-run 16 240 (lit≤ tt) (lit≤ tt) (cardIn (settingsIn g) state) input (length replies) no);
+      good (g .mode) (g .rule) state input replies report a (C .mode) (C .rule) (theirs-state b) d ∙ ap (λ (o : Outcome). ranOf (length state) o replies)
+      (same-run 16 240 (lit≤ tt) (lit≤ tt) (cardIn (settingsIn g) state) input (length replies) no);
 }

@@ -62,10 +62,16 @@ older-keeps : (l : List ℕ) (u : ℕ) (v : Bool) → u < 128 → Answers (reset
 unfolding resetOf
 older-keeps l u v h = rw (lt-leb 128 u h) (record { number = refl; byte-read = refl; state = refl })
 
-older-realigns : (b : ℕ) (l : List ℕ) (u : ℕ) (v : Bool) → length l ≡ 15 → u < 128 → Answers (resetOf Am9511 (stateWith (b ∷ l) true u v)) 0 0 (take 14 l ++ (0 ∷ 0 ∷ [])) false 0 false
+older-realigns : (b : ℕ) (l : List ℕ) (u : ℕ) (v : Bool) → length l ≡ 15 → u < 128 → Answers (resetOf Am9511 (stateWith (b ∷ l) true u v)) 0 0 (take 14 l
+    ++ (0 ∷ 0 ∷ [])) false 0 false
 unfolding resetOf
 older-realigns b l u v n h =
-    rw (lt-leb 128 u h) (record { number = refl; byte-read = refl; state = ap (λ (k : List ℕ). stateWith (k ++ (0 ∷ 0 ∷ [])) false 0 false) (take-append-le 14 l (b ∷ []) (omega arith)) })
+    rw (lt-leb 128 u h) (record {
+      number = refl;
+      byte-read = refl;
+      state = ap (λ (k : List ℕ). stateWith (k ++ (0 ∷ 0 ∷ [])) false 0 false)
+          (take-append-le 14 l (b ∷ []) (omega arith));
+    })
 
 -- a reset of either part leaves nothing pending
 unpending : (mode : Mode) (s : State) → s .status < 128 → (resetOf mode s) .state .pending ≡ false
@@ -96,24 +102,28 @@ command-flag rule s code S =
 -- and a good state good
 command-good : (rule : Rule) (s : State) (code : ℕ) → Ready s → Ready ((commandUnder rule s code) .state)
 command-good rule s code r =
-    ⊎-elim (λ d. let l = leaves rule s code (r .stack) d in record { stack = l .stack; ready = l .not-busy }) (λ e. subst (λ (a : Answer). Ready (a .state)) (sym e) r) (command-keeps rule s code)
+    ⊎-elim (λ d. let l = leaves rule s code (r .stack) d in record { stack = l .stack; ready = l .not-busy }) (λ e. subst (λ (a : Answer). Ready (a .state))
+    (sym e) r) (command-keeps rule s code)
 
 module _ (on : Settings) where
   parity : (es : List Event) (s : State) (n : ℕ) → Ready s → Sendable (onBus es) → Odd (s .pending) n → Odd ((afterEvents on s es) .pending) (movedSince n es)
   parity [] s n r S o = o
   parity (Push b ∷ es) s n r S o =
       let a = pushes (s .stack) (s .pending) (s .status) (s .service) (r .ready) b in
-      parity es ((pushOf s b) .state) (suc n) (push-fair s r b (S .0) .left) (S .1) (subst (λ (p : Bool). Odd p (suc n)) (sym (flag-of a)) (turned (s .pending) n o))
+      parity es ((pushOf s b) .state) (suc n) (push-fair s r b (S .0) .left) (S .1) (subst (λ (p : Bool). Odd p (suc n)) (sym (flag-of a))
+      (turned (s .pending) n o))
   parity (Pop ∷ es) s n r S o =
       parity es ((popOf s) .state) (suc n) (pop-fair s r .left) (S .1)
       (subst (λ (p : Bool). Odd p (suc n)) (sym (ap (λ (a : Answer). a .state .pending) (pop-done s (r .ready)))) (turned (s .pending) n o))
   parity (Command code ∷ es) s n r S o =
-      parity es ((commandUnder (on .rule) s code) .state) n (command-good (on .rule) s code r) (S .1) (subst (λ (p : Bool). Odd p n) (sym (command-flag (on .rule) s code (r .stack))) o)
+      parity es ((commandUnder (on .rule) s code) .state) n (command-good (on .rule) s code r) (S .1) (subst (λ (p : Bool). Odd p n)
+      (sym (command-flag (on .rule) s code (r .stack))) o)
   parity (Status ∷ es) s n r S o =
       let a = reads (s .stack) (s .pending) (s .status) (s .service) (r .ready) in
       parity es ((readOf s) .state) n (read-fair s r .left) (S .1) (subst (λ (p : Bool). Odd p n) (sym (flag-of a)) o)
   parity (Reset ∷ es) s n r S o =
-      parity es ((resetOf (on .mode) s) .state) 0 (reset-fair s r (on .mode) .left) (S .1) (subst (λ (p : Bool). Odd p 0) (sym (unpending (on .mode) s (r .ready))) none)
+      parity es ((resetOf (on .mode) s) .state) 0 (reset-fair s r (on .mode) .left) (S .1) (subst (λ (p : Bool). Odd p 0)
+      (sym (unpending (on .mode) s (r .ready))) none)
   parity (Acknowledge ∷ es) s n r S o =
       let a = acknowledges (s .stack) (s .pending) (s .status) (s .service) (r .ready) in
       parity es ((acknowledgeOf s) .state) n (acknowledge-fair s r .left) (S .1) (subst (λ (p : Bool). Odd p n) (sym (flag-of a)) o)
@@ -131,7 +141,8 @@ bus on = record {
   pop-leaves = λ b l p u v h. pops l p u v h b;
   reset-leaves = λ m l p u v h. subst (λ (x : Mode). Answers (resetOf x (stateWith l p u v)) 0 0 (zeros 16) false 0 false) (sym m) (resets l p u v h);
   older-reset-keeps = λ m l u v h. subst (λ (x : Mode). Answers (resetOf x (stateWith l false u v)) 0 0 l false 0 false) (sym m) (older-keeps l u v h);
-  older-reset-realigns = λ m b l u v n h. subst (λ (x : Mode). Answers (resetOf x (stateWith (b ∷ l) true u v)) 0 0 (take 14 l ++ (0 ∷ 0 ∷ [])) false 0 false) (sym m) (older-realigns b l u v n h);
+  older-reset-realigns = λ m b l u v n h. subst (λ (x : Mode). Answers (resetOf x (stateWith (b ∷ l) true u v)) 0 0 (take 14 l ++ (0 ∷ 0 ∷ [])) false 0 false)
+      (sym m) (older-realigns b l u v n h);
   acknowledge-leaves = λ l p u v h. acknowledges l p u v h;
   read-leaves = λ l p u v h. reads l p u v h;
   busy-answers = λ e l p u v h. busies on e l p u v h;

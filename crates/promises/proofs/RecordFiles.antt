@@ -68,7 +68,8 @@ fifth (a ∷ b ∷ c ∷ []) = refl
 fifth (a ∷ b ∷ c ∷ d ∷ l) = refl
 
 -- four bytes by their two numbers
-spelled : (r : List ℕ) (n k : ℕ) (rest : List ℕ) → 4 ≤ length r → n ≤ 255 → k ≤ 255 → getD r 0 0 + getD r 1 0 * 256 ≡ n → getD r 2 0 + getD r 3 0 * 256 ≡ k → drop 4 r ≡ rest
+spelled : (r : List ℕ) (n k : ℕ) (rest : List ℕ) → 4 ≤ length r → n ≤ 255 → k ≤ 255 → getD r 0 0 + getD r 1 0 * 256 ≡ n → getD r 2 0 + getD r 3 0 * 256 ≡ k
+    → drop 4 r ≡ rest
     → r ≡ n ∷ 0 ∷ k ∷ 0 ∷ rest
 spelled r n k rest h N K a b c =
     let x : getD r 0 0 ≡ n = omega arith in
@@ -85,16 +86,24 @@ ours-record {r} W = by (W .event) (W .held) (W .size)
         let m : length (drop 4 r) ≡ n = length-drop 4 r ∙ omega (arith, s) in
         let small = h .small in
         push (drop 4 r) (omega (arith, h .carried, m)) (omega (arith, m, small))
-        (spelled r (2 + n) 1 (drop 4 r) (omega (arith, s)) (omega (arith, small)) (lit≤ tt) (h .length-is) (h .kind-is) refl ∙ ap (λ (k : ℕ). (2 + k) ∷ 0 ∷ 1 ∷ 0 ∷ drop 4 r) (sym m))
+        (spelled r (2 + n) 1 (drop 4 r) (omega (arith, s)) (omega (arith, small)) (lit≤ tt) (h .length-is) (h .kind-is) refl
+        ∙ ap (λ (k : ℕ). (2 + k) ∷ 0 ∷ 1 ∷ 0 ∷ drop 4 r) (sym m))
     by (Pop n) h s =
         let m : length (drop 4 r) ≡ 1 = length-drop 4 r ∙ omega (arith, s) in
         let c = h .carried in
-        pop n (c .1) (c .2) (spelled r 3 2 (n ∷ []) (omega (arith, s)) (lit≤ tt) (lit≤ tt) (h .length-is) (h .kind-is) (one-byte (drop 4 r) m ∙ ap (λ (k : ℕ). k ∷ []) (fifth r ∙ sym (c .0))))
+        pop n (c .1) (c .2) (spelled r 3 2 (n ∷ []) (omega (arith, s)) (lit≤ tt) (lit≤ tt) (h .length-is) (h .kind-is) (one-byte (drop 4 r) m
+        ∙ ap (λ (k : ℕ). k ∷ []) (fifth r ∙ sym (c .0))))
     by (Command code) h s =
         let m : length (drop 4 r) ≡ 1 = length-drop 4 r ∙ omega (arith, s) in
-        command code (spelled r 3 3 (code ∷ []) (omega (arith, s)) (lit≤ tt) (lit≤ tt) (h .length-is) (h .kind-is) (one-byte (drop 4 r) m ∙ ap (λ (k : ℕ). k ∷ []) (fifth r ∙ sym (h .carried))))
-    by Status h s = status (spelled r 2 4 [] (omega (arith, s)) (lit≤ tt) (lit≤ tt) (h .length-is) (h .kind-is) (none (drop 4 r) (length-drop 4 r ∙ omega (arith, s))))
-    by Reset h s = reset (spelled r 2 5 [] (omega (arith, s)) (lit≤ tt) (lit≤ tt) (h .length-is) (h .kind-is) (none (drop 4 r) (length-drop 4 r ∙ omega (arith, s))))
-    by Acknowledge h s = acknowledge (spelled r 2 6 [] (omega (arith, s)) (lit≤ tt) (lit≤ tt) (h .length-is) (h .kind-is) (none (drop 4 r) (length-drop 4 r ∙ omega (arith, s))))
-    by Recall h s = recall (spelled r 2 7 [] (omega (arith, s)) (lit≤ tt) (lit≤ tt) (h .length-is) (h .kind-is) (none (drop 4 r) (length-drop 4 r ∙ omega (arith, s))))
-    by Forget h s = forget (spelled r 2 8 [] (omega (arith, s)) (lit≤ tt) (lit≤ tt) (h .length-is) (h .kind-is) (none (drop 4 r) (length-drop 4 r ∙ omega (arith, s))))
+        command code (spelled r 3 3 (code ∷ []) (omega (arith, s)) (lit≤ tt) (lit≤ tt) (h .length-is) (h .kind-is) (one-byte (drop 4 r) m
+        ∙ ap (λ (k : ℕ). k ∷ []) (fifth r ∙ sym (h .carried))))
+    by Status h s = status (spelled r 2 4 [] (omega (arith, s)) (lit≤ tt) (lit≤ tt) (h .length-is) (h .kind-is) (none (drop 4 r) (length-drop 4 r
+        ∙ omega (arith, s))))
+    by Reset h s = reset (spelled r 2 5 [] (omega (arith, s)) (lit≤ tt) (lit≤ tt) (h .length-is) (h .kind-is) (none (drop 4 r) (length-drop 4 r
+        ∙ omega (arith, s))))
+    by Acknowledge h s = acknowledge (spelled r 2 6 [] (omega (arith, s)) (lit≤ tt) (lit≤ tt) (h .length-is) (h .kind-is) (none (drop 4 r) (length-drop 4 r
+        ∙ omega (arith, s))))
+    by Recall h s = recall (spelled r 2 7 [] (omega (arith, s)) (lit≤ tt) (lit≤ tt) (h .length-is) (h .kind-is) (none (drop 4 r) (length-drop 4 r
+        ∙ omega (arith, s))))
+    by Forget h s = forget (spelled r 2 8 [] (omega (arith, s)) (lit≤ tt) (lit≤ tt) (h .length-is) (h .kind-is) (none (drop 4 r) (length-drop 4 r
+        ∙ omega (arith, s))))

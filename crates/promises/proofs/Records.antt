@@ -25,7 +25,8 @@ use Rattle.terms.specs.Limits.{mostPayload}
 use Rattle.record_runs.proofs.Heads.{heads}
 use Rattle.record_runs.proofs.Steps.{steps}
 use Rattle.record_runs.proofs.Prefix.{holds-too, within, lawful}
-use Rattle.record_runs.proofs.Single.{one-turn, no-turn, stopped-by, push-alone, pop-alone, command-alone, status-alone, reset-alone, acknowledge-alone, recall-alone, forget-alone}
+use Rattle.record_runs.proofs.Single.{one-turn, no-turn, stopped-by, push-alone, pop-alone, command-alone, status-alone, reset-alone, acknowledge-alone}
+use Rattle.record_runs.proofs.Single.{recall-alone, forget-alone}
 use Rattle.record_runs.proofs.Ready.{event-fair, run-ready}
 use Rattle.state_bytes.specs.Bytes.{cardIn}
 use Rattle.state_bytes.proofs.Calling.{good}
@@ -33,7 +34,8 @@ use Rattle.promises.specs.Given.{settingsIn}
 use Rattle.promises.proofs.Measures.{theirs-stack, theirs-memory, theirs-state}
 use Rattle.promises.specs.RecordFiles.{IsRecord}
 use Rattle.promises.proofs.RecordFiles.{Whole as Record, theirs-record, data-is, ours-record}
-use Rattle.promises.specs.Records.{joined, EachTaken, repliesOf, InTurn, EachSmall, InReply, Split, Counted, CountsExact, PushRecord, PopRecord, CommandRecord, StatusRecord, ResetRecord, AcknowledgeRecord, RecallRecord, ForgetRecord, NoRoomRecord, BadHead}
+use Rattle.promises.specs.Records.{joined, EachTaken, repliesOf, InTurn, EachSmall, InReply, Split, Counted, CountsExact, PushRecord, PopRecord}
+use Rattle.promises.specs.Records.{CommandRecord, StatusRecord, ResetRecord, AcknowledgeRecord, RecallRecord, ForgetRecord, NoRoomRecord, BadHead}
 
 -- ---- records in turn
 
@@ -114,7 +116,11 @@ counts-exact g C state input replies report a S d =
     let t = tally lawful (cardIn (settingsIn g) state) input (length replies) in
     let i = t .in-file in
     let f = t .few in
-    rw (good (g .mode) (g .rule) state input replies report a (C .mode) (C .rule) b d) (le4-exact (o .taken) (omega arith), le4-exact (length (o .written)) (omega arith))
+    rw (good (g .mode) (g .rule) state input replies report a (C .mode) (C .rule) b d) (
+      le4-exact (o .taken) (omega arith),
+      le4-exact (length (o .written))
+          (omega arith),
+    )
 
 -- ---- one whole record
 
@@ -170,11 +176,13 @@ recorded s r e =
     took (answerOf s (drop 4 r) e .card) (4 + payloadOf e) (replyOf (kindOf e) (numberOf (answerOf s (drop 4 r) e .refusal)) (dataOf s e))
 
 -- a record that one card takes every card takes, since the room alone decides
-pub record-runs : (s t : Card) (r : List ℕ) (room : ℕ) (one : IsRecord r) → runOf s r room .refusal ≡ 0 → runOf t r room ≡ recorded t r (theirs-record one .event)
+pub record-runs : (s t : Card) (r : List ℕ) (room : ℕ) (one : IsRecord r) → runOf s r room .refusal ≡ 0 → runOf t r room ≡ recorded t r
+    (theirs-record one .event)
 record-runs s t r room one z =
     either-lt (λ (n : ℕ). runOf t r room ≡ recorded t r (theirs-record one .event)) room (5 + answeredOf (theirs-record one .event)) 0 0
     (λ g.
-    let y : 8 ≡ 0 = sym (ap (λ (o : Outcome). o .refusal) (no-turn s r room (theirs-record one .event) (theirs-record one .held) (theirs-record one .size) g)) ∙ z in
+    let y : 8 ≡ 0 = sym (ap (λ (o : Outcome). o .refusal) (no-turn s r room (theirs-record one .event) (theirs-record one .held) (theirs-record one .size) g))
+    ∙ z in
     let x : ⊥ = omega arith in
     absurd x)
     (λ g. one-turn t r room (theirs-record one .event) (theirs-record one .held) (theirs-record one .size) g)
@@ -191,8 +199,11 @@ each-small s [] room a h e = tt
 each-small s (r ∷ rs) room a h e =
     let b = bytes-parts r (joined rs) h in
     let one = e .0 in
-    let f = event-fair s (drop 4 r) (theirs-record one .event) a (bytes-drop 4 r (b .0)) in
-    (rw (record-run s r room one (e .1)) (f .small), each-small (runOf s r room .state) rs (room - length (runOf s r room .written)) (run-ready s r room a (b .0)) (b .1) (e .2))
+    let f = event-fair s (drop 4 r) (theirs-record one .event) a (bytes-drop 4 r (b .0)) in (
+      rw (record-run s r room one (e .1)) (f .small),
+      each-small (runOf s r room .state) rs (room - length (runOf s r room .written))
+          (run-ready s r room a (b .0)) (b .1) (e .2),
+    )
 
 pub in-reply : InReply
 in-reply s rs room a h e =

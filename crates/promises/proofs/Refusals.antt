@@ -38,11 +38,13 @@ module _ (on : Settings) (s : State) where
     unfolding commandUnder carried
     when-half code k e p = rw (ready, e, p) (record { number = refl; byte = refl; state = refl })
 
-    when-improper : (code : ℕ) (k : Command) → decoded (code % 128) ≡ Known k → s .pending ≡ false → properOperands k (s .stack) ≡ false → TurnedAway s (commandUnder (on .rule) s code) 4
+    when-improper : (code : ℕ) (k : Command) → decoded (code % 128) ≡ Known k → s .pending ≡ false → properOperands k (s .stack) ≡ false → TurnedAway s
+        (commandUnder (on .rule) s code) 4
     unfolding commandUnder carried
     when-improper code k e p o = rw (ready, e, p, o) (record { number = refl; byte = refl; state = refl })
 
-    when-fair : (code : ℕ) (k : Command) → decoded (code % 128) ≡ Known k → s .pending ≡ false → properOperands k (s .stack) ≡ true → numberOf ((commandUnder (on .rule) s code) .refusal) ≡ 0
+    when-fair : (code : ℕ) (k : Command) → decoded (code % 128) ≡ Known k → s .pending ≡ false → properOperands k (s .stack) ≡ true
+        → numberOf ((commandUnder (on .rule) s code) .refusal) ≡ 0
     unfolding commandUnder carried
     when-fair code k e p o = rw (ready, e, p, o)
 

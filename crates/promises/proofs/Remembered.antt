@@ -10,7 +10,8 @@ use Rattle.error_memory.proofs.History.{memory-is-history as memory-is-told}
 use Rattle.promises.specs.Subjects.{Answer, ChipEvent, Push, Pop, Command, Status, Reset, Acknowledge, answerTo}
 use Rattle.promises.specs.Subjects.{Memory, Card, Event, Chip, Recall, Forget, eventIn}
 use Rattle.promises.specs.BusEvents.{busy}
-use Rattle.promises.specs.Remembered.{emptyMemory, errorsOf, accepted, Told, History, joinedBits, firstOf, memoryOf, from, told, chipTells, tells, historyOf, afterAll}
+use Rattle.promises.specs.Remembered.{emptyMemory, errorsOf, accepted, Told, History, joinedBits, firstOf, memoryOf, from, told, chipTells, tells}
+use Rattle.promises.specs.Remembered.{historyOf, afterAll}
 
 -- a command that was told, and a history, as the book has them
 abbrev ours-told : theirs.Told → Told
@@ -29,7 +30,8 @@ first-same (t ∷ ts) = ap (λ (n : ℕ). cond (eqb (errorsOf (t .status)) 0) n 
 
 memory-same : (h : theirs.History) → theirs.memoryOf h ≡ memoryOf (ours h)
 memory-same h =
-    ap₂ (λ (b f : ℕ). record { bits = b; code = cond (eqb (h .start .code) 0) f (h .start .code) }) (joined-same (h .start .bits) (h .since)) (first-same (h .since))
+    ap₂ (λ (b f : ℕ). record { bits = b; code = cond (eqb (h .start .code) 0) f (h .start .code) }) (joined-same (h .start .bits) (h .since))
+    (first-same (h .since))
 
 -- one more
 map-more : (ts us : List theirs.Told) → map ours-told (ts ++ us) ≡ map ours-told ts ++ map ours-told us

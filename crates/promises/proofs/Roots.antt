@@ -42,9 +42,11 @@ module _ (rule : Rule) where
       → roots (three a b c ds) (sqrt rule (wordA Double (three a b c ds))) ≡ ends Double (three ((sqrt rule a) .word) b c (zeros 4)) 0 false
   unfolding roots
   rooted a b c A s ds =
-      ap (roots (three a b c ds)) (found a (word Double b (word Double c ds)) (A .fits) (clean ((sqrt rule a) .word)) (no-error (sqrt rule a) (root-no-error rule a (A .is-proper) s)))
+      ap (roots (three a b c ds)) (found a (word Double b (word Double c ds)) (A .fits) (clean ((sqrt rule a) .word))
+      (no-error (sqrt rule a) (root-no-error rule a (A .is-proper) s)))
 
-  stays : (a : ℕ) → FloatWord a → negative a ≡ true → (bs : List ℕ) → roots (word Double a bs) (sqrt rule (wordA Double (word Double a bs))) ≡ ends Double (word Double a bs) 4 false
+  stays : (a : ℕ) → FloatWord a → negative a ≡ true → (bs : List ℕ) → roots (word Double a bs) (sqrt rule (wordA Double (word Double a bs))) ≡ ends Double
+      (word Double a bs) 4 false
   unfolding roots
   stays a A s bs = ap (roots (word Double a bs)) (found a bs (A .fits) (record { word = a; error = 4 }) (sym (root-negative rule a s)))
 

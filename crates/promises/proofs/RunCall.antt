@@ -53,7 +53,8 @@ run-call g C c set state input replies report B I H f n d =
     let is : cardIn (settingsIn g) state ≡ c = ap (λ (on : Settings). cardIn on state) (sym set) ∙ stands-read state c h f in
     let r = run-ready c input (length replies) (subst ReadyCard is (card-ready (settingsIn g) state B h)) I in
     let e : runCall g state input replies report ≡ ranOf (length state) o replies =
-    good (g .mode) (g .rule) state input replies report n (C .mode) (C .rule) h d ∙ ap (λ (x : Card). ranOf (length state) (runOf x input (length replies)) replies) is in
+    good (g .mode) (g .rule) state input replies report n (C .mode) (C .rule) h d ∙ ap (λ (x : Card). ranOf (length state) (runOf x input (length replies))
+    replies) is in
     subst (λ (x : Called). Reports (length state) x o replies) (sym e) (record {
       result = refl;
       state = laid-so (length state) (o .state) (r .chip .stack .sixteen);
@@ -64,13 +65,15 @@ run-call g C c set state input replies report B I H f n d =
 -- every way but 14
 pub reports-result : ReportsResult
 unfolding callOf
-reports-result g state input replies report n = rw (eq-eqb (length report) 9 n) (by (isMode (g .mode)) (isRule (g .rule)) (isState state) (ltb 12288 (length input)))
+reports-result g state input replies report n = rw (eq-eqb (length report) 9 n) (by (isMode (g .mode)) (isRule (g .rule)) (isState state)
+    (ltb 12288 (length input)))
   where
     Says : Called → Type 0
     Says c = getD (c .report) 0 0 ≡ c .result
 
     by : (k q x y : Bool)
-        → Says (cond k (cond q (cond x (cond y (away InputTooLong state replies) (ranOf (length state) (runOf (cardIn (settingsIn g) state) input (length replies)) replies)) (away BadState state replies)) (away BadRule state replies)) (away BadMode state replies))
+        → Says (cond k (cond q (cond x (cond y (away InputTooLong state replies) (ranOf (length state) (runOf (cardIn (settingsIn g) state) input
+        (length replies)) replies)) (away BadState state replies)) (away BadRule state replies)) (away BadMode state replies))
     by true true true true = refl
     by true true true false = refl
     by true true false y = refl
@@ -81,14 +84,17 @@ reports-result g state input replies report n = rw (eq-eqb (length report) 9 n) 
 pub after-joined : (rs : List (List ℕ)) (rest : List ℕ) → drop (total (lengths rs)) (joined rs ++ rest) ≡ rest
 after-joined [] rest = refl
 after-joined (r ∷ rs) rest =
-    ap (drop (length r + total (lengths rs))) (append-assoc r (joined rs) rest) ∙ drop-append-add r (joined rs ++ rest) (total (lengths rs)) ∙ after-joined rs rest
+    ap (drop (length r + total (lengths rs))) (append-assoc r (joined rs) rest) ∙ drop-append-add r (joined rs ++ rest) (total (lengths rs))
+    ∙ after-joined rs rest
 
 -- what stops a record stops it whatever stands on the card
 other-card : (c d : Card) (l : List ℕ) (room : ℕ) (h : Head) → (turnBy c l room h .refusal ≡ 0 → ⊥) → turnBy d l room h ≡ idle (turnBy c l room h .refusal) d
 other-card c d l room (Stop r) z = refl
-other-card c d l room (Whole e) z = by (worked c e (answerOf c (take (payloadOf e) (drop 4 l)) e)) (worked d e (answerOf d (take (payloadOf e) (drop 4 l)) e)) (ltb room (5 + answeredOf e)) refl z
+other-card c d l room (Whole e) z = by (worked c e (answerOf c (take (payloadOf e) (drop 4 l)) e)) (worked d e (answerOf d (take (payloadOf e) (drop 4 l)) e))
+    (ltb room (5 + answeredOf e)) refl z
   where
-    by : (p q : Turned Card) (x : Bool) → p .refusal ≡ 0 → (cond {A = Turned Card} x (stopped NoRoom c) p .refusal ≡ 0 → ⊥) → cond x (stopped NoRoom d) q ≡ idle (cond x (stopped NoRoom c) p .refusal) d
+    by : (p q : Turned Card) (x : Bool) → p .refusal ≡ 0 → (cond {A = Turned Card} x (stopped NoRoom c) p .refusal ≡ 0 → ⊥) → cond x (stopped NoRoom d)
+        q ≡ idle (cond x (stopped NoRoom c) p .refusal) d
     by p q true w y = refl
     by p q false w y = absurd (y w)
 
@@ -121,7 +127,8 @@ module _ (s : Card) (l : List ℕ) (room : ℕ) (z : runOf s l room .refusal ≡
   pub stops-on : (d : Card) → runOf d left room-left ≡ ended (runOf s l room .refusal) d
   stops-on d =
       let q : turnOf (runOf s l room .state) left room-left .refusal ≡ runOf s l room .refusal = stops-there lawful s l room z in
-      let t : turnOf d left room-left ≡ idle (runOf s l room .refusal) d = stops-too (runOf s l room .state) d left room-left (λ y. z (sym q ∙ y)) ∙ ap (λ (r : ℕ). idle r d) q in
+      let t : turnOf d left room-left ≡ idle (runOf s l room .refusal) d = stops-too (runOf s l room .state) d left room-left (λ y. z (sym q ∙ y))
+      ∙ ap (λ (r : ℕ). idle r d) q in
       first-stops lawful d left room-left (idle (runOf s l room .refusal) d) t some-left z
 
 pub stops-again : StopsAgain
@@ -140,9 +147,16 @@ stops-again g C state input replies report B I H n d z =
     let stand = laid-state (o .state) G (length state) size in
     let k = cardIn (settingsIn g) bytes in
     let room = drop (length (o .written)) replies in
-    let again : runCall g bytes (drop (o .taken) input) room report ≡ record { result = o .refusal; state = bytes; replies = room; report = o .refusal ∷ 0 ∷ 0 ∷ 0 ∷ 0 ∷ 0 ∷ 0 ∷ 0 ∷ 0 ∷ [] } =
+    let again : runCall g bytes (drop (o .taken) input) room report ≡ record {
+      result = o .refusal;
+      state = bytes;
+      replies = room;
+      report = o .refusal
+          ∷ 0 ∷ 0 ∷ 0 ∷ 0 ∷ 0 ∷ 0 ∷ 0 ∷ 0 ∷ [];
+    } =
     good (g .mode) (g .rule) bytes (drop (o .taken) input) room report n (C .mode) (C .rule) stand (omega arith)
     ∙ ap (λ (x : ℕ). ranOf (length bytes) (runOf k (drop (o .taken) input) x) room) (length-drop (length (o .written)) replies)
     ∙ ap (λ (p : Outcome). ranOf (length bytes) p room) (stops-on s input (length replies) y k)
-    ∙ ap (λ (l : List ℕ). record { result = o .refusal; state = l; replies = room; report = o .refusal ∷ 0 ∷ 0 ∷ 0 ∷ 0 ∷ 0 ∷ 0 ∷ 0 ∷ 0 ∷ [] }) (card-returns (settingsIn g) bytes stand) in
+    ∙ ap (λ (l : List ℕ). record { result = o .refusal; state = l; replies = room; report = o .refusal ∷ 0 ∷ 0 ∷ 0 ∷ 0 ∷ 0 ∷ 0 ∷ 0 ∷ 0 ∷ [] })
+    (card-returns (settingsIn g) bytes stand) in
     rw (c .0, c .1, e) (r .0, r .1, again)

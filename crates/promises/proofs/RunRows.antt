@@ -28,7 +28,8 @@ use Rattle.promises.proofs.Rules.{no-such-rule}
 use Rattle.promises.specs.RunRows.{RunRow, runTable, full, tooLong, Long13, RunRows}
 
 rows : map (λ (r : RunRow). callOf (r .mode) (r .rule) (r .state) (r .input) (r .replies) (r .report)) runTable ≡ map (λ (r : RunRow). r .after) runTable
-unfolding callOf isState run runBy frameUnder turnUnder pushOf popOf readOf resetOf acknowledgeOf carried commandUnder decoded statusOf keepsA losesA changesA floats converts widens narrows roots xadd xsub xmul xmuu xdiv xchs add sub mul div fltd flts fix chsf sqrt size
+unfolding callOf isState run runBy frameUnder turnUnder pushOf popOf readOf resetOf acknowledgeOf carried commandUnder decoded statusOf keepsA losesA changesA
+    floats converts widens narrows roots xadd xsub xmul xmuu xdiv xchs add sub mul div fltd flts fix chsf sqrt size
 rows = refl
 
 -- a state is one, whatever the input

@@ -79,20 +79,26 @@ module _ (rule : Rule) (w : Width) (b a : ℕ) (l : (b < 2 ^ bitsOf w) × (a < 2
   W = words-of {op = Mul w} (least w) b a refl refl l
 
   mul-does : Two rule w (MulCommand w) b a (mul (least w) b a .word) (mul (least w) b a .error) false 0
-  mul-does cs = accepted rule (MulCommand w) (word w a (word w b cs)) w _ _ _ _ refl (mul-word (least w) b a W) (loses w (mul (least w)) b a _ _ _ cs (in-words w (l .0)) (in-words w (l .1)) refl)
+  mul-does cs = accepted rule (MulCommand w) (word w a (word w b cs)) w _ _ _ _ refl (mul-word (least w) b a W) (loses w (mul (least w)) b a _ _ _ cs
+      (in-words w (l .0)) (in-words w (l .1)) refl)
 
   muu-does : Two rule w (MuuCommand w) b a (muu (least w) b a .word) (muu (least w) b a .error) false 0
-  muu-does cs = accepted rule (MuuCommand w) (word w a (word w b cs)) w _ _ _ _ refl (muu-word (least w) b a W) (loses w (muu (least w)) b a _ _ _ cs (in-words w (l .0)) (in-words w (l .1)) refl)
+  muu-does cs = accepted rule (MuuCommand w) (word w a (word w b cs)) w _ _ _ _ refl (muu-word (least w) b a W) (loses w (muu (least w)) b a _ _ _ cs
+      (in-words w (l .0)) (in-words w (l .1)) refl)
 
   div-does : Two rule w (DivCommand w) b a (div (least w) b a .word) (div (least w) b a .error) false 0
-  div-does cs = accepted rule (DivCommand w) (word w a (word w b cs)) w _ _ _ _ refl (div-word (least w) b a W) (loses w (div (least w)) b a _ _ _ cs (in-words w (l .0)) (in-words w (l .1)) refl)
+  div-does cs = accepted rule (DivCommand w) (word w a (word w b cs)) w _ _ _ _ refl (div-word (least w) b a W) (loses w (div (least w)) b a _ _ _ cs
+      (in-words w (l .0)) (in-words w (l .1)) refl)
 
 -- a float operation whose row and refusal the chip has
-float-does : (rule : Rule) (op : Operation) (b a steps : ℕ) (r : Flagged) → (proper b ≡ true → proper a ≡ true → Does rule op b a (Word (r .word) (r .error) steps)) → ((proper b ≡ false) ⊎ (proper a ≡ false) → Does rule op b a (Refused Improper))
+float-does : (rule : Rule) (op : Operation) (b a steps : ℕ) (r : Flagged)
+    → (proper b ≡ true → proper a ≡ true → Does rule op b a (Word (r .word) (r .error) steps)) → ((proper b ≡ false) ⊎ (proper a ≡ false) → Does rule op b a
+    (Refused Improper))
     → Does rule op b a (floatAnswer b a steps r)
 float-does rule op b a steps r f g = go (proper b) (proper a) f g
   where
-    go : (s t : Bool) → (s ≡ true → t ≡ true → Does rule op b a (Word (r .word) (r .error) steps)) → ((s ≡ false) ⊎ (t ≡ false) → Does rule op b a (Refused Improper))
+    go : (s t : Bool) → (s ≡ true → t ≡ true → Does rule op b a (Word (r .word) (r .error) steps))
+        → ((s ≡ false) ⊎ (t ≡ false) → Does rule op b a (Refused Improper))
         → Does rule op b a (cond (s && t) (Word (r .word) (r .error) steps) (Refused Improper))
     go true true f g = f refl refl
     go true false f g = g (inr refl)
@@ -106,9 +112,11 @@ first-does (Mul w) rule b a steps l = mul-does rule w b a l
 first-does (Muu w) rule b a steps l = muu-does rule w b a l
 first-does (Div w) rule b a steps l = div-does rule w b a l
 first-does Fmul rule b a steps l =
-    float-does rule Fmul b a steps _ (λ p q. rows rule .float-point .fmul-row b a (float-word (l .0) p) (float-word (l .1) q)) (λ e. rows rule .float-point .improper FMul b a (l .0) (l .1) e)
+    float-does rule Fmul b a steps _ (λ p q. rows rule .float-point .fmul-row b a (float-word (l .0) p) (float-word (l .1) q)) (λ e. rows rule .float-point
+    .improper FMul b a (l .0) (l .1) e)
 first-does Fdiv rule b a steps l =
-    float-does rule Fdiv b a steps _ (λ p q. rows rule .float-point .fdiv-row b a (float-word (l .0) p) (float-word (l .1) q)) (λ e. rows rule .float-point .improper FDiv b a (l .0) (l .1) e)
+    float-does rule Fdiv b a steps _ (λ p q. rows rule .float-point .fdiv-row b a (float-word (l .0) p) (float-word (l .1) q)) (λ e. rows rule .float-point
+    .improper FDiv b a (l .0) (l .1) e)
 
 -- ---- their numbers
 zero-or-four : (t : Bool) (r error steps : ℕ) → ZeroOrFour (cond t (Word r error steps) (Refused Improper))
@@ -164,12 +172,14 @@ work = record {
 coded : (code : ℕ) (op : Operation) → operationAt code ≡ Named op → decoded code ≡ Known (commandFor op)
 unfolding operationAt decoded
 coded code op =
-    step 0x6E (Mul Single) refl (step 0x76 (Muu Single) refl (step 0x6F (Div Single) refl (step 0x2E (Mul Double) refl (step 0x36 (Muu Double) refl (step 0x2F (Div Double) refl (step 0x12 Fmul refl (step 0x13 Fdiv refl none)))))))
+    step 0x6E (Mul Single) refl (step 0x76 (Muu Single) refl (step 0x6F (Div Single) refl (step 0x2E (Mul Double) refl (step 0x36 (Muu Double) refl
+    (step 0x2F (Div Double) refl (step 0x12 Fmul refl (step 0x13 Fdiv refl none)))))))
   where
     none : Unnamed ≡ Named op → decoded code ≡ Known (commandFor op)
     none e = let z : _≡_ {A = ℕ} 0 1 = (cc) in absurd (omega arith)
 
-    step : (c : ℕ) (k : Operation) {rest : Found} → decoded c ≡ Known (commandFor k) → (rest ≡ Named op → decoded code ≡ Known (commandFor op)) → cond (eqb code c) (Named k) rest ≡ Named op → decoded code ≡ Known (commandFor op)
+    step : (c : ℕ) (k : Operation) {rest : Found} → decoded c ≡ Known (commandFor k) → (rest ≡ Named op → decoded code ≡ Known (commandFor op))
+        → cond (eqb code c) (Named k) rest ≡ Named op → decoded code ≡ Known (commandFor op)
     step c k {rest} d f = go (eqb code c) (eqb-true code c)
       where
         go : (t : Bool) → (t ≡ true → code ≡ c) → cond t (Named k) rest ≡ Named op → decoded code ≡ Known (commandFor op)
@@ -194,8 +204,11 @@ status-is w r error = same-bits (cond (leb (least w) r) 64 0) (cond (eqb r 0) 32
 
 answer-is : (w : Width) (r : Answer) → answerLine w r ≡ book.answerLine w r
 answer-is w (Word r error n) =
-    ap (λ (t : List ℕ). written "word " ++ (t ++ (written " error" ++ ((32 ∷ their-decimal error) ++ (written " status " ++ (their-hex 2 (statusFor w r error) ++ (10 ∷ []))))))) (hex-is (2 * sizeOf w) r)
-    ∙ ap₂ (λ (t u : List ℕ). written "word " ++ (hexOf (2 * sizeOf w) r ++ (written " error" ++ ((32 ∷ t) ++ (written " status " ++ (u ++ (10 ∷ []))))))) (decimal-is error)
+    ap (λ (t : List ℕ). written "word " ++ (t ++ (written " error"
+    ++ ((32 ∷ their-decimal error) ++ (written " status " ++ (their-hex 2 (statusFor w r error) ++ (10 ∷ [])))))))
+    (hex-is (2 * sizeOf w) r)
+    ∙ ap₂ (λ (t u : List ℕ). written "word " ++ (hexOf (2 * sizeOf w) r ++ (written " error" ++ ((32 ∷ t) ++ (written " status " ++ (u ++ (10 ∷ [])))))))
+    (decimal-is error)
     (hex-is 2 (statusFor w r error) ∙ ap (hexOf 2) (status-is w r error))
 answer-is w (Refused refusal) = ap (λ (t : List ℕ). written "refused" ++ ((32 ∷ t) ++ (10 ∷ []))) (decimal-is (numberOf refusal))
 
@@ -212,7 +225,8 @@ unfolding operationAt
 eight = refl
 
 pub steps-text : StepsText
-unfolding size low packed errorAt cutSize cut their-spelled their-hex addedUpTo subtractedUpTo mulAnswer muuAnswer divAnswer fmulAnswer fdivAnswer mulTask divTask fmulTask fdivTask productLines quotientLines digitValue readFrom readHex operationAt sameText ruleFor
+unfolding size low packed errorAt cutSize cut their-spelled their-hex addedUpTo subtractedUpTo mulAnswer muuAnswer divAnswer fmulAnswer fdivAnswer mulTask
+    divTask fmulTask fdivTask productLines quotientLines digitValue readFrom readHex operationAt sameText ruleFor
 steps-text = record {
   codes = eight;
   chips = coded;

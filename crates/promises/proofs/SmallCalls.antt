@@ -42,7 +42,8 @@ use Rattle.promises.proofs.Kept.{good-states}
 bad-state : (on : Settings) (state : List ℕ) (kind byte : ℕ) → isState state ≡ false → signalUnder on state kind byte ≡ signalled 3328 state
 bad-state on state kind byte h = rw h
 
-bad-kind : (on : Settings) (state : List ℕ) (kind byte : ℕ) → isState state ≡ true → (kind ≡ 0) ⊎ (8 < kind) → signalUnder on state kind byte ≡ signalled 1280 state
+bad-kind : (on : Settings) (state : List ℕ) (kind byte : ℕ) → isState state ≡ true → (kind ≡ 0) ⊎ (8 < kind) → signalUnder on state kind byte ≡ signalled 1280
+    state
 bad-kind on state kind byte g h =
     rw (
       g,
@@ -74,7 +75,8 @@ same-byte c byte other kind a b =
 byte-ignored : (g : Given) (state : List ℕ) (kind byte other : ℕ) → (kind ≡ 1 → ⊥) → (kind ≡ 3 → ⊥) → eventCall g state kind byte ≡ eventCall g state kind other
 unfolding signalOf
 byte-ignored g state kind byte other a b =
-    ap (λ (x : CardAnswer). cond (isMode (g .mode)) (cond (isRule (g .rule)) (cond (isState state) (signalBy state x) (unsent BadState state)) (unsent BadRule state)) (unsent BadMode state))
+    ap (λ (x : CardAnswer). cond (isMode (g .mode)) (cond (isRule (g .rule)) (cond (isState state) (signalBy state x) (unsent BadState state))
+    (unsent BadRule state)) (unsent BadMode state))
     (same-byte (cardIn (settingsOf (g .mode) (g .rule)) state) byte other kind a b)
 
 -- ---- done
@@ -159,14 +161,16 @@ module _ (l : List ℕ) (p u v : ℕ) (t : List ℕ) (P : Parts l p u v t) where
       by (b ∷ k ∷ []) (two bits code h) = refl
 
   -- an event that is done
-  signals : (on : Settings) (kind byte b : ℕ) (s : State) (m : Memory) {after : List ℕ} → answerToKind (cardWith on (stood l p u v) (behindIs t)) kind byte ≡ record { refusal = Done; byte = b; card = cardWith on s m }
+  signals : (on : Settings) (kind byte b : ℕ) (s : State) (m : Memory) {after : List ℕ} → answerToKind (cardWith on (stood l p u v) (behindIs t)) kind
+      byte ≡ record { refusal = Done; byte = b; card = cardWith on s m }
       → cond (eqb (length (laid l p u v t)) 19) [] (m .bits ∷ m .code ∷ []) ≡ after
       → signalUnder on (laid l p u v t) kind byte ≡ signalled b (s .stack ++ (flagOf (s .pending) ∷ s .status ∷ flagOf (s .service) ∷ after))
   signals on kind byte b s m e a =
       ap (λ (x : Bool). cond x (signalBy state (answerToKind (cardIn on state) kind byte)) (signalled 3328 state)) stands
       ∙ ap (λ (c : Card). signalBy state (answerToKind c kind byte)) (reads on)
       ∙ ap (signalBy state) e
-      ∙ ap₂ signalled same (laid-is (length (laid l p u v t)) (cardWith on s m) ∙ ap (λ (k : List ℕ). s .stack ++ (flagOf (s .pending) ∷ s .status ∷ flagOf (s .service) ∷ k)) a)
+      ∙ ap₂ signalled same (laid-is (length (laid l p u v t)) (cardWith on s m) ∙ ap (λ (k : List ℕ). s .stack
+      ++ (flagOf (s .pending) ∷ s .status ∷ flagOf (s .service) ∷ k)) a)
     where
       state : List ℕ
       state = laid l p u v t
@@ -193,10 +197,20 @@ module _ (l : List ℕ) (p u v : ℕ) (t : List ℕ) (P : Parts l p u v t) where
   unfolding acknowledgeOf
   acknowledges = rw ready
 
-  recalls : (on : Settings) → answerToKind (cardWith on (stood l p u v) (behindIs t)) 7 0 ≡ record { refusal = Done; byte = getD t 0 0; card = cardWith on (stood l p u v) (behindIs t) }
+  recalls : (on : Settings) → answerToKind (cardWith on (stood l p u v) (behindIs t)) 7 0 ≡ record {
+    refusal = Done;
+    byte = getD t 0 0;
+    card = cardWith on
+        (stood l p u v) (behindIs t);
+  }
   recalls on = rw ready
 
-  forgets : (on : Settings) → answerToKind (cardWith on (stood l p u v) (behindIs t)) 8 0 ≡ record { refusal = Done; byte = 0; card = cardWith on (stood l p u v) emptyMemory }
+  forgets : (on : Settings) → answerToKind (cardWith on (stood l p u v) (behindIs t)) 8 0 ≡ record {
+    refusal = Done;
+    byte = 0;
+    card = cardWith on
+        (stood l p u v) emptyMemory;
+  }
   forgets on = rw ready
 
   -- the bytes behind a stack whose flag pending is turned, and as it was
@@ -206,7 +220,12 @@ module _ (l : List ℕ) (p u v : ℕ) (t : List ℕ) (P : Parts l p u v t) where
   back : (k w : List ℕ) → k ++ (flagOf (eqb p 1) ∷ u ∷ flagOf (eqb v 1) ∷ w) ≡ laid k p u v w
   back k w = ap₂ (λ (x y : ℕ). k ++ (x ∷ u ∷ y ∷ w)) (flag-back p (P .pending)) (flag-back v (P .service))
 
-pops : (b : ℕ) (l : List ℕ) (p u v : ℕ) → u < 128 → popOf (stood (b ∷ l) p u v) ≡ done b (record { stack = l ++ (b ∷ []); pending = not (eqb p 1); status = u; service = eqb v 1 })
+pops : (b : ℕ) (l : List ℕ) (p u v : ℕ) → u < 128 → popOf (stood (b ∷ l) p u v) ≡ done b (record {
+  stack = l ++ (b ∷ []);
+  pending = not (eqb p 1);
+  status = u;
+  service = eqb v 1;
+})
 unfolding popOf
 pops b l p u v h = rw (lt-leb 128 u h)
 
@@ -214,9 +233,11 @@ pops b l p u v h = rw (lt-leb 128 u h)
 reset-signals : (mode : Mode) (rule : Rule) (byte : ℕ) (l : List ℕ) (p u v : ℕ) (t : List ℕ) → Parts l p u v t
     → signalUnder (given mode rule) (laid l p u v t) 5 byte ≡ signalled 0 (afterReset mode (stood l p u v) .stack ++ (0 ∷ 0 ∷ 0 ∷ zeros (length t)))
 reset-signals Am9511A rule byte l p u v t P =
-    signals l p u v t P (given Am9511A rule) 5 byte 0 _ emptyMemory (ap (answerWith (given Am9511A rule) (behindIs t) Reset) (resets l p u v t P Am9511A)) (tail-gone l p u v t P)
+    signals l p u v t P (given Am9511A rule) 5 byte 0 _ emptyMemory (ap (answerWith (given Am9511A rule) (behindIs t) Reset) (resets l p u v t P Am9511A))
+    (tail-gone l p u v t P)
 reset-signals Am9511 rule byte l p u v t P =
-    signals l p u v t P (given Am9511 rule) 5 byte 0 _ emptyMemory (ap (answerWith (given Am9511 rule) (behindIs t) Reset) (resets l p u v t P Am9511)) (tail-gone l p u v t P)
+    signals l p u v t P (given Am9511 rule) 5 byte 0 _ emptyMemory (ap (answerWith (given Am9511 rule) (behindIs t) Reset) (resets l p u v t P Am9511))
+    (tail-gone l p u v t P)
 
 -- the mode of a number that is known
 mode-is : (g : Given) (n : ℕ) → g .mode ≡ n → settingsIn g ≡ given (modeOf n) (ruleOf (g .rule))
@@ -233,7 +254,8 @@ module _ (g : Given) (C : Chosen g) where
   reset-told : (n : ℕ) → g .mode ≡ n → (byte : ℕ) (l : List ℕ) (p u v : ℕ) (t : List ℕ) → Parts l p u v t
       → eventCall g (laid l p u v t) 5 byte ≡ signalled 0 (afterReset (modeOf n) (stood l p u v) .stack ++ (0 ∷ 0 ∷ 0 ∷ zeros (length t)))
   reset-told n m byte l p u v t P =
-      chosen (laid l p u v t) 5 byte (ap (λ (on : Settings). signalUnder on (laid l p u v t) 5 byte) (mode-is g n m) ∙ reset-signals (modeOf n) (ruleOf (g .rule)) byte l p u v t P)
+      chosen (laid l p u v t) 5 byte (ap (λ (on : Settings). signalUnder on (laid l p u v t) 5 byte) (mode-is g n m)
+      ∙ reset-signals (modeOf n) (ruleOf (g .rule)) byte l p u v t P)
 
   event-under : EventCallUnder g
   event-under = record {
@@ -241,22 +263,29 @@ module _ (g : Given) (C : Chosen g) where
     bad-kind = λ state kind byte i h. chosen state kind byte (bad-kind set state kind byte (theirs-state i) h);
     byte-ignored = λ state kind byte other a b. byte-ignored g state kind byte other a b;
     push-call = λ b l p u v t P.
-        chosen (laid l p u v t) 1 b (signals l p u v t P set 1 b 0 _ (behindIs t) (ap (around set (behindIs t)) (pushes l p u v t P b)) (tail-back l p u v t P)) ∙ ap (signalled 0) (turned l p u v t P (b ∷ take 15 l));
+        chosen (laid l p u v t) 1 b (signals l p u v t P set 1 b 0 _ (behindIs t) (ap (around set (behindIs t)) (pushes l p u v t P b)) (tail-back l p u v t P))
+        ∙ ap (signalled 0) (turned l p u v t P (b ∷ take 15 l));
     pop-call = λ b byte l p u v t P.
-        chosen (laid (b ∷ l) p u v t) 2 byte (signals (b ∷ l) p u v t P set 2 byte b _ (behindIs t) (ap (around set (behindIs t)) (pops b l p u v (P .ready))) (tail-back (b ∷ l) p u v t P)) ∙ ap (signalled b) (turned (b ∷ l) p u v t P (l ++ (b ∷ [])));
+        chosen (laid (b ∷ l) p u v t) 2 byte (signals (b ∷ l) p u v t P set 2 byte b _ (behindIs t) (ap (around set (behindIs t)) (pops b l p u v (P .ready)))
+        (tail-back (b ∷ l) p u v t P)) ∙ ap (signalled b) (turned (b ∷ l) p u v t P (l ++ (b ∷ [])));
     status-call = λ byte l p u v t P.
-        chosen (laid l p u v t) 4 byte (signals l p u v t P set 4 byte u _ (behindIs t) (ap (around set (behindIs t)) (statuses l p u v t P)) (tail-back l p u v t P)) ∙ ap (signalled u) (back l p u v t P l t);
+        chosen (laid l p u v t) 4 byte (signals l p u v t P set 4 byte u _ (behindIs t) (ap (around set (behindIs t)) (statuses l p u v t P))
+        (tail-back l p u v t P)) ∙ ap (signalled u) (back l p u v t P l t);
     reset-call = λ m byte l p u v t P. reset-told 0 m byte l p u v t P;
     older-reset-call = λ m byte l u v t P. reset-told 1 m byte l 0 u v t P;
     realigned-call = λ m b byte l u v t P.
         let n = P .sixteen in
-        reset-told 1 m byte (b ∷ l) 1 u v t P ∙ ap (λ (k : List ℕ). signalled 0 ((k ++ (0 ∷ 0 ∷ [])) ++ (0 ∷ 0 ∷ 0 ∷ zeros (length t)))) (take-append-le 14 l (b ∷ []) (omega arith));
+        reset-told 1 m byte (b ∷ l) 1 u v t P ∙ ap (λ (k : List ℕ). signalled 0 ((k ++ (0 ∷ 0 ∷ [])) ++ (0 ∷ 0 ∷ 0 ∷ zeros (length t))))
+        (take-append-le 14 l (b ∷ []) (omega arith));
     acknowledge-call = λ byte l p u v t P.
-        chosen (laid l p u v t) 6 byte (signals l p u v t P set 6 byte 0 _ (behindIs t) (ap (around set (behindIs t)) (acknowledges l p u v t P)) (tail-back l p u v t P)) ∙ ap (λ (x : ℕ). signalled 0 (l ++ (x ∷ u ∷ 0 ∷ t))) (flag-back p (P .pending));
+        chosen (laid l p u v t) 6 byte (signals l p u v t P set 6 byte 0 _ (behindIs t) (ap (around set (behindIs t)) (acknowledges l p u v t P))
+        (tail-back l p u v t P)) ∙ ap (λ (x : ℕ). signalled 0 (l ++ (x ∷ u ∷ 0 ∷ t))) (flag-back p (P .pending));
     recall-call = λ byte l p u v t P.
-        chosen (laid l p u v t) 7 byte (signals l p u v t P set 7 byte (getD t 0 0) _ (behindIs t) (recalls l p u v t P set) (tail-back l p u v t P)) ∙ ap (signalled (getD t 0 0)) (back l p u v t P l t);
+        chosen (laid l p u v t) 7 byte (signals l p u v t P set 7 byte (getD t 0 0) _ (behindIs t) (recalls l p u v t P set) (tail-back l p u v t P))
+        ∙ ap (signalled (getD t 0 0)) (back l p u v t P l t);
     forget-call = λ byte l p u v t P.
-        chosen (laid l p u v t) 8 byte (signals l p u v t P set 8 byte 0 _ emptyMemory (forgets l p u v t P set) (tail-gone l p u v t P)) ∙ ap (signalled 0) (back l p u v t P l (zeros (length t)));
+        chosen (laid l p u v t) 8 byte (signals l p u v t P set 8 byte 0 _ emptyMemory (forgets l p u v t P set) (tail-gone l p u v t P))
+        ∙ ap (signalled 0) (back l p u v t P l (zeros (length t)));
   }
 
 pub event-call : EventCall

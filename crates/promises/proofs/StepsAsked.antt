@@ -21,7 +21,8 @@ use Rattle.step_text.specs.declared.asked.Found.the-variants.{Operation as Name
 use Rattle.step_text.specs.declared.asked.Given.{Given}
 use Rattle.step_text.specs.declared.asked.Given.the-variants.{Under, Nothing as Unruled}
 use Rattle.step_text.specs.Steps.{workingsOf}
-use Rattle.step_text.specs.Asked.{digitValue, readFrom, readHex, operationAt, operationIn, sameText, nearestText, ruleFor, withNumbers, askedWith, textOf, toldOf, usageText}
+use Rattle.step_text.specs.Asked.{digitValue, readFrom, readHex, operationAt, operationIn, sameText, nearestText, ruleFor, withNumbers, askedWith, textOf}
+use Rattle.step_text.specs.Asked.{toldOf, usageText}
 use Rattle.promises.specs.SerialWork.{hexDigit, AllHex, hexNumber, IsHex, Ruled, cut, nearest, Asks}
 
 -- ---- numbers
@@ -98,7 +99,8 @@ read-rule words option = by (eqb words 4) refl (eqb words 5) refl (sameText opti
     by false e false f r g = tt
 
 -- ---- the call
-pub told : (words : ℕ) (code b a option : List ℕ) (op : Operation) (rule : Rule) (x y : ℕ) → Asks words code b a option op rule x y → toldOf words code b a option ≡ workingsOf op rule x y
+pub told : (words : ℕ) (code b a option : List ℕ) (op : Operation) (rule : Rule) (x y : ℕ) → Asks words code b a option op rule x y
+    → toldOf words code b a option ≡ workingsOf op rule x y
 told words code b a option op rule x y A =
     let n = 2 * sizeOf (widthOf op) in
     ap (λ (r : Read). textOf (askedWith (operationIn r) (ruleFor words option) b a)) (hex-read 2 code (A .number) (A .code-is))
@@ -113,15 +115,18 @@ module _ (words : ℕ) (code b a option : List ℕ) where
   abbrev from : Read → List ℕ
   from r = textOf (askedWith (operationIn r) (ruleFor words option) b a)
 
-  numbers : (c : ℕ) (op : Operation) (rule : Rule) → readHex 2 code ≡ Number c → IsHex 2 code c → operationAt c ≡ Named op → ruleFor words option ≡ Under rule → Ruled words option rule
-      → (p q : Read) → readHex (2 * sizeOf (widthOf op)) b ≡ p → Hexes (2 * sizeOf (widthOf op)) b p → readHex (2 * sizeOf (widthOf op)) a ≡ q → Hexes (2 * sizeOf (widthOf op)) a q → Result
+  numbers : (c : ℕ) (op : Operation) (rule : Rule) → readHex 2 code ≡ Number c → IsHex 2 code c → operationAt c ≡ Named op → ruleFor words option ≡ Under rule
+      → Ruled words option rule
+      → (p q : Read) → readHex (2 * sizeOf (widthOf op)) b ≡ p → Hexes (2 * sizeOf (widthOf op)) b p → readHex (2 * sizeOf (widthOf op)) a ≡ q
+      → Hexes (2 * sizeOf (widthOf op)) a q → Result
   numbers c op rule e H f g R (Number x) (Number y) i B j A = inr (op, rule, x, y, record { number = c; code-is = H; names = f; ruled = R; b-is = B; a-is = A })
   numbers c op rule e H f g R (Number x) Unread i B j A =
       inl (ap from e ∙ ap₂ (λ (u : Found) (v : Given). textOf (askedWith u v b a)) f g ∙ ap₂ (λ (u v : Read). textOf (withNumbers op rule u v)) i j)
   numbers c op rule e H f g R Unread q i B j A =
       inl (ap from e ∙ ap₂ (λ (u : Found) (v : Given). textOf (askedWith u v b a)) f g ∙ ap₂ (λ (u v : Read). textOf (withNumbers op rule u v)) i j)
 
-  by-rule : (c : ℕ) (op : Operation) → readHex 2 code ≡ Number c → IsHex 2 code c → operationAt c ≡ Named op → (v : Given) → ruleFor words option ≡ v → Rules words option v → Result
+  by-rule : (c : ℕ) (op : Operation) → readHex 2 code ≡ Number c → IsHex 2 code c → operationAt c ≡ Named op → (v : Given) → ruleFor words option ≡ v
+      → Rules words option v → Result
   by-rule c op e H f (Under rule) g R =
       let n = 2 * sizeOf (widthOf op) in
       numbers c op rule e H f g R (readHex n b) (readHex n a) refl (read-hex n b) refl (read-hex n a)
@@ -138,9 +143,11 @@ module _ (words : ℕ) (code b a option : List ℕ) where
   asked : Result
   asked = by-code (readHex 2 code) refl (read-hex 2 code)
 
-pub not-told : (words : ℕ) (code b a option : List ℕ) → ((op : Operation) (rule : Rule) (x y : ℕ) → Asks words code b a option op rule x y → ⊥) → toldOf words code b a option ≡ usageText
+pub not-told : (words : ℕ) (code b a option : List ℕ) → ((op : Operation) (rule : Rule) (x y : ℕ) → Asks words code b a option op rule x y → ⊥) → toldOf words
+    code b a option ≡ usageText
 not-told words code b a option h = by (asked words code b a option)
   where
-    by : (toldOf words code b a option ≡ usageText) ⊎ ((op : Operation) × (rule : Rule) × (x : ℕ) × (y : ℕ) × Asks words code b a option op rule x y) → toldOf words code b a option ≡ usageText
+    by : (toldOf words code b a option ≡ usageText) ⊎ ((op : Operation) × (rule : Rule) × (x : ℕ) × (y : ℕ) × Asks words code b a option op rule x y)
+        → toldOf words code b a option ≡ usageText
     by (inl e) = e
     by (inr t) = absurd (h (t .0) (t .1) (t .2) (t .3) (t .4))

@@ -1,4 +1,5 @@
--- Formulas over the crate's own trees: what the translator judges is what the grammar and the tree say, and the file's run is plain evaluation laid out. Assumes nothing.
+-- Formulas over the crate's own trees: what the translator judges is what the grammar and the tree say, and the file's run is plain evaluation laid out.
+-- Assumes nothing.
 use mathlib.Core.Path.{_≡_, refl, sym, ap, _∙_, subst}
 use mathlib.Core.Logic.{_⊎_, inl, inr, ⊎-elim}
 use mathlib.Core.Bool.{Bool, true, false, cond}
@@ -81,7 +82,8 @@ module _ (text letters : List ℕ) (room : ℕ) (f : Formula) (S : Stated text l
   says-33 : properIn letters f ≡ true → needOf f ≤ 4 → room < length (fileOf letters f) → translationOf letters text room ≡ refusing NoRoom
   says-33 p n r = judged-so ∙ rw (p, le-ltb 4 (needOf f) n, lt-ltb room (length (fileOf letters f)) r)
 
-  says-0 : properIn letters f ≡ true → needOf f ≤ 4 → length (fileOf letters f) ≤ room → translationOf letters text room ≡ record { refusal = Done; file = fileOf letters f }
+  says-0 : properIn letters f ≡ true → needOf f ≤ 4 → length (fileOf letters f) ≤ room → translationOf letters text
+      room ≡ record { refusal = Done; file = fileOf letters f }
   says-0 p n r = judged-so ∙ rw (p, le-ltb 4 (needOf f) n, le-ltb room (length (fileOf letters f)) r)
 
 -- a text that is none is 30
@@ -93,17 +95,30 @@ record None (text letters : List ℕ) : Type 0 where
 looked : (text letters : List ℕ) → ((f : Formula) × Stated text letters f) ⊎ None text letters
 looked text letters = go (eqb (length letters) 32) refl (eqb (length text) 0) refl (ltb 256 (length text)) refl (formulaOf text) refl
   where
-    go : (p : Bool) → eqb (length letters) 32 ≡ p → (q : Bool) → eqb (length text) 0 ≡ q → (r : Bool) → ltb 256 (length text) ≡ r → (x : Read) → formulaOf text ≡ x
+    go : (p : Bool) → eqb (length letters) 32 ≡ p → (q : Bool) → eqb (length text) 0 ≡ q → (r : Bool) → ltb 256 (length text) ≡ r → (x : Read)
+        → formulaOf text ≡ x
         → ((f : Formula) × Stated text letters f) ⊎ None text letters
-    go false a q b r c x e = let n = eqb-false (length letters) 32 a in inr (record { says-30 = λ room. letters-wrong letters text room n; not-stated = λ f S. n (S .eight-words) })
+    go false a q b r c x e = let n = eqb-false (length letters) 32 a in inr (record {
+      says-30 = λ room. letters-wrong letters text room n;
+      not-stated = λ f S. n
+          (S .eight-words);
+    })
     go true a true b r c x e =
         let z = eqb-true (length text) 0 b in
-        inr (record { says-30 = λ room. text-empty letters text room (eqb-true (length letters) 32 a) z; not-stated = λ f S. omega (arith, z, S .is-text .some) })
+        inr (record {
+          says-30 = λ room. text-empty letters text room (eqb-true (length letters) 32 a) z;
+          not-stated = λ f S. omega (arith, z, S .is-text .some);
+        })
     go true a false b true c x e =
         let l = ltb-true 256 (length text) c in
-        inr (record { says-30 = λ room. text-long letters text room (eqb-true (length letters) 32 a) (eqb-false (length text) 0 b) l; not-stated = λ f S. omega (arith, l, S .is-text .short) })
+        inr (record {
+          says-30 = λ room. text-long letters text room (eqb-true (length letters) 32 a) (eqb-false (length text) 0 b) l;
+          not-stated = λ f S. omega
+              (arith, l, S .is-text .short);
+        })
     go true a false b false c Outside e = inr (record {
-      says-30 = λ room. text-fits letters text room (eqb-true (length letters) 32 a) (eqb-false (length text) 0 b) (ltb-false 256 (length text) c) ∙ ap (judged letters room) e;
+      says-30 = λ room. text-fits letters text room (eqb-true (length letters) 32 a) (eqb-false (length text) 0 b) (ltb-false 256 (length text) c)
+          ∙ ap (judged letters room) e;
       not-stated = λ f S. clash (sym e ∙ is-read (S .is-text .inside) (S .is-text .shallow));
     })
       where
@@ -120,8 +135,10 @@ looked text letters = go (eqb (length letters) 32) refl (eqb (length text) 0) re
         )
 
 -- ---- the calls
-pub is-refused : (text letters file : List ℕ) (n : ℕ) → Refuses text letters (length file) n → formulaCall text letters file ≡ record { result = 65536 * n; file = file }
-is-refused text letters file n (no-formula h) = ⊎-elim (λ x. absurd (h (x .0) (x .1))) (λ z. ap (λ (t : Translated). wroteBy t file) (z .says-30 (length file))) (looked text letters)
+pub is-refused : (text letters file : List ℕ) (n : ℕ) → Refuses text letters (length file) n
+    → formulaCall text letters file ≡ record { result = 65536 * n; file = file }
+is-refused text letters file n (no-formula h) = ⊎-elim (λ x. absurd (h (x .0) (x .1))) (λ z. ap (λ (t : Translated). wroteBy t file) (z .says-30 (length file)))
+    (looked text letters)
 is-refused text letters file n (improper f S p) = ap (λ (t : Translated). wroteBy t file) (says-31 text letters (length file) f S p)
 is-refused text letters file n (needs-more f S p m) = ap (λ (t : Translated). wroteBy t file) (says-32 text letters (length file) f S p m)
 is-refused text letters file n (no-room f S p m r) = ap (λ (t : Translated). wroteBy t file) (says-33 text letters (length file) f S p m r)
@@ -131,7 +148,8 @@ pub is-translated : (text letters file : List ℕ) (f : Formula) → Takes text 
 is-translated text letters file f T =
     let F = fileOf letters f in
     let z : 65536 * 0 + length F ≡ length F = omega arith in
-    ap (λ (t : Translated). wroteBy t file) (says-0 text letters (length file) f (T .stated) (T .proper) (T .need) (T .fits)) ∙ ap (λ (n : ℕ). record { result = n; file = F ++ drop (length F) file }) z
+    ap (λ (t : Translated). wroteBy t file) (says-0 text letters (length file) f (T .stated) (T .proper) (T .need) (T .fits))
+    ∙ ap (λ (n : ℕ). record { result = n; file = F ++ drop (length F) file }) z
 
 pub either-way : (text letters file : List ℕ) → ((n : ℕ) × Refuses text letters (length file) n) ⊎ ((f : Formula) × Takes text letters (length file) f)
 either-way text letters file = ⊎-elim (λ x. by (x .0) (x .1)) (λ z. inl (30, no-formula (z .not-stated))) (looked text letters)
@@ -144,7 +162,16 @@ either-way text letters file = ⊎-elim (λ x. by (x .0) (x .1)) (λ z. inl (30,
         go false a q b r c = inl (31, improper f S a)
         go true a true b r c = inl (32, needs-more f S a (ltb-true 4 (needOf f) b))
         go true a false b true c = inl (33, no-room f S a (ltb-false 4 (needOf f) b) (ltb-true (length file) (length (fileOf letters f)) c))
-        go true a false b false c = inr (f, record { stated = S; proper = a; need = ltb-false 4 (needOf f) b; fits = ltb-false (length file) (length (fileOf letters f)) c })
+        go true a false b false c = inr (
+          f,
+          record {
+            stated = S;
+            proper = a;
+            need = ltb-false 4 (needOf f) b;
+            fits = ltb-false (length file)
+                (length (fileOf letters f)) c;
+          },
+        )
 
 -- a file has less than 65,536 bytes, and a refusal is of at least 30
 pub file-short : (text letters : List ℕ) (room : ℕ) (f : Formula) → Takes text letters room f → length (fileOf letters f) ≤ 1664
@@ -162,7 +189,8 @@ given-there text letters file n h e = ⊎-elim
     let z = ap (λ (w : Wrote). w .result) (is-refused text letters file (x .0) (x .1)) in
     let same : x .0 ≡ n = omega (arith, e) in
     subst (λ (k : ℕ). Refuses text letters (length file) k) same (x .1))
-    (λ x. let z = ap (λ (w : Wrote). w .result) (is-translated text letters file (x .0) (x .1)) in absurd (omega (arith, e, file-short text letters (length file) (x .0) (x .1))))
+    (λ x. let z = ap (λ (w : Wrote). w .result) (is-translated text letters file (x .0) (x .1))
+    in absurd (omega (arith, e, file-short text letters (length file) (x .0) (x .1))))
     (either-way text letters file)
 
 pub given-then : (text letters file : List ℕ) → formulaCall text letters file .result < 65536 → (f : Formula) × Takes text letters (length file) f
@@ -173,11 +201,14 @@ given-then text letters file h = ⊎-elim
 
 -- ---- the run
 pub file-is : (text letters file : List ℕ) (f : Formula) → Takes text letters (length file) f → fileIn (formulaCall text letters file) ≡ fileOf letters f
-file-is text letters file f T = ap fileIn (is-translated text letters file f T) ∙ take-at (fileOf letters f) (drop (length (fileOf letters f)) file) (length (fileOf letters f)) refl
+file-is text letters file f T = ap fileIn (is-translated text letters file f T) ∙ take-at (fileOf letters f) (drop (length (fileOf letters f)) file)
+    (length (fileOf letters f)) refl
 
-record-run : (on : Settings) (s : State) (m : Memory) (text letters file : List ℕ) (f : Formula) → Takes text letters (length file) f → Bytes letters → length (s .stack) ≡ 16 → AtRest s
+record-run : (on : Settings) (s : State) (m : Memory) (text letters file : List ℕ) (f : Formula) → Takes text letters (length file) f → Bytes letters
+    → length (s .stack) ≡ 16 → AtRest s
     → Left on s m (fileOf letters f) (repliesTo f) (evaluated (on .rule) letters f)
-record-run on s m text letters file f T B six R = evaluates on letters f s m (leaves letters (T .stated .eight-words) B (T .stated .is-text .inside) (T .proper)) (T .need) six R
+record-run on s m text letters file f T B six R = evaluates on letters f s m (leaves letters (T .stated .eight-words) B (T .stated .is-text .inside)
+    (T .proper)) (T .need) six R
 
 -- the card that good bytes stand for
 stands-for : (on : Settings) (state : List ℕ) → isState state ≡ true → StandsFor state (cardIn on state)
@@ -201,11 +232,14 @@ bytes-begin n bytes c size L = ⊎-elim
 
 byte-16 : (n : ℕ) (bytes : List ℕ) (c : Card) → (n ≡ 19) ⊎ (n ≡ 21) → Laid n bytes c → c .chip .pending ≡ false → getD bytes 16 0 ≡ 0
 byte-16 n bytes c size L p = ⊎-elim
-    (λ a. ap (λ (l : List ℕ). getD l 16 0) (L .short a) ∙ getD-at (c .chip .stack) (cond (c .chip .pending) 1 0) _ 0 16 (L .sixteen) ∙ ap (λ (t : Bool). cond t 1 0) p)
-    (λ b. ap (λ (l : List ℕ). getD l 16 0) (L .long b) ∙ getD-at (c .chip .stack) (cond (c .chip .pending) 1 0) _ 0 16 (L .sixteen) ∙ ap (λ (t : Bool). cond t 1 0) p)
+    (λ a. ap (λ (l : List ℕ). getD l 16 0) (L .short a) ∙ getD-at (c .chip .stack) (cond (c .chip .pending) 1 0) _ 0 16 (L .sixteen)
+    ∙ ap (λ (t : Bool). cond t 1 0) p)
+    (λ b. ap (λ (l : List ℕ). getD l 16 0) (L .long b) ∙ getD-at (c .chip .stack) (cond (c .chip .pending) 1 0) _ 0 16 (L .sixteen)
+    ∙ ap (λ (t : Bool). cond t 1 0) p)
     size
 
-call-run : (g : Given) → Chosen g → (state replies report text letters file : List ℕ) (f : Formula) → Takes text letters (length file) f → Bytes letters → Bytes state → IsState state
+call-run : (g : Given) → Chosen g → (state replies report text letters file : List ℕ) (f : Formula) → Takes text letters (length file) f → Bytes letters
+    → Bytes state → IsState state
     → getD state 16 0 ≡ 0 → length report ≡ 9 → length (repliesTo f) ≤ length replies
     → EvaluatesCall (runCall g state (fileOf letters f) replies report) (fileOf letters f) (repliesTo f) replies (evaluated (settingsIn g .rule) letters f)
 call-run g C state replies report text letters file f T B S H w n r =
@@ -216,9 +250,11 @@ call-run g C state replies report text letters file f T B S H w n r =
     let A = stands-for on state h in
     let size = ours-state h .size in
     let short = file-short text letters (length file) f T in
-    let L = record-run on (stateOf state) (memoryIn state) text letters file f T B (A .laid .sixteen) (record { taken = lt-leb 128 (getD state 17 0) (state-ready state h); whole = ap (λ (k : ℕ). eqb k 1) w }) in
+    let L = record-run on (stateOf state) (memoryIn state) text letters file f T B (A .laid .sixteen)
+    (record { taken = lt-leb 128 (getD state 17 0) (state-ready state h); whole = ap (λ (k : ℕ). eqb k 1) w }) in
     let ran = L .ran .ran (length replies) r in
-    let R = subst (λ (o : Outcome). Reports (length state) (runCall g state F replies report) o replies) ran (run-call g C c refl state F replies report S (file-bytes letters f) H A n (omega arith)) in
+    let R = subst (λ (o : Outcome). Reports (length state) (runCall g state F replies report) o replies) ran (run-call g C c refl state F replies report S
+    (file-bytes letters f) H A n (omega arith)) in
     let counts = counts-exact g C state F replies report n H (omega arith) in
     record {
       result = R .result;
@@ -231,8 +267,10 @@ call-run g C state replies report text letters file f T B S H w n r =
     }
 
 -- a file that is run as records
-pub as-records : (on : Settings) (s : State) (m : Memory) (text letters file : List ℕ) (f : Formula) (room : ℕ) → Takes text letters (length file) f → Bytes letters
-    → length (s .stack) ≡ 16 → AtRest s → length (repliesTo f) ≤ room → Evaluates on s m (fileIn (formulaCall text letters file)) (repliesTo f) room (evaluated (on .rule) letters f)
+pub as-records : (on : Settings) (s : State) (m : Memory) (text letters file : List ℕ) (f : Formula) (room : ℕ) → Takes text letters (length file) f
+    → Bytes letters
+    → length (s .stack) ≡ 16 → AtRest s → length (repliesTo f) ≤ room → Evaluates on s m (fileIn (formulaCall text letters file)) (repliesTo f) room
+    (evaluated (on .rule) letters f)
 as-records on s m text letters file f room T B six R h =
     let L = record-run on s m text letters file f T B six R in
     let w = evaluated (on .rule) letters f in
@@ -246,13 +284,18 @@ as-records on s m text letters file f room T B six R h =
     })
 
 -- and through the call
-pub as-call : (g : Given) → Chosen g → (state replies report text letters file : List ℕ) (f : Formula) → Takes text letters (length file) f → Bytes letters → Bytes state
+pub as-call : (g : Given) → Chosen g → (state replies report text letters file : List ℕ) (f : Formula) → Takes text letters (length file) f → Bytes letters
+    → Bytes state
     → IsState state → getD state 16 0 ≡ 0 → length report ≡ 9 → length (repliesTo f) ≤ length replies
-    → EvaluatesCall (runCall g state (fileIn (formulaCall text letters file)) replies report) (fileIn (formulaCall text letters file)) (repliesTo f) replies (evaluated (settingsIn g .rule) letters f)
+    → EvaluatesCall (runCall g state (fileIn (formulaCall text letters file)) replies report) (fileIn (formulaCall text letters file)) (repliesTo f) replies
+    (evaluated (settingsIn g .rule) letters f)
 as-call g C state replies report text letters file f T B S h w n r =
-    subst (λ (l : List ℕ). EvaluatesCall (runCall g state l replies report) l (repliesTo f) replies (evaluated (settingsIn g .rule) letters f)) (sym (file-is text letters file f T))
+    subst (λ (l : List ℕ). EvaluatesCall (runCall g state l replies report) l (repliesTo f) replies (evaluated (settingsIn g .rule) letters f))
+    (sym (file-is text letters file f T))
     (call-run g C state replies report text letters file f T B S h w n r)
 
-pub word-proper : (rule : Rule) (text letters file : List ℕ) (f : Formula) → Takes text letters (length file) f → Bytes letters → FloatWord (evaluated rule letters f)
+pub word-proper : (rule : Rule) (text letters file : List ℕ) (f : Formula) → Takes text letters (length file) f → Bytes letters
+    → FloatWord (evaluated rule letters f)
 word-proper rule text letters file f T B =
-    ours-word (record-run (record { mode = Am9511A; rule = rule }) resetState emptyMemory text letters file f T B refl (record { taken = refl; whole = refl }) .proper)
+    ours-word (record-run (record { mode = Am9511A; rule = rule }) resetState emptyMemory text letters file f T B refl (record { taken = refl; whole = refl })
+    .proper)

@@ -1,4 +1,5 @@
--- Undoing a shuffle: each command is answered 0 and moves the bytes of the stack alone; with 16 bytes spelled out, a command and what undoes it leave each in its place;
+-- Undoing a shuffle: each command is answered 0 and moves the bytes of the stack alone; with 16 bytes spelled out, a command and what undoes it leave each in
+-- its place;
 -- a list that changes none may stand between two that change none together, and so every list is undone. Assumes nothing.
 use mathlib.Core.Path.{_≡_, refl, sym, ap, ap₂, subst, _∙_}
 use mathlib.Core.Logic.{inr}
@@ -49,7 +50,8 @@ use Rattle.promises.proofs.Measures.{theirs-stack, ours-stack, theirs-r
 use Rattle.promises.specs.Chains.{given}
 use Rattle.promises.specs.Given.{Given, Chosen, settingsIn}
 use Rattle.promises.specs.Cores.{Core, Meets, onBus, driven, returned, answersOf, Sendable, allZero}
-use Rattle.promises.specs.Undo.{Shuffle, POPS, POPD, POPF, XCHS, XCHD, XCHF, codeOf, commandOf, undoOne, undo, eightPops, fourPopd, fourPopf, shuffled, AtChip, BytesAtRest, ChangesNoByte, Undone, Composes, FullTurns, Looks, SixCodes, UndoExample}
+use Rattle.promises.specs.Undo.{Shuffle, POPS, POPD, POPF, XCHS, XCHD, XCHF, codeOf, commandOf, undoOne, undo, eightPops, fourPopd, fourPopf, shuffled}
+use Rattle.promises.specs.Undo.{AtChip, BytesAtRest, ChangesNoByte, Undone, Composes, FullTurns, Looks, SixCodes, UndoExample}
 use Rattle.promises.proofs.Chains.{coded, coded-is}
 use Rattle.promises.proofs.Cores.{code-sendable, bus-told, cores}
 
@@ -113,7 +115,8 @@ module _ (on : Settings) where
   after k b s = settled s (sr (coded b (codeOf k))) (outcomeOf (on .rule) (commandOf k) (s .stack))
 
   obeyed : (k : Shuffle) (b : Bool) (s : State) → AtRest s → answerTo on s (given b (codeOf k)) ≡ done 0 (after k b s)
-  obeyed k b s R = accepts (on .rule) s (coded b (codeOf k)) (commandOf k) (at-rest-lt R) (R .whole) (coded-is b (codeOf k) (short-code k .1)) (any-operands k (s .stack))
+  obeyed k b s R = accepts (on .rule) s (coded b (codeOf k)) (commandOf k) (at-rest-lt R) (R .whole) (coded-is b (codeOf k) (short-code k .1))
+      (any-operands k (s .stack))
 
   rests : (k : Shuffle) (b : Bool) (s : State) → AtRest s → AtRest (after k b s)
   rests k b s R = record { taken = lt-leb 128 (statusAfter k (s .stack)) (clear k (s .stack) .0); whole = R .whole }
@@ -265,7 +268,8 @@ module _ (x : Card) (sixteen : length (x .chip .stack) ≡ 16) (n : ℕ) where
       drop-at (stateBytesOf (x .chip)) (memoryBytesOf n (x .memory)) 19
       (length-append (x .chip .stack) (flagOf (x .chip .pending) ∷ x .chip .status ∷ flagOf (x .chip .service) ∷ []) ∙ ap (λ (m : ℕ). m + 3) sixteen)
 
-module _ (g : Given) (C : Chosen g) (ks : List Shuffle) (h : AtChip (settingsIn g) ks) (c : Core) (M : Meets g c) (state : List ℕ) (bit : ℕ → Bool) (B : BytesAtRest state) where
+module _ (g : Given) (C : Chosen g) (ks : List Shuffle) (h : AtChip (settingsIn g) ks) (c : Core) (M : Meets g c) (state : List ℕ) (bit : ℕ
+    → Bool) (B : BytesAtRest state) where
   abbrev calls : List CardEvent
   calls = onBus (shuffled bit ks)
 
@@ -276,16 +280,21 @@ module _ (g : Given) (C : Chosen g) (ks : List Shuffle) (h : AtChip (settingsIn 
   is-stack = card-ready (settingsIn g) state (B .bytes) (theirs-state (B .good)) .chip .stack
 
   chip-at-rest : AtRest (stateOf state)
-  chip-at-rest = record { taken = lt-leb 128 (getD state 17 0) (card-ready (settingsIn g) state (B .bytes) (theirs-state (B .good)) .chip .ready); whole = ap (λ (n : ℕ). eqb n 1) (B .whole) }
+  chip-at-rest = record {
+    taken = lt-leb 128 (getD state 17 0) (card-ready (settingsIn g) state (B .bytes) (theirs-state (B .good)) .chip .ready);
+    whole = ap (λ (n : ℕ). eqb n 1) (B .whole);
+  }
 
   left-told : driven c state calls ≡ laidOut (length state) last
   left-told = cores g C c M .states state calls (B .bytes) (B .good) (shuffle-sendable ks bit)
 
   stack-back : last .chip .stack ≡ take 16 state
-  stack-back = ap (λ (s : State). s .stack) (chip-alone (cardIn (settingsIn g) state) (shuffled bit ks)) ∙ h .all-bytes (stateOf state) bit (ours-rest chip-at-rest) (ours-stack is-stack)
+  stack-back = ap (λ (s : State). s .stack) (chip-alone (cardIn (settingsIn g) state) (shuffled bit ks)) ∙ h .all-bytes (stateOf state) bit
+      (ours-rest chip-at-rest) (ours-stack is-stack)
 
   nothing-pending : last .chip .pending ≡ false
-  nothing-pending = ap (λ (s : State). s .pending) (chip-alone (cardIn (settingsIn g) state) (shuffled bit ks)) ∙ h .ready-again (stateOf state) bit (ours-rest chip-at-rest) .whole
+  nothing-pending = ap (λ (s : State). s .pending) (chip-alone (cardIn (settingsIn g) state) (shuffled bit ks)) ∙ h .ready-again (stateOf state) bit
+      (ours-rest chip-at-rest) .whole
 
   sixteen-again : length (last .chip .stack) ≡ 16
   sixteen-again = ap length stack-back ∙ is-stack .sixteen
@@ -305,7 +314,8 @@ module _ (g : Given) (C : Chosen g) (ks : List Shuffle) (h : AtChip (settingsIn 
   memory-told =
       ap (drop 19) left-told ∙ memory-laid last sixteen-again (length state)
       ∙ ap (memoryBytesOf (length state)) (memory-kept ks bit (cardIn (settingsIn g) state) chip-at-rest)
-      ∙ sym (memory-laid (cardIn (settingsIn g) state) (is-stack .sixteen) (length state)) ∙ ap (drop 19) (card-returns (settingsIn g) state (theirs-state (B .good)))
+      ∙ sym (memory-laid (cardIn (settingsIn g) state) (is-stack .sixteen) (length state))
+      ∙ ap (drop 19) (card-returns (settingsIn g) state (theirs-state (B .good)))
 
 -- ---- the statements
 -- a list that stays under every setting changes no byte
@@ -330,9 +340,11 @@ pub composes : Composes
 composes = record {
   joined = undo-joined;
   restoring = λ ks ls back again h g.
-      changes-none ((ks ++ ls) ++ (again ++ back)) (λ on. both-restored on ks ls back again (stays on (ks ++ back) (h .chip on)) (stays on (ls ++ again) (g .chip on)));
+      changes-none ((ks ++ ls) ++ (again ++ back)) (λ on. both-restored on ks ls back again (stays on (ks ++ back) (h .chip on))
+      (stays on (ls ++ again) (g .chip on)));
   left-out = λ ks back ms again m h.
-      changes-none (ks ++ (back ++ again)) (λ on. without on ks back ms again (stays on ms (m .chip on)) (stays on (ks ++ (back ++ (ms ++ again))) (h .chip on)));
+      changes-none (ks ++ (back ++ again)) (λ on. without on ks back ms again (stays on ms (m .chip on))
+      (stays on (ks ++ (back ++ (ms ++ again))) (h .chip on)));
 }
 
 pub full-turns : FullTurns
@@ -352,11 +364,14 @@ even-pops false = refl
 
 pub looks : Looks
 looks = record {
-  two-bytes = λ on s bit A S. let R = theirs-rest A in stack-read 2 s R ∙ sym (pops-block 2 (s .stack) (S .sixteen) (lit≤ tt)) ∙ sym (worked on (POPS ∷ []) bit s R .stack-is);
-  four-bytes = λ on s bit A S. let R = theirs-rest A in stack-read 4 s R ∙ sym (pops-block 4 (s .stack) (S .sixteen) (lit≤ tt)) ∙ sym (worked on (POPD ∷ []) bit s R .stack-is);
+  two-bytes = λ on s bit A S. let R = theirs-rest A in stack-read 2 s R ∙ sym (pops-block 2 (s .stack) (S .sixteen) (lit≤ tt))
+      ∙ sym (worked on (POPS ∷ []) bit s R .stack-is);
+  four-bytes = λ on s bit A S. let R = theirs-rest A in stack-read 4 s R ∙ sym (pops-block 4 (s .stack) (S .sixteen) (lit≤ tt))
+      ∙ sym (worked on (POPD ∷ []) bit s R .stack-is);
   sixteen-bytes = λ s R S.
       pops-state 16 s (at-rest-lt (theirs-rest R))
-      ∙ ap₂ (λ (l : List ℕ) (p : Bool). record { stack = l; pending = p; status = s .status; service = s .service }) (once-round 0 (s .stack) (S .sixteen) .1) (even-pops (s .pending));
+      ∙ ap₂ (λ (l : List ℕ) (p : Bool). record { stack = l; pending = p; status = s .status; service = s .service }) (once-round 0 (s .stack) (S .sixteen) .1)
+      (even-pops (s .pending));
 }
 
 -- ---- the example

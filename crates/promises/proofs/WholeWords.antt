@@ -37,7 +37,8 @@ once false q = refl
 
 module _ (on : Settings) where
   -- each byte pushed or popped turns pending
-  turns : {es : List Event} {n : ℕ} (m : Moves es n) (s : State) → s .status < 128 → (afterEvents on s es) .pending ≡ cond (odd n) (not (s .pending)) (s .pending)
+  turns : {es : List Event} {n : ℕ} (m : Moves es n) (s : State) → s .status < 128 → (afterEvents on s es) .pending ≡ cond (odd n) (not (s .pending))
+      (s .pending)
   turns none s h = refl
   turns (pushing {es = es} {n = n} b m) s h =
       ap (λ (a : Answer). (afterEvents on (a .state) es) .pending) (push-done s b h) ∙ turns m (moved s (pushed (s .stack) b)) h ∙ once (odd n) (s .pending)
@@ -48,11 +49,13 @@ module _ (on : Settings) where
   plain true p e = ap not e
   plain false p e = e
 
-  refuses : (s : State) (code : ℕ) (k : Command) → decoded (code % 128) ≡ Known k → busy s ≡ false → s .pending ≡ true → commandUnder (on .rule) s code ≡ refused HalfWord s
+  refuses : (s : State) (code : ℕ) (k : Command) → decoded (code % 128) ≡ Known k → busy s ≡ false → s .pending ≡ true → commandUnder (on .rule) s
+      code ≡ refused HalfWord s
   unfolding commandUnder carried
   refuses s code k e b p = rw (b, e, p)
 
-  found-nothing : (s : State) (code : ℕ) → (commandUnder (on .rule) s code) .refusal ≡ Done → (s .pending ≡ false) × ((commandUnder (on .rule) s code) .state .pending ≡ false)
+  found-nothing : (s : State) (code : ℕ) → (commandUnder (on .rule) s code) .refusal ≡ Done → (s .pending ≡ false) × ((commandUnder (on .rule) s code) .state
+      .pending ≡ false)
   found-nothing s code d = let a = accepted (on .rule) s code d in (a .whole, ap (λ (x : Answer). x .state .pending) (a .answer) ∙ a .whole)
 
 -- ---- the statement
@@ -105,7 +108,8 @@ splits (suc k) w l B h =
     let size : length a ≡ n = length-take-le n l (omega arith) in
     let len = length-drop n l in
     let more = splits k w (drop n l) (bytes-drop n l B) (omega arith) in
-    let top : bytesOf n (numberFrom 0 a) ≡ a = ap (λ (m : ℕ). bytesOf m (numberFrom 0 a)) (sym size ∙ sym (zero-add (length a))) ∙ spelled a (bytes-take n l B) 0 0 in
+    let top : bytesOf n (numberFrom 0 a) ≡ a = ap (λ (m : ℕ). bytesOf m (numberFrom 0 a)) (sym size ∙ sym (zero-add (length a))) ∙ spelled a (bytes-take n l B)
+    0 0 in
     record {
       words = numberFrom 0 a ∷ more .words;
       number = ap suc (more .number);

@@ -10,7 +10,8 @@ use Rattle.stack.specs.Stack.{Bytes, zeros}
 use Rattle.host_floats.specs.Double.{outwardOf, inwardOf}
 use Rattle.host_buffers.specs.Buffers.{Turn, wordsTurn, floatsTurn}
 use Rattle.promises.specs.Doubles.{turned}
-use Rattle.promises.specs.WrongConverters.{Converter, Converts, WrongConverter, never-words, never-floats, same-words, same-floats, back-words, back-floats, number-words, number-floats, first-word, first-float, NoWrongConverter}
+use Rattle.promises.specs.WrongConverters.{Converter, Converts, WrongConverter, never-words, never-floats, same-words, same-floats, back-words}
+use Rattle.promises.specs.WrongConverters.{back-floats, number-words, number-floats, first-word, first-float, NoWrongConverter}
 use Rattle.promises.proofs.WrongCores.{isBytes, bytes-in}
 
 -- ---- the inputs: 1 as a word and as an f64, a word that is not proper, an f64 halfway above 1
@@ -75,7 +76,8 @@ module _ (c : Converter) (k : Converts c) where
   does-words words out a b e = let h = k .words words out a b in (λ i. record { result = h .result-is i; number = h .number-is i; out = h .out-is i }) ∙ e
 
   does-floats : {t : Turn} (floats out : List ℕ) → Bytes floats → Bytes out → floatsTurn 0 floats out ≡ t → c .f64-to-words 0 floats out ≡ t
-  does-floats floats out a b e = let h = k .floats 0 floats out (lit< tt) a b in (λ i. record { result = h .result-is i; number = h .number-is i; out = h .out-is i }) ∙ e
+  does-floats floats out a b e = let h = k .floats 0 floats out (lit< tt) a b
+      in (λ i. record { result = h .result-is i; number = h .number-is i; out = h .out-is i }) ∙ e
 
   result : {s t : Turn} → s ≡ t → s .result ≡ t .result
   result e = ap (λ (t : Turn). t .result) e
@@ -102,7 +104,8 @@ module _ (c : Converter) (k : Converts c) where
       let a = ap (λ (l : List ℕ). getD l 6 0) (sym (f one (zeros 16) one-bytes room)) ∙ left 6 (does-words one (zeros 16) one-bytes room (tells .word)) in
       omega arith
   no-wrong (back-floats f) =
-      let a = ap (λ (l : List ℕ). getD l 2 0) (sym (f 0 oneFloat (zeros 16) (lit< tt) float-bytes room)) ∙ left 2 (does-floats oneFloat (zeros 16) float-bytes room (tells .float)) in
+      let a = ap (λ (l : List ℕ). getD l 2 0) (sym (f 0 oneFloat (zeros 16) (lit< tt) float-bytes room))
+      ∙ left 2 (does-floats oneFloat (zeros 16) float-bytes room (tells .float)) in
       omega arith
   no-wrong (number-words n f) =
       let a = sym (f [] [] tt tt) ∙ number (does-words [] [] tt tt (tells .no-words)) in

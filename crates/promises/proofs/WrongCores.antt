@@ -28,7 +28,10 @@ use Rattle.promises.specs.Chains.{Change}
 use Rattle.promises.specs.Records.{countAt}
 use Rattle.promises.specs.RecordFiles.{IsRecord, push, reset}
 use Rattle.promises.specs.Cores.{Core, Meets, driven, Begins, busRun}
-use Rattle.promises.specs.WrongCores.{No, RefusesEverything, never-run, never-event, never-float, never-word, SingleReply, same-run, same-event, same-float, same-word, SameReplies, DoesNothing, back-state, back-replies, back-report, back-event, back-float, back-word, FirstRecordOnly, first-state, first-replies, InventedCounts, wrong-taken, wrong-written, wrong-away, ZeroChains, fresh, nine, first, second, fresher, Tells, WrongCores}
+use Rattle.promises.specs.WrongCores.{No, RefusesEverything, never-run, never-event, never-float, never-word, SingleReply, same-run, same-event}
+use Rattle.promises.specs.WrongCores.{same-float, same-word, SameReplies, DoesNothing, back-state, back-replies, back-report, back-event, back-float}
+use Rattle.promises.specs.WrongCores.{back-word, FirstRecordOnly, first-state, first-replies, InventedCounts, wrong-taken, wrong-written, wrong-away}
+use Rattle.promises.specs.WrongCores.{ZeroChains, fresh, nine, first, second, fresher, Tells, WrongCores}
 use Rattle.promises.proofs.Records.{counts-exact}
 use Rattle.promises.proofs.Host.{float-comes-back}
 use Rattle.promises.proofs.Cores.{cores}
@@ -87,15 +90,20 @@ module _ (g : Given) (C : Chosen g) (c : Core) (M : Meets g c) where
 module _ (g : Given) (C : Chosen g) (c : Core) (M : Meets g c) where
   -- a good call of the run, and of the event, on the bytes after a reset
   run-told : (input replies : List ℕ) → Bytes input → Bytes replies → length input ≤ 12288
-      → Calls (ranOf 19 (runOf (cardIn (settingsIn g) fresh) input (length replies)) replies) ((c .run fresh input replies nine) .result) ((c .run fresh input replies nine) .state)
+      → Calls (ranOf 19 (runOf (cardIn (settingsIn g) fresh) input (length replies)) replies) ((c .run fresh input replies nine) .result)
+      ((c .run fresh input replies nine) .state)
       ((c .run fresh input replies nine) .replies) ((c .run fresh input replies nine) .report)
   run-told input replies i w l =
-      subst (λ (x : Called). Calls x ((c .run fresh input replies nine) .result) ((c .run fresh input replies nine) .state) ((c .run fresh input replies nine) .replies) ((c .run fresh input replies nine) .report))
-      (good (g .mode) (g .rule) fresh input replies nine refl (C .mode) (C .rule) (theirs-state (begins .good)) l) (M .run fresh input replies nine fresh-bytes i w nine-bytes)
+      subst (λ (x : Called). Calls x ((c .run fresh input replies nine) .result) ((c .run fresh input replies nine) .state) ((c .run fresh input replies nine)
+      .replies) ((c .run fresh input replies nine) .report))
+      (good (g .mode) (g .rule) fresh input replies nine refl (C .mode) (C .rule) (theirs-state (begins .good)) l) (M .run fresh input replies nine fresh-bytes
+      i w nine-bytes)
 
-  event-told : (kind byte : ℕ) → kind < 2 ^ 32 → byte < 256 → Signals (signalUnder (settingsIn g) fresh kind byte) ((c .event fresh kind byte) .result) ((c .event fresh kind byte) .state)
+  event-told : (kind byte : ℕ) → kind < 2 ^ 32 → byte < 256 → Signals (signalUnder (settingsIn g) fresh kind byte) ((c .event fresh kind byte) .result)
+      ((c .event fresh kind byte) .state)
   event-told kind byte k b =
-      subst (λ (x : Signal). Signals x ((c .event fresh kind byte) .result) ((c .event fresh kind byte) .state)) (event-chosen (g .mode) (g .rule) fresh kind byte (C .mode) (C .rule)) (M .event fresh kind byte fresh-bytes k b)
+      subst (λ (x : Signal). Signals x ((c .event fresh kind byte) .result) ((c .event fresh kind byte) .state)) (event-chosen (g .mode) (g .rule) fresh kind
+      byte (C .mode) (C .rule)) (M .event fresh kind byte fresh-bytes k b)
 
 tells : (g : Given) → Chosen g → (c : Core) → Meets g c → Tells c
 unfolding callOf sentOf isState runBy run turnUnder frameUnder hostOf takenOf pushOf resetOf
@@ -138,25 +146,34 @@ module _ (g : Given) (C : Chosen g) where
 
   single-reply : No g SingleReply
   single-reply c M (same-run n f) =
-      let e = alike n 0 14 (f fresh [] [] nine fresh-bytes tt tt nine-bytes) (f fresh [] [] [] fresh-bytes tt tt tt) (tells g C c M .run-0) (tells g C c M .run-14) in
+      let e = alike n 0 14 (f fresh [] [] nine fresh-bytes tt tt nine-bytes) (f fresh [] [] [] fresh-bytes tt tt tt) (tells g C c M .run-0)
+      (tells g C c M .run-14) in
       omega arith
   single-reply c M (same-event n f) =
-      let e = alike n 0 1280 (f fresh 5 0 fresh-bytes (lit< tt) (lit< tt)) (f fresh 0 0 fresh-bytes (lit< tt) (lit< tt)) (tells g C c M .event-0) (tells g C c M .event-5) in
+      let e = alike n 0 1280 (f fresh 5 0 fresh-bytes (lit< tt) (lit< tt)) (f fresh 0 0 fresh-bytes (lit< tt) (lit< tt)) (tells g C c M .event-0)
+      (tells g C c M .event-5) in
       omega arith
   single-reply c M (same-float n f) =
       let e = alike n 0 4 (f 0 (zeros 4) (lit< tt) four-bytes) (f 1 (zeros 4) (lit< tt) four-bytes) (tells g C c M .float-0) (tells g C c M .float-4) in
       omega arith
   single-reply c M (same-word n f) =
-      let e = alike n 0 10 (f 0 (zeros 4) (lit< tt) four-bytes) (f 0x7f800000 (zeros 4) (lit< tt) four-bytes) (tells g C c M .word-0) (tells g C c M .word-10) in
+      let e = alike n 0 10 (f 0 (zeros 4) (lit< tt) four-bytes) (f 0x7f800000 (zeros 4) (lit< tt) four-bytes) (tells g C c M .word-0) (tells g C c M .word-10)
+      in
       omega arith
 
   does-nothing : No g DoesNothing
-  does-nothing c M (back-state f) = apart 0x55 0 0 (sym (tells g C c M .one-state) ∙ f fresh first (zeros 10) nine fresh-bytes first-bytes ten-bytes nine-bytes) refl refl (λ e. omega (arith, e))
-  does-nothing c M (back-replies f) = apart 3 0 0 (sym (tells g C c M .one-replies) ∙ f fresh first (zeros 10) nine fresh-bytes first-bytes ten-bytes nine-bytes) refl refl (λ e. omega (arith, e))
-  does-nothing c M (back-report f) = apart 5 0 1 (sym (tells g C c M .one-report) ∙ f fresh first (zeros 10) nine fresh-bytes first-bytes ten-bytes nine-bytes) refl refl (λ e. omega (arith, e))
-  does-nothing c M (back-event f) = apart 0x55 0 0 (sym (tells g C c M .event-state) ∙ f fresh 1 0x55 fresh-bytes (lit< tt) (lit< tt)) refl refl (λ e. omega (arith, e))
-  does-nothing c M (back-float f) = apart 0x80 0 2 (sym (tells g C c M .float-out) ∙ f 0x01800000 (zeros 4) (lit< tt) four-bytes) refl refl (λ e. omega (arith, e))
-  does-nothing c M (back-word f) = apart 0x80 0 2 (sym (tells g C c M .word-out) ∙ f 0x3f800000 (zeros 4) (lit< tt) four-bytes) refl refl (λ e. omega (arith, e))
+  does-nothing c M (back-state f) = apart 0x55 0 0 (sym (tells g C c M .one-state) ∙ f fresh first (zeros 10) nine fresh-bytes first-bytes ten-bytes nine-bytes)
+      refl refl (λ e. omega (arith, e))
+  does-nothing c M (back-replies f) = apart 3 0 0 (sym (tells g C c M .one-replies) ∙ f fresh first (zeros 10) nine fresh-bytes first-bytes ten-bytes
+      nine-bytes) refl refl (λ e. omega (arith, e))
+  does-nothing c M (back-report f) = apart 5 0 1 (sym (tells g C c M .one-report) ∙ f fresh first (zeros 10) nine fresh-bytes first-bytes ten-bytes nine-bytes)
+      refl refl (λ e. omega (arith, e))
+  does-nothing c M (back-event f) = apart 0x55 0 0 (sym (tells g C c M .event-state) ∙ f fresh 1 0x55 fresh-bytes (lit< tt) (lit< tt)) refl refl
+      (λ e. omega (arith, e))
+  does-nothing c M (back-float f) = apart 0x80 0 2 (sym (tells g C c M .float-out) ∙ f 0x01800000 (zeros 4) (lit< tt) four-bytes) refl refl
+      (λ e. omega (arith, e))
+  does-nothing c M (back-word f) = apart 0x80 0 2 (sym (tells g C c M .word-out) ∙ f 0x3f800000 (zeros 4) (lit< tt) four-bytes) refl refl
+      (λ e. omega (arith, e))
 
   -- the first record is one
   one-record : IsRecord first
@@ -168,13 +185,16 @@ module _ (g : Given) (C : Chosen g) where
 
   same-replies : No g SameReplies
   same-replies c M f =
-      apart 129 133 2 (sym (tells g C c M .one-replies) ∙ f fresh first fresher (zeros 10) nine one-record reset-record fresh-bytes first-bytes fresher-bytes ten-bytes nine-bytes ∙ tells g C c M .reset-replies) refl refl (λ e. omega (arith, e))
+      apart 129 133 2 (sym (tells g C c M .one-replies) ∙ f fresh first fresher (zeros 10) nine one-record reset-record fresh-bytes first-bytes fresher-bytes
+      ten-bytes nine-bytes ∙ tells g C c M .reset-replies) refl refl (λ e. omega (arith, e))
 
   first-record-only : No g FirstRecordOnly
   first-record-only c M (first-state f) =
-      apart 0xaa 0x55 0 (sym (tells g C c M .two-state) ∙ f fresh first second (zeros 10) nine one-record fresh-bytes first-bytes second-bytes ten-bytes nine-bytes ∙ tells g C c M .one-state) refl refl (λ e. omega (arith, e))
+      apart 0xaa 0x55 0 (sym (tells g C c M .two-state) ∙ f fresh first second (zeros 10) nine one-record fresh-bytes first-bytes second-bytes ten-bytes
+      nine-bytes ∙ tells g C c M .one-state) refl refl (λ e. omega (arith, e))
   first-record-only c M (first-replies f) =
-      apart 3 0 5 (sym (tells g C c M .two-replies) ∙ f fresh first second (zeros 10) nine one-record fresh-bytes first-bytes second-bytes ten-bytes nine-bytes ∙ tells g C c M .one-replies) refl refl (λ e. omega (arith, e))
+      apart 3 0 5 (sym (tells g C c M .two-replies) ∙ f fresh first second (zeros 10) nine one-record fresh-bytes first-bytes second-bytes ten-bytes nine-bytes
+      ∙ tells g C c M .one-replies) refl refl (λ e. omega (arith, e))
 
   -- both-of counts are 0 where a call is turned away
   none-counted : (state input replies report : List ℕ) → length report ≡ 9 → (isState state ≡ false) ⊎ (12288 < length input)
@@ -182,22 +202,26 @@ module _ (g : Given) (C : Chosen g) where
   none-counted state input replies report n (inl b) = rw (bad-state (g .mode) (g .rule) state input replies report n (C .mode) (C .rule) b) (refl, refl)
   none-counted state input replies report n (inr l) = go (isState state) refl
     where
-      go : (x : Bool) → isState state ≡ x → (countAt ((runCall g state input replies report) .report) 1 ≡ 0) × (countAt ((runCall g state input replies report) .report) 5 ≡ 0)
+      go : (x : Bool) → isState state ≡ x → (countAt ((runCall g state input replies report) .report) 1 ≡ 0)
+          × (countAt ((runCall g state input replies report) .report) 5 ≡ 0)
       go true e = rw (too-long (g .mode) (g .rule) state input replies report n (C .mode) (C .rule) e l) (refl, refl)
       go false e = rw (bad-state (g .mode) (g .rule) state input replies report n (C .mode) (C .rule) e) (refl, refl)
 
   invented-counts : No g (InventedCounts g)
   invented-counts c M (wrong-taken state input replies report s i w p n q l split differs) =
-      differs (ap (λ (x : List ℕ). countAt x 1) (M .run state input replies report s i w p .report-is) ∙ counts-exact g C state input replies report n q l .0 ∙ split .taken)
+      differs (ap (λ (x : List ℕ). countAt x 1) (M .run state input replies report s i w p .report-is) ∙ counts-exact g C state input replies report n q l .0
+      ∙ split .taken)
   invented-counts c M (wrong-written state input replies report s i w p n q l split differs) =
-      differs (ap (λ (x : List ℕ). countAt x 5) (M .run state input replies report s i w p .report-is) ∙ counts-exact g C state input replies report n q l .1 ∙ split .written)
+      differs (ap (λ (x : List ℕ). countAt x 5) (M .run state input replies report s i w p .report-is) ∙ counts-exact g C state input replies report n q l .1
+      ∙ split .written)
   invented-counts c M (wrong-away state input replies report s i w p n q differs) =
       let e = M .run state input replies report s i w p .report-is in
       let z = none-counted state input replies report n (⊎-elim (λ b. inl (no-state-is state b)) inr q) in
       differs (ap (λ (x : List ℕ). countAt x 1) e ∙ z .0, ap (λ (x : List ℕ). countAt x 5) e ∙ z .1)
 
   zero-chains : No g ZeroChains
-  zero-chains c M f = apart 0x81 0 0 (sym (tells g C c M .chain) ∙ f fresh 0x01800000 (λ (n : ℕ). false) Change [] begins (tt, tt)) refl refl (λ e. omega (arith, e))
+  zero-chains c M f = apart 0x81 0 0 (sym (tells g C c M .chain) ∙ f fresh 0x01800000 (λ (n : ℕ). false) Change [] begins (tt, tt)) refl refl
+      (λ e. omega (arith, e))
 
 -- ---- the statement
 pub wrong-cores : WrongCores

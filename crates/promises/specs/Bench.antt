@@ -33,7 +33,13 @@ two code w b a r bottom status = record {
 
 -- A pushed; R, of the second width, on top of zeros
 abbrev pub one : ℕ → Width → ℕ → Width → ℕ → ℕ → BenchRow
-one code w a v r status = record { events = pushesOf (sizeOf w) a; code = code; refusal = 0; stack = bytesOf (sizeOf v) r ++ zeros (16 - sizeOf v); status = status }
+one code w a v r status = record {
+  events = pushesOf (sizeOf w) a;
+  code = code;
+  refusal = 0;
+  stack = bytesOf (sizeOf v) r ++ zeros (16 - sizeOf v);
+  status = status;
+}
 
 -- no event since reset but bytes pushed, and a refusal: the bytes stay on top of zeros and the status 0
 abbrev pub turnedAway : ℕ → List ℕ → ℕ → BenchRow

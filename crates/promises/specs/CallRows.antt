@@ -116,9 +116,11 @@ WordsToF64Rows = map (λ (r : BufferRow). wordsTurn (r .input) (r .out)) wordsTa
 -- four f64s, two of them not exact, under each rule; 17, 18, 8; 10, 15, 12 as it is given, 11 as it is rounded; no f64s
 abbrev pub floatsTable : List BufferRow
 floatsTable =
-    turned 0 (bytes "5B 5A 5A DA B6 6D 12 40 00 00 00 E0 B4 B4 3C C0 00 00 00 00 00 00 00 00 01 00 00 10 00 00 F0 3F") (replicate 17 0xee)
+    turned 0 (bytes "5B 5A 5A DA B6 6D 12 40 00 00 00 E0 B4 B4 3C C0 00 00 00 00 00 00 00 00 01 00 00 10 00 00 F0 3F")
+    (replicate 17 0xee)
     0 2 (bytes "B6 6D 93 03 A7 A5 E5 85 00 00 00 00 00 00 80 01 EE")
-    ∷ turned 1 (bytes "5B 5A 5A DA B6 6D 12 40 00 00 00 E0 B4 B4 3C C0 00 00 00 00 00 00 00 00 01 00 00 10 00 00 F0 3F") (replicate 17 0xee)
+    ∷ turned 1 (bytes "5B 5A 5A DA B6 6D 12 40 00 00 00 E0 B4 B4 3C C0 00 00 00 00 00 00 00 00 01 00 00 10 00 00 F0 3F")
+    (replicate 17 0xee)
     0 2 (bytes "B7 6D 93 03 A7 A5 E5 85 00 00 00 00 01 00 80 01 EE")
     ∷ turned 2 (bytes "5B 5A 5A DA B6 6D 12") []
     17 0 []
@@ -201,9 +203,13 @@ formulaTable =
     47 (bytes "06 00 01 00 DA 0F C9 02 06 00 01 00 6D 5B B6 01 03 00 03 00 11 06 00 01 00 C3 5A A5 7F 03 00 03 00 13"
     ++ bytes "06 00 01 00 CD AB 89 01 03 00 03 00 12 EE")
     -- 30: 31 and 33 bytes of letters, no text, a lower-case digit, seven digits, a blank, a sign first, a bracket open
-    ∷ translated "a" (bytes "02 C9 0F DA 01 B6 5B 6D 7F A5 5A C3 83 E1 D2 B4 05 9B 37 6E 41 F0 1E 2D BE 87 65 43 04 FE 7D") (bytes "EE EE EE EE EE EE EE EE")
+    ∷ translated "a"
+    (bytes "02 C9 0F DA 01 B6 5B 6D 7F A5 5A C3 83 E1 D2 B4 05 9B 37 6E 41 F0 1E 2D BE 87 65 43 04 FE 7D")
+    (bytes "EE EE EE EE EE EE EE EE")
     1966080 (bytes "EE EE EE EE EE EE EE EE")
-    ∷ translated "a" (bytes "02 C9 0F DA 01 B6 5B 6D 7F A5 5A C3 83 E1 D2 B4 05 9B 37 6E 41 F0 1E 2D BE 87 65 43 04 FE 7D AC 00") (bytes "EE EE EE EE EE EE EE EE")
+    ∷ translated "a"
+    (bytes "02 C9 0F DA 01 B6 5B 6D 7F A5 5A C3 83 E1 D2 B4 05 9B 37 6E 41 F0 1E 2D BE 87 65 43 04 FE 7D AC 00")
+    (bytes "EE EE EE EE EE EE EE EE")
     1966080 (bytes "EE EE EE EE EE EE EE EE")
     ∷ translated "" allLetters (bytes "EE EE EE EE EE EE EE EE")
     1966080 (bytes "EE EE EE EE EE EE EE EE")
@@ -262,6 +268,10 @@ longText = written "-a" ++ timesOver 127 (written "+a")
 pub record LongFormulas : Type 0 where
   pub size : length longText ≡ 256
   pub taken : formulaCall longText allLetters (replicate 1665 0xee)
-      ≡ record { result = 1664; file = bytes "06 00 01 00 DA 0F C9 02 03 00 03 00 15" ++ (timesOver 127 (bytes "06 00 01 00 DA 0F C9 02 03 00 03 00 10") ++ bytes "EE") }
+      ≡ record {
+        result = 1664;
+        file = bytes "06 00 01 00 DA 0F C9 02 03 00 03 00 15"
+            ++ (timesOver 127 (bytes "06 00 01 00 DA 0F C9 02 03 00 03 00 10") ++ bytes "EE");
+      }
   pub refused : formulaCall (written "-" ++ longText) allLetters (replicate 1669 0xee)
       ≡ record { result = 1966080; file = replicate 1669 0xee }

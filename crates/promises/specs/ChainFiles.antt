@@ -3,11 +3,11 @@
 -- round; and two chains met through the calls, under nearest and in the older mode. Definitions and the statements
 -- only: proofs/ChainFiles.antt proves them.
 -- Assumes nothing.
-use Prim.Native.Nat.{ℕ, _%_, _≤_}
+use Prim.Native.Nat.{ℕ, _+_, _%_, _≤_}
 use mathlib.Core.Path.{_≡_}
 use mathlib.Core.Bool.{Bool, true, false}
-use mathlib.Core.List.{List, [], _∷_}
-use lib.ListN.{length, take}
+use mathlib.Core.List.{List, [], _∷_, _++_}
+use lib.ListN.{length, take, drop, getD}
 use Rattle.promises.specs.Stack.{Bytes, bytesOf, tos}
 use Rattle.promises.specs.FloatWords.{Le}
 use Rattle.promises.specs.StateBytes.{cardIn}
@@ -21,13 +21,19 @@ use Rattle.promises.specs.PrintedText.{bytes}
 
 -- what is lent for records that carry a chain on a word: the events of the records, byte by byte, are the chain's; each
 -- is a whole record with room for its reply
-pub record Carries (g : Given) (state : List ℕ) (w : ℕ) (sr : ℕ → Bool) (ks : List Step) (rs : List (List ℕ)) (replies report : List ℕ) : Type 0 where
+pub record Carries (g : Given) (state : List ℕ) (w : ℕ) (sr : ℕ → Bool) (ks : List Step) (rs : List (List ℕ))
+    (replies report : List ℕ) : Type 0 where
   pub begins : Begins state w
   pub bytes-lent : Bytes (joined rs) × Bytes replies × Bytes report
   pub nine : length report ≡ 9
   pub short : length (joined rs) ≤ 12288
   pub each : EachTaken (cardIn (settingsIn g) state) rs (length replies)
   pub events-are : eventsIn rs ≡ busRun w sr ks
+
+-- a reply to each record that says 0 and hands out nothing: its length, the record's kind with 128 added, the refusal
+abbrev pub allAnswered : List (List ℕ) → List ℕ
+allAnswered [] = []
+allAnswered (r ∷ rs) = 3 ∷ 0 ∷ (getD r 2 0 + 128) ∷ 0 ∷ 0 ∷ allAnswered rs
 
 -- the word on top after the file
 abbrev pub wordAtEnd : Core → List ℕ → List (List ℕ) → List ℕ → List ℕ → ℕ
@@ -37,18 +43,25 @@ pub record ChainRecords (g : Given) (c : Core) : Type 0 where
   -- the call returns 0
   pub done : (state : List ℕ) (w : ℕ) (sr : ℕ → Bool) (ks : List Step) (rs : List (List ℕ)) (replies report : List ℕ)
       → Carries g state w sr ks rs replies report → Constants ks → (c .run state (joined rs) replies report) .result ≡ 0
+  -- every record is answered 0, error bits or not; what lies behind the replies stays
+  pub answers : (state : List ℕ) (w : ℕ) (sr : ℕ → Bool) (ks : List Step) (rs : List (List ℕ)) (replies report : List ℕ)
+      → Carries g state w sr ks rs replies report → Constants ks
+      → (c .run state (joined rs) replies report) .replies
+      ≡ allAnswered rs ++ drop (length (allAnswered rs)) replies
   -- the word of demand 2 lies on top, high byte first, a function of the word and the chain alone
   pub on-top : (state : List ℕ) (w : ℕ) (sr : ℕ → Bool) (ks : List Step) (rs : List (List ℕ)) (replies report : List ℕ)
       → Carries g state w sr ks rs replies report → Constants ks
       → take 4 ((c .run state (joined rs) replies report) .state) ≡ bytesOf 4 (wordAfter (settingsIn g .rule) w ks)
   -- where the events of neither file leave an error bit, an even number of reversing steps keeps the order of the
   -- values, and an odd number turns it round
-  pub even : (state state' : List ℕ) (v w : ℕ) (sr sr' : ℕ → Bool) (ks : List Step) (rs rs' : List (List ℕ)) (replies replies' report report' : List ℕ)
+  pub even : (state state' : List ℕ) (v w : ℕ) (sr sr' : ℕ → Bool) (ks : List Step) (rs rs' : List (List ℕ))
+      (replies replies' report report' : List ℕ)
       → Carries g state v sr ks rs replies report → Carries g state' w sr' ks rs' replies' report' → Constants ks
       → drivenQuietly c state (busRun v sr ks) ≡ true → drivenQuietly c state' (busRun w sr' ks) ≡ true → Le v w
       → reversing ks % 2 ≡ 0
       → Le (wordAtEnd c state rs replies report) (wordAtEnd c state' rs' replies' report')
-  pub odd : (state state' : List ℕ) (v w : ℕ) (sr sr' : ℕ → Bool) (ks : List Step) (rs rs' : List (List ℕ)) (replies replies' report report' : List ℕ)
+  pub odd : (state state' : List ℕ) (v w : ℕ) (sr sr' : ℕ → Bool) (ks : List Step) (rs rs' : List (List ℕ))
+      (replies replies' report report' : List ℕ)
       → Carries g state v sr ks rs replies report → Carries g state' w sr' ks rs' replies' report' → Constants ks
       → drivenQuietly c state (busRun v sr ks) ≡ true → drivenQuietly c state' (busRun w sr' ks) ≡ true → Le v w
       → reversing ks % 2 ≡ 1

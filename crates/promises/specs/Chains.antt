@@ -165,7 +165,11 @@ abbrev pub fromReset : ℕ → Run
 fromReset w = record { state = resetState; word = w; sr = λ (n : ℕ). false }
 
 abbrev pub fromFull : ℕ → Run
-fromFull w = record { state = record { stack = replicate 16 255; pending = false; status = 0x7f; service = true }; word = w; sr = λ (n : ℕ). true }
+fromFull w = record {
+  state = record { stack = replicate 16 255; pending = false; status = 0x7f; service = true };
+  word = w;
+  sr = λ (n : ℕ). true;
+}
 
 -- times 2, take from 1
 abbrev pub turned : List Step

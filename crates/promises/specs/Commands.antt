@@ -98,14 +98,17 @@ Two rule w k b a r error carry bottom = (cs : List ℕ)
 pub record FixedRows (rule : Rule) (w : Width) : Type 0 where
   -- ADD: low n bits of B + A; overflow if the exact sum does not fit; carry out; bottom holds A
   pub add-row : (b a : ℕ) → b < words w → a < words w
-      → Two rule w (Add w) b a ((b + a) % words w) (overflowIf (not (fitsIn w (valueIn w b +ℤ valueIn w a)))) (leb (words w) (b + a)) a
+      → Two rule w (Add w) b a ((b + a) % words w) (overflowIf (not (fitsIn w (valueIn w b +ℤ valueIn w a))))
+      (leb (words w) (b + a)) a
   -- SUB: low n bits of B - A; overflow if the exact difference does not fit, and for every B where A is least; borrow;
   -- bottom holds A
   pub sub-row : (b a : ℕ) → b < words w → a < words w
-      → Two rule w (Sub w) b a ((b + words w - a) % words w) (overflowIf (eqb a (least w) || not (fitsIn w (valueIn w b -ℤ valueIn w a)))) (ltb b a) a
+      → Two rule w (Sub w) b a ((b + words w - a) % words w)
+      (overflowIf (eqb a (least w) || not (fitsIn w (valueIn w b -ℤ valueIn w a)))) (ltb b a) a
   -- MUL: low half of the product; overflow if the exact product does not fit; bottom 0
   pub mul-row : (b a : ℕ) → b < words w → a < words w → (b ≡ least w → ⊥) → (a ≡ least w → ⊥)
-      → Two rule w (Mul w) b a (lowIn w (valueIn w b *ℤ valueIn w a)) (overflowIf (not (fitsIn w (valueIn w b *ℤ valueIn w a)))) false 0
+      → Two rule w (Mul w) b a (lowIn w (valueIn w b *ℤ valueIn w a))
+      (overflowIf (not (fitsIn w (valueIn w b *ℤ valueIn w a)))) false 0
   -- MUU: upper half of the product, floor of product / 2^n; no error; as MUL
   pub muu-row : (b a : ℕ) → b < words w → a < words w → (b ≡ least w → ⊥) → (a ≡ least w → ⊥)
       → Two rule w (Muu w) b a (lowIn w (shrZ (valueIn w b *ℤ valueIn w a) (words w))) 0 false 0
@@ -179,23 +182,29 @@ pub record FloatRows (rule : Rule) : Type 0 where
 pub record ConversionRows (rule : Rule) : Type 0 where
   -- FLTD: A's value, cut; R, B, C, 0
   pub fltd-row : (a b c : ℕ) → a < words Double → (ds : List ℕ)
-      → Leaves rule (Flt Double) (word Double a (word Double b (word Double c ds))) Double ((fltd rule a) .word) 0 false (word Double b (word Double c (zeros 4)))
+      → Leaves rule (Flt Double) (word Double a (word Double b (word Double c ds)))
+      Double ((fltd rule a) .word) 0 false (word Double b (word Double c (zeros 4)))
   -- FLTS: A's value; R (two cells), 16-bit B, C, D, E, 0, 0
   pub flts-row : (a b c d e : ℕ) → a < words Single → (fs : List ℕ)
-      → Leaves rule (Flt Single) (word Single a (word Single b (word Single c (word Single d (word Single e fs))))) Double ((flts a) .word) 0 false
+      → Leaves rule (Flt Single) (word Single a (word Single b (word Single c (word Single d (word Single e fs)))))
+      Double ((flts a) .word) 0 false
       (word Single b (word Single c (word Single d (word Single e (zeros 4)))))
   -- FIXD: whole part of A toward zero; R, B, C, 0
   pub fixd-row : (a b c : ℕ) → FloatWord a → wholePart a < 2 ^ 31 → (ds : List ℕ)
-      → Leaves rule (Fix Double) (word Double a (word Double b (word Double c ds))) Double (complement (2 ^ 31) (negative a) (wholePart a)) 0 false (word Double b (word Double c (zeros 4)))
+      → Leaves rule (Fix Double) (word Double a (word Double b (word Double c ds)))
+      Double (complement (2 ^ 31) (negative a) (wholePart a)) 0 false (word Double b (word Double c (zeros 4)))
   -- FIXS: the same, 16 bits; R (one cell), 32-bit B, C, then three zero cells
   pub fixs-row : (a b c : ℕ) → FloatWord a → wholePart a < 2 ^ 15 → (ds : List ℕ)
-      → Leaves rule (Fix Single) (word Double a (word Double b (word Double c ds))) Single (complement (2 ^ 15) (negative a) (wholePart a)) 0 false (word Double b (word Double c (zeros 6)))
+      → Leaves rule (Fix Single) (word Double a (word Double b (word Double c ds)))
+      Single (complement (2 ^ 15) (negative a) (wholePart a)) 0 false (word Double b (word Double c (zeros 6)))
   -- FIXD, FIXS, magnitude of the whole part over 2^31-1 or 32,767: A unchanged, overflow; A, B, C, 0; status by the
   -- 32-bit A
   pub fixd-over : (a b c : ℕ) → FloatWord a → 2 ^ 31 ≤ wholePart a → (ds : List ℕ)
-      → Leaves rule (Fix Double) (word Double a (word Double b (word Double c ds))) Double a 1 false (word Double b (word Double c (zeros 4)))
+      → Leaves rule (Fix Double) (word Double a (word Double b (word Double c ds)))
+      Double a 1 false (word Double b (word Double c (zeros 4)))
   pub fixs-over : (a b c : ℕ) → FloatWord a → 2 ^ 15 ≤ wholePart a → (ds : List ℕ)
-      → Leaves rule (Fix Single) (word Double a (word Double b (word Double c ds))) Double a 1 false (word Double b (word Double c (zeros 4)))
+      → Leaves rule (Fix Single) (word Double a (word Double b (word Double c ds)))
+      Double a 1 false (word Double b (word Double c (zeros 4)))
   -- FIXD, FIXS of a word that is not proper: 4
   pub fix-improper : (w : Width) (a : ℕ) → a < words Double → proper a ≡ false → (bs : List ℕ)
       → Refuses rule (Fix w) (word Double a bs) Improper

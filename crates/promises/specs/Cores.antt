@@ -34,14 +34,17 @@ pub record Core : Type 0 where
 -- a core meets the promises where each call keeps its contract, for every slice of bytes that can be lent
 pub record Meets (g : Given) (c : Core) : Type 0 where
   pub run : (state input replies report : List ℕ) → Bytes state → Bytes input → Bytes replies → Bytes report
-      → Calls (runCall g state input replies report) ((c .run state input replies report) .result) ((c .run state input replies report) .state)
+      → Calls (runCall g state input replies report)
+      ((c .run state input replies report) .result) ((c .run state input replies report) .state)
       ((c .run state input replies report) .replies) ((c .run state input replies report) .report)
   pub event : (state : List ℕ) (kind byte : ℕ) → Bytes state → kind < 2 ^ 32 → byte < 256
       → Signals (eventCall g state kind byte) ((c .event state kind byte) .result) ((c .event state kind byte) .state)
   pub word-to-f32 : (word : ℕ) (out : List ℕ) → word < 2 ^ 32 → Bytes out
-      → Sends (sentOf (hostReply (hostOf word)) out) ((c .word-to-f32 word out) .result) ((c .word-to-f32 word out) .out)
+      → Sends (sentOf (hostReply (hostOf word)) out) ((c .word-to-f32 word out) .result)
+      ((c .word-to-f32 word out) .out)
   pub f32-to-word : (bits : ℕ) (out : List ℕ) → bits < 2 ^ 32 → Bytes out
-      → Sends (sentOf (takenReply (takenOf bits)) out) ((c .f32-to-word bits out) .result) ((c .f32-to-word bits out) .out)
+      → Sends (sentOf (takenReply (takenOf bits)) out) ((c .f32-to-word bits out) .result)
+      ((c .f32-to-word bits out) .out)
 
 -- the core that the contracts describe
 abbrev pub described : Given → Core
@@ -85,7 +88,9 @@ driven c state (e ∷ es) = driven c ((c .event state (kindNumber e) (byteOf e))
 
 abbrev pub returned : Core → List ℕ → List Event → List ℕ
 returned c state [] = []
-returned c state (e ∷ es) = (c .event state (kindNumber e) (byteOf e)) .result ∷ returned c ((c .event state (kindNumber e) (byteOf e)) .state) es
+returned c state (e ∷ es) =
+    (c .event state (kindNumber e) (byteOf e)) .result
+    ∷ returned c ((c .event state (kindNumber e) (byteOf e)) .state) es
 
 -- a card's answers as the calls give them: 256 times the refusal plus the byte read
 abbrev pub answersOf : Card → List Event → List ℕ
@@ -127,7 +132,9 @@ clearAfter Forget state = true
 
 abbrev pub drivenQuietly : Core → List ℕ → List Event → Bool
 drivenQuietly c state [] = true
-drivenQuietly c state (e ∷ es) = clearAfter e ((c .event state (kindNumber e) (byteOf e)) .state) && drivenQuietly c ((c .event state (kindNumber e) (byteOf e)) .state) es
+drivenQuietly c state (e ∷ es) =
+    clearAfter e ((c .event state (kindNumber e) (byteOf e)) .state)
+    && drivenQuietly c ((c .event state (kindNumber e) (byteOf e)) .state) es
 
 -- ---- chains through the event call
 -- the bytes of a state that 13 does not turn away, with nothing pending, and a proper word

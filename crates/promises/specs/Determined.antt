@@ -18,19 +18,22 @@ RunDetermined =
 -- pundaliket_event: the number, and every byte of the state
 abbrev pub EventDetermined : Type 0
 EventDetermined =
-    (g : Given) (state : List ℕ) (kind byte r q : ℕ) (s t : List ℕ) → Signals (eventCall g state kind byte) r s → Signals (eventCall g state kind byte) q t
+    (g : Given) (state : List ℕ) (kind byte r q : ℕ) (s t : List ℕ) → Signals (eventCall g state kind byte) r s
+    → Signals (eventCall g state kind byte) q t
     → (r ≡ q) × (s ≡ t)
 
 -- pundaliket_word_to_f32: the refusal, and every byte of the slice
 abbrev pub WordToF32Determined : Type 0
 WordToF32Determined =
-    (word : ℕ) (out : List ℕ) (r q : ℕ) (s t : List ℕ) → Sends (sentOf (hostReply (hostOf word)) out) r s → Sends (sentOf (hostReply (hostOf word)) out) q t
+    (word : ℕ) (out : List ℕ) (r q : ℕ) (s t : List ℕ) → Sends (sentOf (hostReply (hostOf word)) out) r s
+    → Sends (sentOf (hostReply (hostOf word)) out) q t
     → (r ≡ q) × (s ≡ t)
 
 -- pundaliket_f32_to_word: the refusal, and every byte of the slice
 abbrev pub F32ToWordDetermined : Type 0
 F32ToWordDetermined =
-    (bits : ℕ) (out : List ℕ) (r q : ℕ) (s t : List ℕ) → Sends (sentOf (takenReply (takenOf bits)) out) r s → Sends (sentOf (takenReply (takenOf bits)) out) q t
+    (bits : ℕ) (out : List ℕ) (r q : ℕ) (s t : List ℕ) → Sends (sentOf (takenReply (takenOf bits)) out) r s
+    → Sends (sentOf (takenReply (takenOf bits)) out) q t
     → (r ≡ q) × (s ≡ t)
 
 -- what the relations of the contracts say: the number returned is the definition's, and so is every byte of every slice

@@ -55,7 +55,8 @@ inward rule p = inwardEntry (inwardOf rule p)
 abbrev pub OutwardExact : Type 0
 OutwardExact =
     (w : ℕ) → w < 2 ^ 32 →
-    (proper w ≡ true → (outward w .refusal ≡ 0) × HasValue (ofBits binary64 (outward w .bits)) (negative w) (size88 w) (2 ^ 88))
+    (proper w ≡ true → (outward w .refusal ≡ 0)
+    × HasValue (ofBits binary64 (outward w .bits)) (negative w) (size88 w) (2 ^ 88))
     × (proper w ≡ false → outward w .refusal ≡ 4)
 
 -- 10, 15, 12 and 11 exclude each other, and 10, 12 and 11 a proper word of the value
@@ -99,12 +100,14 @@ BroughtOnce = (rule : Rule) (x : Float) (w v : ℕ) → BroughtTo rule x w → B
 
 -- the i-th word of a buffer, and the i-th f64, low byte first; i is from 0
 abbrev pub wordIn : List ℕ → ℕ → ℕ
-wordIn l i = getD l (i * 4) 0 + getD l (i * 4 + 1) 0 * 256 + getD l (i * 4 + 2) 0 * 65536 + getD l (i * 4 + 3) 0 * 16777216
+wordIn l i =
+    getD l (i * 4) 0 + getD l (i * 4 + 1) 0 * 256 + getD l (i * 4 + 2) 0 * 65536 + getD l (i * 4 + 3) 0 * 16777216
 
 abbrev pub floatIn : List ℕ → ℕ → ℕ
 floatIn l i =
     getD l (i * 8) 0 + getD l (i * 8 + 1) 0 * 2 ^ 8 + getD l (i * 8 + 2) 0 * 2 ^ 16 + getD l (i * 8 + 3) 0 * 2 ^ 24
-    + getD l (i * 8 + 4) 0 * 2 ^ 32 + getD l (i * 8 + 5) 0 * 2 ^ 40 + getD l (i * 8 + 6) 0 * 2 ^ 48 + getD l (i * 8 + 7) 0 * 2 ^ 56
+    + getD l (i * 8 + 4) 0 * 2 ^ 32 + getD l (i * 8 + 5) 0 * 2 ^ 40 + getD l (i * 8 + 6) 0 * 2 ^ 48
+    + getD l (i * 8 + 7) 0 * 2 ^ 56
 
 -- their bytes
 abbrev pub wordBytes : ℕ → List ℕ
@@ -112,7 +115,8 @@ wordBytes w = w % 256 ∷ w / 256 % 256 ∷ w / 65536 % 256 ∷ w / 16777216 % 2
 
 abbrev pub floatBytes : ℕ → List ℕ
 floatBytes p =
-    p % 256 ∷ p / 2 ^ 8 % 256 ∷ p / 2 ^ 16 % 256 ∷ p / 2 ^ 24 % 256 ∷ p / 2 ^ 32 % 256 ∷ p / 2 ^ 40 % 256 ∷ p / 2 ^ 48 % 256 ∷ p / 2 ^ 56 % 256 ∷ []
+    p % 256 ∷ p / 2 ^ 8 % 256 ∷ p / 2 ^ 16 % 256 ∷ p / 2 ^ 24 % 256 ∷ p / 2 ^ 32 % 256 ∷ p / 2 ^ 40 % 256
+    ∷ p / 2 ^ 48 % 256 ∷ p / 2 ^ 56 % 256 ∷ []
 
 -- what a call returns, its number, and what `out` holds after
 abbrev pub turned : ℕ → ℕ → List ℕ → Turn
@@ -134,7 +138,8 @@ pub record WordsCall (words out : List ℕ) : Type 0 where
       → ((j : ℕ) → j < length words / 4 → outward (wordIn words j) .refusal ≡ 0)
       → (wordsTurn words out .result ≡ 0)
       × (wordsTurn words out .number ≡ 0)
-      × ((i : ℕ) → i < length words / 4 → take 8 (drop (i * 8) (wordsTurn words out .out)) ≡ floatBytes (outward (wordIn words i) .bits))
+      × ((i : ℕ) → i < length words / 4
+      → take 8 (drop (i * 8) (wordsTurn words out .out)) ≡ floatBytes (outward (wordIn words i) .bits))
       × (drop (2 * length words) (wordsTurn words out .out) ≡ drop (2 * length words) out)
       × (length (wordsTurn words out .out) ≡ length out)
 
@@ -173,7 +178,8 @@ pub record FloatsCall (floats out : List ℕ) : Type 0 where
       → ((j : ℕ) → j < length floats / 8 → inward how (floatIn floats j) .refusal ≡ 0)
       → (floatsTurn rule floats out .result ≡ 0)
       × (floatsTurn rule floats out .number ≡ howMany (λ (j : ℕ). inwardOf how (floatIn floats j)) (length floats / 8))
-      × ((i : ℕ) → i < length floats / 8 → take 4 (drop (i * 4) (floatsTurn rule floats out .out)) ≡ wordBytes (inward how (floatIn floats i) .bits))
+      × ((i : ℕ) → i < length floats / 8
+      → take 4 (drop (i * 4) (floatsTurn rule floats out .out)) ≡ wordBytes (inward how (floatIn floats i) .bits))
       × (drop (length floats / 2) (floatsTurn rule floats out .out) ≡ drop (length floats / 2) out)
       × (length (floatsTurn rule floats out .out) ≡ length out)
 
@@ -195,7 +201,8 @@ abbrev pub WordsBack : Type 0
 WordsBack =
     (rule : ℕ) → rule < 2 → (words out back : List ℕ) → Bytes words → wordsTurn words out .result ≡ 0
     → length words ≤ length back
-    → floatsTurn rule (take (2 * length words) (wordsTurn words out .out)) back ≡ turned 0 0 (words ++ drop (length words) back)
+    → floatsTurn rule (take (2 * length words) (wordsTurn words out .out)) back
+    ≡ turned 0 0 (words ++ drop (length words) back)
 
 -- and a buffer of f64s that was turned to words, no entry rounded
 abbrev pub FloatsBack : Type 0

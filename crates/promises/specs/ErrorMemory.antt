@@ -34,7 +34,8 @@ abbrev pub callHistory : Core → List ℕ → List Event → History → Histor
 callHistory c state [] h = h
 callHistory c state (e ∷ es) h =
     callHistory c ((c .event state (kindNumber e) (byteOf e)) .state) es
-    (noted e ((c .event state (kindNumber e) (byteOf e)) .result) (getD ((c .event state (kindNumber e) (byteOf e)) .state) 17 0) h)
+    (noted e ((c .event state (kindNumber e) (byteOf e)) .result)
+    (getD ((c .event state (kindNumber e) (byteOf e)) .state) 17 0) h)
 
 -- the two bytes behind the 19
 abbrev pub memoryAt : List ℕ → Memory
@@ -84,8 +85,10 @@ pub record MemoryIsHistory (g : Given) (c : Core) : Type 0 where
       ≡ rememberedAfter (cardIn (settingsIn g) state) (eventsIn rs)
   -- files on 19 or 21 bytes: a record of kind 7 behind them is answered with the two, which on 19 bytes began empty
   pub recalled : (state : List ℕ) (rs : List (List ℕ)) (replies report : List ℕ) → Lent g state rs replies report
-      → take 7 (drop (length (joined (repliesOf (cardIn (settingsIn g) state) rs (length replies)))) ((c .run state (joined rs ++ (2 ∷ 0 ∷ 7 ∷ 0 ∷ [])) replies report) .replies))
-      ≡ 5 ∷ 0 ∷ 135 ∷ 0 ∷ 0 ∷ rememberedAfter (cardIn (settingsIn g) state) (eventsIn rs) .bits ∷ rememberedAfter (cardIn (settingsIn g) state) (eventsIn rs) .code ∷ []
+      → take 7 (drop (length (joined (repliesOf (cardIn (settingsIn g) state) rs (length replies))))
+      ((c .run state (joined rs ++ (2 ∷ 0 ∷ 7 ∷ 0 ∷ [])) replies report) .replies))
+      ≡ 5 ∷ 0 ∷ 135 ∷ 0 ∷ 0 ∷ rememberedAfter (cardIn (settingsIn g) state) (eventsIn rs) .bits
+      ∷ rememberedAfter (cardIn (settingsIn g) state) (eventsIn rs) .code ∷ []
 
 abbrev pub ErrorMemory : Type 0
 ErrorMemory = (g : Given) → Chosen g → (c : Core) → Meets g c → MemoryIsHistory g c

@@ -79,7 +79,8 @@ abbrev pub EventFiles : Type 0
 EventFiles =
     (g : Given) → Chosen g → (c : Core) → Meets g c → (state : List ℕ) (es : List Event) (replies report : List ℕ)
     → Sendable es → Lent c state es replies report
-    → FileOfEvents (c .run state (fileOf es) replies report) es (driven c state es) (returned c state es) (codesBefore c state es) replies
+    → FileOfEvents (c .run state (fileOf es) replies report) es (driven c state es) (returned c state es)
+    (codesBefore c state es) replies
 
 -- ---- demand 3 for files: the file of a chain's events
 abbrev pub chainFile : ℕ → (ℕ → Bool) → List Step → List ℕ
@@ -105,15 +106,20 @@ pub record ChainFiles (g : Given) (c : Core) : Type 0 where
       ≡ bytesOf 4 (wordAfter (settingsIn g .rule) w ks)
   -- where the events of neither file leave an error bit, an even number of reversing steps keeps the order of the
   -- values, and an odd number turns it round
-  pub even : (state state' : List ℕ) (v w : ℕ) (sr sr' : ℕ → Bool) (ks : List Step) (replies replies' report report' : List ℕ) → Begins state v → Begins state' w → Constants ks
+  pub even : (state state' : List ℕ) (v w : ℕ) (sr sr' : ℕ → Bool) (ks : List Step)
+      (replies replies' report report' : List ℕ) → Begins state v → Begins state' w → Constants ks
       → Lent c state (busRun v sr ks) replies report → Lent c state' (busRun w sr' ks) replies' report'
-      → drivenQuietly c state (busRun v sr ks) ≡ true → drivenQuietly c state' (busRun w sr' ks) ≡ true → Le v w → reversing ks % 2 ≡ 0
-      → Le (tos 4 ((c .run state (chainFile v sr ks) replies report) .state)) (tos 4 ((c .run state' (chainFile w sr' ks) replies' report') .state))
-  pub odd : (state state' : List ℕ) (v w : ℕ) (sr sr' : ℕ → Bool) (ks : List Step) (replies replies' report report' : List ℕ) → Begins state v → Begins state' w → Constants ks
+      → drivenQuietly c state (busRun v sr ks) ≡ true → drivenQuietly c state' (busRun w sr' ks) ≡ true
+      → Le v w → reversing ks % 2 ≡ 0
+      → Le (tos 4 ((c .run state (chainFile v sr ks) replies report) .state))
+      (tos 4 ((c .run state' (chainFile w sr' ks) replies' report') .state))
+  pub odd : (state state' : List ℕ) (v w : ℕ) (sr sr' : ℕ → Bool) (ks : List Step)
+      (replies replies' report report' : List ℕ) → Begins state v → Begins state' w → Constants ks
       → Lent c state (busRun v sr ks) replies report → Lent c state' (busRun w sr' ks) replies' report'
-      → drivenQuietly c state (busRun v sr ks) ≡ true → drivenQuietly c state' (busRun w sr' ks) ≡ true → Le v w
-      → reversing ks % 2 ≡ 1
-      → Le (tos 4 ((c .run state' (chainFile w sr' ks) replies' report') .state)) (tos 4 ((c .run state (chainFile v sr ks) replies report) .state))
+      → drivenQuietly c state (busRun v sr ks) ≡ true → drivenQuietly c state' (busRun w sr' ks) ≡ true
+      → Le v w → reversing ks % 2 ≡ 1
+      → Le (tos 4 ((c .run state' (chainFile w sr' ks) replies' report') .state))
+      (tos 4 ((c .run state (chainFile v sr ks) replies report) .state))
 
 abbrev pub Demand3Files : Type 0
 Demand3Files = (g : Given) → Chosen g → (c : Core) → Meets g c → ChainFiles g c

@@ -19,7 +19,14 @@ pub record EventRow : Type 0 where
   pub after : Signal
 
 abbrev pub sent : ℕ → ℕ → List ℕ → ℕ → ℕ → ℕ → List ℕ → EventRow
-sent mode rule state kind byte result state' = record { mode = mode; rule = rule; state = state; kind = kind; byte = byte; after = record { result = result; state = state' } }
+sent mode rule state kind byte result state' = record {
+  mode = mode;
+  rule = rule;
+  state = state;
+  kind = kind;
+  byte = byte;
+  after = record { result = result; state = state' };
+}
 
 -- the rows
 abbrev pub eventTable : List EventRow

@@ -45,7 +45,10 @@ row2 = unknowns 12 ++ (Known (Add Double) ∷ Known (Sub Double) ∷ Known (Mul 
 
 -- 30 to 3F: CHSD at 34, DMUU, PTOD, POPD, XCHD from 36
 abbrev pub row3 : List Kind
-row3 = unknowns 4 ++ (Known (Chs Double) ∷ Unknown ∷ Known (Muu Double) ∷ Known (Pto Double) ∷ Known (Pop Double) ∷ Known (Xch Double) ∷ unknowns 6)
+row3 =
+    unknowns 4
+    ++ (Known (Chs Double) ∷ Unknown ∷ Known (Muu Double) ∷ Known (Pto Double) ∷ Known (Pop Double) ∷ Known (Xch Double)
+    ∷ unknowns 6)
 
 -- 60 to 6F: SADD, SSUB, SMUL, SDIV last
 abbrev pub row6 : List Kind
@@ -53,7 +56,10 @@ row6 = unknowns 12 ++ (Known (Add Single) ∷ Known (Sub Single) ∷ Known (Mul 
 
 -- 70 to 7F: CHSS at 74, SMUU, PTOS, POPS, XCHS from 76
 abbrev pub row7 : List Kind
-row7 = unknowns 4 ++ (Known (Chs Single) ∷ Unknown ∷ Known (Muu Single) ∷ Known (Pto Single) ∷ Known (Pop Single) ∷ Known (Xch Single) ∷ unknowns 6)
+row7 =
+    unknowns 4
+    ++ (Known (Chs Single) ∷ Unknown ∷ Known (Muu Single) ∷ Known (Pto Single) ∷ Known (Pop Single) ∷ Known (Xch Single)
+    ∷ unknowns 6)
 
 abbrev pub chart : List Kind
 chart = row0 ++ (row1 ++ (row2 ++ (row3 ++ (unknowns 16 ++ (unknowns 16 ++ (row6 ++ row7))))))
@@ -74,7 +80,9 @@ pub record Figures : Type 0 where
   -- words of 2 and 4 bytes
   pub widths : (sizeOf Single ≡ 2) × (sizeOf Double ≡ 4) × (bitsOf Single ≡ 16) × (bitsOf Double ≡ 32)
   -- the column 'no.' of 01's table of refusals, and 02's 15 to 18
-  pub refusals : map numberOf (Done ∷ UnknownCode ∷ DerivedCode ∷ HalfWord ∷ Improper ∷ NoSuchKind ∷ CutShort ∷ BadLength ∷ NoRoom ∷ InputTooLong ∷ NotFinite ∷ TooLarge ∷ TooSmall ∷ BadState ∷ BadReport ∷ MinusZero ∷ BadMode ∷ BadRule ∷ PartEntry ∷ [])
+  pub refusals : map numberOf (Done ∷ UnknownCode ∷ DerivedCode ∷ HalfWord ∷ Improper ∷ NoSuchKind ∷ CutShort
+      ∷ BadLength ∷ NoRoom ∷ InputTooLong ∷ NotFinite ∷ TooLarge ∷ TooSmall ∷ BadState ∷ BadReport ∷ MinusZero ∷ BadMode
+      ∷ BadRule ∷ PartEntry ∷ [])
       ≡ 0 ∷ 1 ∷ 2 ∷ 3 ∷ 4 ∷ 5 ∷ 6 ∷ 7 ∷ 8 ∷ 9 ∷ 10 ∷ 11 ∷ 12 ∷ 13 ∷ 14 ∷ 15 ∷ 16 ∷ 17 ∷ 18 ∷ []
   -- every code without its bit 7
   pub codes : map decoded (from 128 0) ≡ chart

@@ -50,7 +50,8 @@ pub data Refuses (text letters : List ℕ) (room : ℕ) : ℕ → Type 0 where
   needs-more : (f : Formula) → Stated text letters f → properIn letters f ≡ true → 4 < needOf f
       → Refuses text letters room 32
   -- "33 no room for the whole file"
-  no-room : (f : Formula) → Stated text letters f → properIn letters f ≡ true → needOf f ≤ 4 → room < length (fileOf letters f) → Refuses text letters room 33
+  no-room : (f : Formula) → Stated text letters f → properIn letters f ≡ true → needOf f ≤ 4
+      → room < length (fileOf letters f) → Refuses text letters room 33
 
 -- a text that is translated
 pub record Takes (text letters : List ℕ) (room : ℕ) (f : Formula) : Type 0 where
@@ -61,7 +62,8 @@ pub record Takes (text letters : List ℕ) (room : ℕ) (f : Formula) : Type 0 w
 
 pub record FormulaRefusals : Type 0 where
   -- "each writing nothing"; the low 16 bits of the result are 0
-  pub refused : (text letters file : List ℕ) (n : ℕ) → Refuses text letters (length file) n → formulaCall text letters file ≡ record { result = 65536 * n; file = file }
+  pub refused : (text letters file : List ℕ) (n : ℕ) → Refuses text letters (length file) n
+      → formulaCall text letters file ≡ record { result = 65536 * n; file = file }
   -- any other has its file at the front of what was lent, the rest as it was, and the bytes of the file as the result
   pub translated : (text letters file : List ℕ) (f : Formula) → Takes text letters (length file) f
       → formulaCall text letters file
@@ -112,7 +114,8 @@ pub record FormulaRuns : Type 0 where
   pub calls : (g : Given) → Chosen g → (state replies report text letters file : List ℕ) (f : Formula)
       → Takes text letters (length file) f → Bytes letters
       → Bytes state → IsState state → getD state 16 0 ≡ 0 → length report ≡ 9 → length (repliesTo f) ≤ length replies
-      → EvaluatesCall (runCall g state (fileIn (formulaCall text letters file)) replies report) (fileIn (formulaCall text letters file)) (repliesTo f) replies (evaluated (settingsIn g .rule) letters f)
+      → EvaluatesCall (runCall g state (fileIn (formulaCall text letters file)) replies report)
+      (fileIn (formulaCall text letters file)) (repliesTo f) replies (evaluated (settingsIn g .rule) letters f)
   -- the word is proper, whatever overflowed on the way
   pub proper : (rule : Rule) (text letters file : List ℕ) (f : Formula) → Takes text letters (length file) f
       → Bytes letters → FloatWord (evaluated rule letters f)
@@ -141,7 +144,8 @@ pub record WrongTranslators : Type 0 where
 -- the words 3, 1 and 2 for a, b and c; 0 for all others but h, whose word is not proper
 abbrev pub lettersGiven : List ℕ
 lettersGiven =
-    0x02 ∷ 0xC0 ∷ 0 ∷ 0 ∷ 0x01 ∷ 0x80 ∷ 0 ∷ 0 ∷ 0x02 ∷ 0x80 ∷ 0 ∷ 0 ∷ 0 ∷ 0 ∷ 0 ∷ 0 ∷ 0 ∷ 0 ∷ 0 ∷ 0 ∷ 0 ∷ 0 ∷ 0 ∷ 0 ∷ 0 ∷ 0 ∷ 0 ∷ 0 ∷ 0x01 ∷ 0x40 ∷ 0 ∷ 0 ∷ []
+    0x02 ∷ 0xC0 ∷ 0 ∷ 0 ∷ 0x01 ∷ 0x80 ∷ 0 ∷ 0 ∷ 0x02 ∷ 0x80 ∷ 0 ∷ 0 ∷ 0 ∷ 0 ∷ 0 ∷ 0 ∷ 0 ∷ 0 ∷ 0 ∷ 0 ∷ 0 ∷ 0 ∷ 0 ∷ 0 ∷ 0
+    ∷ 0 ∷ 0 ∷ 0 ∷ 0x01 ∷ 0x40 ∷ 0 ∷ 0 ∷ []
 
 -- a call with these letters and so much room, zeros lent
 abbrev pub asked : ℕ → String → Wrote
@@ -153,7 +157,9 @@ turnedAway n room = record { result = 65536 * n; file = replicate room 0 }
 
 pub record FormulaExamples : Type 0 where
   -- 02's own: its tree, its file and its word, (3 - 1) / 2 * 1
-  pub own-tree : IsText (written "(a-b)/c*#01800000") (Joined Times (Joined Over (Brackets (Joined Less (Letter 0) (Letter 1))) (Letter 2)) (Constant (written "01800000")))
+  pub own-tree : IsText (written "(a-b)/c*#01800000")
+      (Joined Times (Joined Over (Brackets (Joined Less (Letter 0) (Letter 1))) (Letter 2))
+      (Constant (written "01800000")))
   pub own-file : asked 47 "(a-b)/c*#01800000" ≡ record {
     result = 47;
     file =
@@ -166,7 +172,9 @@ pub record FormulaExamples : Type 0 where
         ∷ 3 ∷ 0 ∷ 3 ∷ 0 ∷ 0x12
         ∷ [];
   }
-  pub own-word : evaluated Cut lettersGiven (Joined Times (Joined Over (Brackets (Joined Less (Letter 0) (Letter 1))) (Letter 2)) (Constant (written "01800000"))) ≡ 0x01800000
+  pub own-word : evaluated Cut lettersGiven
+      (Joined Times (Joined Over (Brackets (Joined Less (Letter 0) (Letter 1))) (Letter 2))
+      (Constant (written "01800000"))) ≡ 0x01800000
   -- one byte short, and one to spare
   pub own-room : (asked 46 "(a-b)/c*#01800000" ≡ turnedAway 33 46)
       × (getD (asked 48 "(a-b)/c*#01800000" .file) 47 1 ≡ 0)
@@ -178,7 +186,10 @@ pub record FormulaExamples : Type 0 where
   pub stronger : IsText (written "a+b*c") (Joined Plus (Letter 0) (Joined Times (Letter 1) (Letter 2)))
   -- a need of five is too much, and its mirror has one of two
   pub five : asked 65 "a-(b-(c-(d-e)))" ≡ turnedAway 32 65
-  pub two : (asked 65 "(((a-b)-c)-d)-e" .result ≡ 60) × (needOf (Joined Less (Brackets (Joined Less (Brackets (Joined Less (Brackets (Joined Less (Letter 0) (Letter 1))) (Letter 2))) (Letter 3))) (Letter 4)) ≡ 2)
+  pub two : (asked 65 "(((a-b)-c)-d)-e" .result ≡ 60)
+      × (needOf
+      (Joined Less (Brackets (Joined Less (Brackets (Joined Less (Brackets (Joined Less (Letter 0) (Letter 1)))
+      (Letter 2))) (Letter 3))) (Letter 4)) ≡ 2)
   -- 16 levels and 17, of minus signs, of brackets, and of both
   pub sixteen : (asked 88 "----------------a" .result ≡ 88) × (asked 8 "((((((((((((((((a))))))))))))))))" .result ≡ 8)
       × (asked 48 "(-(-(-(-(-(-(-(-a))))))))" .result ≡ 48)

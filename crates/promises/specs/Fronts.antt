@@ -20,7 +20,8 @@ pub record Fronts : Type 0 where
   pub bad-length : (s : Card) (room a b : ℕ) (rest : List ℕ) → (a + b * 256 < 2) ⊎ (242 < a + b * 256)
       → Stops s (a ∷ b ∷ rest) room 7
   -- bytes missing: 6, whatever the kind
-  pub bytes-missing : (s : Card) (room a b : ℕ) (rest : List ℕ) → 2 ≤ a + b * 256 → a + b * 256 ≤ 242 → length rest < a + b * 256 → Stops s (a ∷ b ∷ rest) room 6
+  pub bytes-missing : (s : Card) (room a b : ℕ) (rest : List ℕ) → 2 ≤ a + b * 256 → a + b * 256 ≤ 242
+      → length rest < a + b * 256 → Stops s (a ∷ b ∷ rest) room 6
   -- a kind that is not 1 to 8, both bytes of it looked at: 5, whatever the payload of n bytes
   pub bad-kind : (s : Card) (room n c d : ℕ) (rest : List ℕ) → n ≤ 240 → n ≤ length rest
       → (c + d * 256 ≡ 0) ⊎ (8 < c + d * 256) → Stops s ((2 + n) ∷ 0 ∷ c ∷ d ∷ rest) room 5

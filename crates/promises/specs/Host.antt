@@ -33,7 +33,8 @@ pub record Gives (r : Reply) (bits : ℕ) : Type 0 where
 abbrev pub ValueKept : Type 0
 ValueKept =
     (w : ℕ) → w < 2 ^ 32 →
-    (proper w ≡ true → (number (outward w) ≡ 0) × HasValue (ofBits binary32 (outward w .bits)) (negative w) (size88 w) (2 ^ 88))
+    (proper w ≡ true → (number (outward w) ≡ 0)
+    × HasValue (ofBits binary32 (outward w .bits)) (negative w) (size88 w) (2 ^ 88))
     × (proper w ≡ false → number (outward w) ≡ 4)
 
 -- An f32 is answered 0 with a word exactly if that is a proper word of its value and the f32 is not minus zero.

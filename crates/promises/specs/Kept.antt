@@ -86,7 +86,8 @@ abbrev pub RepliesStay : Type 0
 RepliesStay =
     (g : Given) (state input replies report : List ℕ)
     → (length (runCall g state input replies report .replies) ≡ length replies)
-    × ((i : ℕ) → countAt (runCall g state input replies report .report) 5 ≤ i → getD (runCall g state input replies report .replies) i 0 ≡ getD replies i 0)
+    × ((i : ℕ) → countAt (runCall g state input replies report .report) 5 ≤ i
+    → getD (runCall g state input replies report .replies) i 0 ≡ getD replies i 0)
 
 -- ---- a bad file
 
@@ -95,7 +96,8 @@ abbrev pub StopsThere : Type 0
 StopsThere =
     (s : Card) (l : List ℕ) (room : ℕ) → (runOf s l room .refusal ≡ 0 → ⊥)
     → (5 ≤ runOf s l room .refusal) × (runOf s l room .refusal ≤ 8)
-    × (runOf (runOf s l room .state) (drop (runOf s l room .taken) l) (room - length (runOf s l room .written)) ≡ ended (runOf s l room .refusal) (runOf s l room .state))
+    × (runOf (runOf s l room .state) (drop (runOf s l room .taken) l) (room - length (runOf s l room .written))
+    ≡ ended (runOf s l room .refusal) (runOf s l room .state))
 
 -- all that it leaves but the refusal is what the file of the bytes taken leaves: the records done before, and nothing
 -- of the one that stops

@@ -1,18 +1,16 @@
--- 01, 'The listing program', for every input: its lines are those of the records taken, then the last line. Definitions
--- and the statements only:
--- proofs/Listings.antt proves them. Assumes nothing.
+-- 01, 'The listing program', for every input and every mode and rule: its lines are those of the records taken, then
+-- the last line. Definitions and the statements only: proofs/Listings.antt proves them. Assumes nothing.
 use Prim.Native.Nat.{ℕ, _+_, _*_, _-_, _/_, _%_, _^_, _≤_, _<_}
 use mathlib.Core.Path.{_≡_}
 use mathlib.Core.List.{List, [], _∷_, _++_, map}
 use lib.ListN.{length, drop, getD}
-use Rattle.terms.specs.declared.Mode.the-variants.{Am9511A}
-use Rattle.terms.specs.declared.Rule.the-variants.{Cut}
 use Rattle.listing.specs.Listing.{replyKind, replyRefusal, replySize, replyData}
-use Rattle.list_text.specs.Printout.{printoutOf}
-use Rattle.promises.specs.PrintedText.{digit, decimal}
+use Rattle.list_text.specs.Printout.{toldOf}
+use Rattle.promises.specs.PrintedText.{written, digit, decimal}
 use Rattle.promises.specs.Subjects.{Card, runOf}
-use Rattle.promises.specs.BusEvents.{resetState, given}
+use Rattle.promises.specs.BusEvents.{resetState}
 use Rattle.promises.specs.Remembered.{emptyMemory, cardWith}
+use Rattle.promises.specs.Given.{Given, settingsIn}
 use Rattle.promises.specs.Records.{total, lengths, Split}
 
 -- ---- characters
@@ -54,7 +52,8 @@ hexText (b ∷ bs) = 32 ∷ digit (b / 16) ∷ digit (b % 16) ∷ hexText bs
 -- a record's line: its number, its own kind, the refusal of its reply, the data of its reply; a newline (10) ends it
 abbrev pub recordLine : ℕ → List ℕ → List ℕ → List ℕ
 recordLine number r reply =
-    decimal number ++ ((32 ∷ decimal (getD r 2 0 + getD r 3 0 * 256)) ++ ((32 ∷ decimal (getD reply 4 0)) ++ (hexText (drop 5 reply) ++ (10 ∷ []))))
+    decimal number ++ ((32 ∷ decimal (getD r 2 0 + getD r 3 0 * 256))
+    ++ ((32 ∷ decimal (getD reply 4 0)) ++ (hexText (drop 5 reply) ++ (10 ∷ []))))
 
 -- the lines of records in turn, each run as a file of its own on the card and in the room that the one before left
 abbrev pub linesFor : ℕ → Card → List (List ℕ) → ℕ → List ℕ
@@ -67,19 +66,35 @@ linesFor number s (r ∷ rs) room =
 abbrev pub lastLine : ℕ → ℕ → List ℕ
 lastLine refusal taken = 101 ∷ 110 ∷ 100 ∷ ((32 ∷ decimal refusal) ++ ((32 ∷ decimal taken) ++ (10 ∷ [])))
 
--- the card after a reset
-abbrev pub fresh : Card
-fresh = cardWith (given Am9511A Cut) resetState emptyMemory
+-- ---- calls
+-- the mode and the rule of a call of so many words, its own name among them: 0 and 0; 1 for the older part; 1 for
+-- nearest; both, the mode's first
+pub data Asks (words : ℕ) (first second : List ℕ) : Given → Type 0 where
+  neither : words ≡ 1 → Asks words first second (record { mode = 0; rule = 0 })
+  older : words ≡ 2 → first ≡ written "--am9511" → Asks words first second (record { mode = 1; rule = 0 })
+  nearest : words ≡ 2 → first ≡ written "--nearest" → Asks words first second (record { mode = 0; rule = 1 })
+  both : words ≡ 3 → first ≡ written "--am9511" → second ≡ written "--nearest"
+      → Asks words first second (record { mode = 1; rule = 1 })
+
+-- the card after a reset, under them
+abbrev pub fresh : Given → Card
+fresh g = cardWith (settingsIn g) resetState emptyMemory
 
 pub record Listings : Type 0 where
   -- an input of at most 12,288 bytes, run from reset with 65,536 bytes of room and split into the records taken and the
   -- rest (Records: every file splits so):
   -- a line for each record taken, numbered from 1, then the last line
-  pub printed : (input : List ℕ) → length input ≤ 12288 → (split : Split fresh input 65536 (runOf fresh input 65536))
-      → printoutOf input ≡ linesFor 1 fresh (split .records) 65536
-      ++ lastLine (runOf fresh input 65536 .refusal) (total (lengths (split .records)))
+  pub printed : (words : ℕ) (first second input : List ℕ) (g : Given) → Asks words first second g
+      → length input ≤ 12288 → (split : Split (fresh g) input 65536 (runOf (fresh g) input 65536))
+      → toldOf words first second input
+      ≡ linesFor 1 (fresh g) (split .records) 65536
+      ++ lastLine (runOf (fresh g) input 65536 .refusal) (total (lengths (split .records)))
   -- a longer one prints only `end 9 0`
-  pub long : (input : List ℕ) → 12288 < length input → printoutOf input ≡ 101 ∷ 110 ∷ 100 ∷ 32 ∷ 57 ∷ 32 ∷ 48 ∷ 10 ∷ []
+  pub long : (words : ℕ) (first second input : List ℕ) (g : Given) → Asks words first second g
+      → 12288 < length input → toldOf words first second input ≡ written "end 9 0" ++ (10 ∷ [])
+  -- any other call prints `usage`
+  pub usage : (words : ℕ) (first second input : List ℕ) → ((g : Given) → Asks words first second g → ⊥)
+      → toldOf words first second input ≡ written "usage" ++ (10 ∷ [])
   -- a reply that the run writes is the reply that the listing reads, whatever follows it; its word has no bit 15, which
   -- marks the kinds of module sheets
   pub read-back : (kind refusal : ℕ) (bytes rest : List ℕ) → kind + 128 < 32768

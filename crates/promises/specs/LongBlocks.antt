@@ -22,7 +22,12 @@ pub record LongBlocks : Type 0 where
   pub push-240 : (on : Settings) (s : State) (m : Memory) (payload : List ℕ) (room : ℕ) → busy s ≡ false
       → length (s .stack) ≡ 16 → length payload ≡ 240 → 5 ≤ room
       → runOf (cardWith on s m) (242 ∷ 0 ∷ 1 ∷ 0 ∷ payload) room
-      ≡ took (cardWith on (record { stack = reverse (drop 224 payload); pending = s .pending; status = s .status; service = s .service }) m) 244 (3 ∷ 0 ∷ 129 ∷ 0 ∷ 0 ∷ [])
+      ≡ took (cardWith on (record {
+        stack = reverse (drop 224 payload);
+        pending = s .pending;
+        status = s .status;
+        service = s .service;
+      }) m) 244 (3 ∷ 0 ∷ 129 ∷ 0 ∷ 0 ∷ [])
   -- one whole pop of 240 hands out the 16 bytes fifteen times over and leaves the state as it was; its reply says 243
   -- bytes
   pub pop-240 : (on : Settings) (s : State) (m : Memory) (room : ℕ) → busy s ≡ false → length (s .stack) ≡ 16

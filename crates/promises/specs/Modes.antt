@@ -87,7 +87,8 @@ pub record ModesAlike : Type 0 where
       → SameRun (runOf (cardWith on s m) file room) (runOf (cardWith by s m) file room)
   -- so the calls: the same number, and every byte of every slice
   pub calls : (g h : Given) → Chosen g → Chosen h → g .rule ≡ h .rule → (state input replies report : List ℕ)
-      → (split : Split (cardIn (settingsIn g) state) input (length replies) (runOf (cardIn (settingsIn g) state) input (length replies))) → NoReset (split .records)
+      → (split : Split (cardIn (settingsIn g) state) input (length replies)
+      (runOf (cardIn (settingsIn g) state) input (length replies))) → NoReset (split .records)
       → runCall g state input replies report ≡ runCall h state input replies report
   -- and an event of any other kind
   pub events : (g h : Given) → Chosen g → Chosen h → g .rule ≡ h .rule → (state : List ℕ) (kind byte : ℕ)

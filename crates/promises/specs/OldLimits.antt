@@ -50,8 +50,10 @@ AllOld (r ∷ rs) = ((one : IsRecord r) × WithinOld one) × AllOld rs
 -- ---- the statement, of every card, file and room
 pub record OldLimits : Type 0 where
   -- the old run is the one of 01: a length over 18 and a pop of more than 16 end it with 7, and nothing is done
-  pub old-length : (s : Card) (room a b : ℕ) (rest : List ℕ) → 18 < a + b * 256 → oldRun s (a ∷ b ∷ rest) room ≡ ended 7 s
-  pub old-count : (s : Card) (room n : ℕ) (rest : List ℕ) → 16 < n → oldRun s (3 ∷ 0 ∷ 2 ∷ 0 ∷ n ∷ rest) room ≡ ended 7 s
+  pub old-length : (s : Card) (room a b : ℕ) (rest : List ℕ) → 18 < a + b * 256
+      → oldRun s (a ∷ b ∷ rest) room ≡ ended 7 s
+  pub old-count : (s : Card) (room n : ℕ) (rest : List ℕ) → 16 < n
+      → oldRun s (3 ∷ 0 ∷ 2 ∷ 0 ∷ n ∷ rest) room ≡ ended 7 s
   -- and it ends so for nothing else: a record within the old limits is taken, or has no room, as today; and so are
   -- records in turn
   pub old-record : (s : Card) (r : List ℕ) (room : ℕ) (one : IsRecord r) → WithinOld one
@@ -65,7 +67,8 @@ pub record OldLimits : Type 0 where
   pub up-to : (s : Card) (file : List ℕ) (room : ℕ)
       → runOf s file room
       ≡ after (oldRun s file room .taken) (oldRun s file room .written)
-      (runOf (oldRun s file room .state) (drop (oldRun s file room .taken) file) (room - length (oldRun s file room .written)))
+      (runOf (oldRun s file room .state) (drop (oldRun s file room .taken) file)
+      (room - length (oldRun s file room .written)))
   -- and so does the call on lent bytes
   pub call : (g : Given) → Chosen g → (state input replies report : List ℕ) → length report ≡ 9 → IsState state
       → length input ≤ 12288

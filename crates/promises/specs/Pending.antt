@@ -18,7 +18,8 @@ use Rattle.promises.specs.Given.{Given, Chosen}
 use Rattle.promises.specs.Cores.{Core, Meets, Sendable, onBus, driven}
 
 -- an answer's number, the byte read, and the whole state after
-pub record Answers (a : Answer) (n byte : ℕ) (stack : List ℕ) (pending : Bool) (status : ℕ) (service : Bool) : Type 0 where
+pub record Answers (a : Answer) (n byte : ℕ) (stack : List ℕ) (pending : Bool) (status : ℕ) (service : Bool)
+    : Type 0 where
   pub number : numberOf (a .refusal) ≡ n
   pub byte-read : a .byte ≡ byte
   pub state : a .state ≡ record { stack = stack; pending = pending; status = status; service = service }
@@ -52,7 +53,8 @@ pub record Bus (on : Settings) : Type 0 where
       → Answers (answerTo on (stateWith (b ∷ l) p u v) Pop) 0 b (l ++ (b ∷ [])) (not p) u v
   -- reset: stack all zero, nothing pending, status 0, service line low
   pub reset-leaves : on .mode ≡ Am9511A → (l : List ℕ) (p : Bool) (u : ℕ) (v : Bool) → u < 128
-      → Answers (answerTo on (stateWith l p u v) Reset) 0 0 (0 ∷ 0 ∷ 0 ∷ 0 ∷ 0 ∷ 0 ∷ 0 ∷ 0 ∷ 0 ∷ 0 ∷ 0 ∷ 0 ∷ 0 ∷ 0 ∷ 0 ∷ 0 ∷ []) false 0 false
+      → Answers (answerTo on (stateWith l p u v) Reset) 0 0
+      (0 ∷ 0 ∷ 0 ∷ 0 ∷ 0 ∷ 0 ∷ 0 ∷ 0 ∷ 0 ∷ 0 ∷ 0 ∷ 0 ∷ 0 ∷ 0 ∷ 0 ∷ 0 ∷ []) false 0 false
   -- of the older part: all bytes stay, or with half a word pending the top byte goes and the bottom two become zero
   pub older-reset-keeps : on .mode ≡ Am9511 → (l : List ℕ) (u : ℕ) (v : Bool) → u < 128
       → Answers (answerTo on (stateWith l false u v) Reset) 0 0 l false 0 false

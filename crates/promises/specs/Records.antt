@@ -39,7 +39,8 @@ repliesOf s (r ∷ rs) room =
 abbrev pub inTurn : Card → List (List ℕ) → List ℕ → ℕ → Outcome
 inTurn s [] rest room = runOf s rest room
 inTurn s (r ∷ rs) rest room =
-    after (length r) (runOf s r room .written) (inTurn (runOf s r room .state) rs rest (room - length (runOf s r room .written)))
+    after (length r) (runOf s r room .written)
+    (inTurn (runOf s r room .state) rs rest (room - length (runOf s r room .written)))
 
 -- for every split of a file into whole records, each taken, and a rest: state, replies and counts are those of one at a
 -- time, then the rest
@@ -102,8 +103,10 @@ abbrev pub CountsExact : Type 0
 CountsExact =
     (g : Given) → Chosen g → (state input replies report : List ℕ) → length report ≡ 9 → IsState state
     → length input ≤ 12288
-    → (countAt (runCall g state input replies report .report) 1 ≡ runOf (cardIn (settingsIn g) state) input (length replies) .taken)
-    × (countAt (runCall g state input replies report .report) 5 ≡ length (runOf (cardIn (settingsIn g) state) input (length replies) .written))
+    → (countAt (runCall g state input replies report .report) 1
+    ≡ runOf (cardIn (settingsIn g) state) input (length replies) .taken)
+    × (countAt (runCall g state input replies report .report) 5
+    ≡ length (runOf (cardIn (settingsIn g) state) input (length replies) .written))
 
 -- ---- one whole record, by the table of kinds, on a chip beside a memory
 
@@ -124,7 +127,8 @@ abbrev pub CommandRecord : Type 0
 CommandRecord =
     (on : Settings) (s : State) (m : Memory) (code room : ℕ) → 5 ≤ room
     → runOf (cardWith on s m) (3 ∷ 0 ∷ 3 ∷ 0 ∷ code ∷ []) room
-    ≡ took (cardWith on (commandUnder (on .rule) s code .state) (keptAfter m code (commandUnder (on .rule) s code))) 5 (3 ∷ 0 ∷ 131 ∷ 0 ∷ numberOf (commandUnder (on .rule) s code .refusal) ∷ [])
+    ≡ took (cardWith on (commandUnder (on .rule) s code .state) (keptAfter m code (commandUnder (on .rule) s code))) 5
+    (3 ∷ 0 ∷ 131 ∷ 0 ∷ numberOf (commandUnder (on .rule) s code .refusal) ∷ [])
 
 abbrev pub StatusRecord : Type 0
 StatusRecord =

@@ -23,7 +23,8 @@ pub record Numbers (on : Settings) : Type 0 where
   -- a busy state: 13 for every event, whatever it is
   pub busy-state : (s : State) (e : Event) → busy s ≡ true → TurnedAway s (answerTo on s e) 13
   -- an unknown code 1 and a derived function 2, with a half word pending or not
-  pub unknown : (s : State) (code : ℕ) → busy s ≡ false → decoded (code % 128) ≡ Unknown → TurnedAway s (commandUnder (on .rule) s code) 1
+  pub unknown : (s : State) (code : ℕ) → busy s ≡ false
+      → decoded (code % 128) ≡ Unknown → TurnedAway s (commandUnder (on .rule) s code) 1
   pub derived : (s : State) (code : ℕ) → busy s ≡ false → decoded (code % 128) ≡ Derived
       → TurnedAway s (commandUnder (on .rule) s code) 2
   -- a known command with a half word pending 3, with proper operands or not

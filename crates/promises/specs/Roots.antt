@@ -27,13 +27,17 @@ pub record RootRows (rule : Rule) : Type 0 where
   pub code : decoded 0x01 ≡ Known Sqrt
   -- a proper word not below zero: its root, no error; R, B, C, 0
   pub root-row : (a b c : ℕ) → FloatWord a → negative a ≡ false → (ds : List ℕ)
-      → Leaves rule Sqrt (word Double a (word Double b (word Double c ds))) Double ((sqrt rule a) .word) 0 false (word Double b (word Double c (zeros 4)))
+      → Leaves rule Sqrt (word Double a (word Double b (word Double c ds)))
+      Double ((sqrt rule a) .word) 0 false (word Double b (word Double c (zeros 4)))
   -- zero gives zero, with status 20
-  pub zero-row : (b c : ℕ) (ds : List ℕ) → Leaves rule Sqrt (word Double 0 (word Double b (word Double c ds))) Double 0 0 false (word Double b (word Double c (zeros 4)))
+  pub zero-row : (b c : ℕ) (ds : List ℕ)
+      → Leaves rule Sqrt (word Double 0 (word Double b (word Double c ds)))
+      Double 0 0 false (word Double b (word Double c (zeros 4)))
   pub zero-status : statusBy Double 0 0 false ≡ 0x20
   -- a negative proper word: the whole stack as it stands, A, B, C, D; error 0100, sign by the TOS, which is status 48
   pub negative-row : (a b c : ℕ) → FloatWord a → negative a ≡ true → (ds : List ℕ)
-      → Leaves rule Sqrt (word Double a (word Double b (word Double c ds))) Double a 4 false (word Double b (word Double c ds))
+      → Leaves rule Sqrt (word Double a (word Double b (word Double c ds)))
+      Double a 4 false (word Double b (word Double c ds))
   pub negative-status : (a : ℕ) → negative a ≡ true → statusBy Double a 4 false ≡ 0x48
   -- a word that is not proper: 4
   pub improper : (a : ℕ) → a < words Double → proper a ≡ false → (bs : List ℕ)
@@ -60,7 +64,9 @@ pub record Roots : Type 0 where
 
 -- ---- the order of two words not below zero is kept, under either rule; chains of demand 3 do not include the root
 abbrev pub RootOrder : Type 0
-RootOrder = (rule : Rule) (a b : ℕ) → FloatWord a → FloatWord b → negative a ≡ false → negative b ≡ false → Le a b → Le ((sqrt rule a) .word) ((sqrt rule b) .word)
+RootOrder =
+    (rule : Rule) (a b : ℕ) → FloatWord a → FloatWord b → negative a ≡ false → negative b ≡ false → Le a b
+    → Le ((sqrt rule a) .word) ((sqrt rule b) .word)
 
 -- ---- roots of 0, 1, 2, 4, 9, 1/4, the least and the largest word; the words beside 1 and 2; D cleared, and kept for
 -- -1; refusals 3 and 4
@@ -91,7 +97,13 @@ rootTable =
       status = 0x48;
     }
     ∷ turnedAway 0x01 (0x55 ∷ []) 3
-    ∷ record { events = pushesOf 4 0x80000000; code = 0x81; refusal = 4; stack = bytesOf 4 0x80000000 ++ zeros 12; status = 0x00 }
+    ∷ record {
+      events = pushesOf 4 0x80000000;
+      code = 0x81;
+      refusal = 4;
+      stack = bytesOf 4 0x80000000 ++ zeros 12;
+      status = 0x00;
+    }
     ∷ []
 
 abbrev pub RootBench : Type 0

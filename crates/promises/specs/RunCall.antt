@@ -19,7 +19,9 @@ pub record Laid (n : ℕ) (bytes : List ℕ) (c : Card) : Type 0 where
   pub sixteen : length (c .chip .stack) ≡ 16
   pub short : n ≡ 19
       → bytes ≡ c .chip .stack ++ (cond (c .chip .pending) 1 0 ∷ c .chip .status ∷ cond (c .chip .service) 1 0 ∷ [])
-  pub long : n ≡ 21 → bytes ≡ c .chip .stack ++ (cond (c .chip .pending) 1 0 ∷ c .chip .status ∷ cond (c .chip .service) 1 0 ∷ c .memory .bits ∷ c .memory .code ∷ [])
+  pub long : n ≡ 21
+      → bytes ≡ c .chip .stack ++ (cond (c .chip .pending) 1 0 ∷ c .chip .status ∷ cond (c .chip .service) 1 0
+      ∷ c .memory .bits ∷ c .memory .code ∷ [])
 
 -- the card that bytes stand for: "a 19-byte state is read with an empty memory"
 pub record StandsFor (bytes : List ℕ) (c : Card) : Type 0 where
@@ -38,7 +40,8 @@ pub record Reports (n : ℕ) (c : Called) (o : Outcome) (replies : List ℕ) : T
   pub report : c .report
       ≡ o .refusal
       ∷ o .taken % 256 ∷ o .taken / 256 % 256 ∷ o .taken / 65536 % 256 ∷ o .taken / 16777216 % 256
-      ∷ length (o .written) % 256 ∷ length (o .written) / 256 % 256 ∷ length (o .written) / 65536 % 256 ∷ length (o .written) / 16777216 % 256
+      ∷ length (o .written) % 256 ∷ length (o .written) / 256 % 256 ∷ length (o .written) / 65536 % 256
+      ∷ length (o .written) / 16777216 % 256
       ∷ []
 
 -- for a state that is taken, a report of 9 bytes and at most 12,288 bytes of input

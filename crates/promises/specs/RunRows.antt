@@ -226,7 +226,8 @@ runTable =
     0 (bytes "01 40"
     ++ replicate 17 0x00)
     (bytes "03 00 83 00 01 03 00 83 00 02 03 00 81 00 00 03 00 83 00 01 03 00 83 00 02 03 00 83 00 03 03 00 83 00"
-    ++ bytes "03 03 00 81 00 00 03 00 83 00 04 03 00 83 00 04 04 00 84 00 00 00 EE EE EE EE EE EE EE EE") (bytes "00 36 00 00 00 38 00 00 00")
+    ++ bytes "03 03 00 81 00 00 03 00 83 00 04 03 00 83 00 04 04 00 84 00 00 00 EE EE EE EE EE EE EE EE")
+    (bytes "00 36 00 00 00 38 00 00 00")
     -- FDIV that is not exact, with sr, then PUPI, under the cut and under nearest, in both modes
     ∷ ran 0 0 (bytes "11 92 23 A4 35 B6 47 C8 59 DA 6B EC 7D FE 8F 01 00 41 01")
     (bytes "06 00 01 00 6D DB B6 05 06 00 01 00 A5 A5 A5 83 03 00 03 00 93 03 00 03 00 1A 03 00 02 00 08 02 00 04"

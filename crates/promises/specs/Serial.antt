@@ -32,7 +32,8 @@ use Rattle.step_text.specs.Steps.{workingsOf}
 use Rattle.step_text.specs.Asked.{operationAt, toldOf}
 use Rattle.promises.specs.Stack.{bitsOf}
 use Rattle.promises.specs.FloatWords.{proper}
-use Rattle.promises.specs.SerialWork.{numberIn, stepsIn, widthOf, Operands, taskOf, Made, linesAfter, answerLine, Asks}
+use Rattle.promises.specs.SerialWork.{numberIn, stepsIn, widthOf, Operands, taskOf, Made}
+use Rattle.promises.specs.SerialWork.{linesAfter, answerLine, Asks}
 use Rattle.promises.specs.PrintedText.{written}
 use Rattle.promises.specs.Figures.{from}
 use Rattle.promises.specs.Commands.{least, word, statusBy, Two, Refuses}
@@ -98,7 +99,8 @@ pub record Work : Type 0 where
       → stepsIn (answerOf op rule b a) ≤ mostSteps op
   -- none where a row names the operands or one is refused; else fewer than so many exactly where no bits remain, of the
   -- multiplier or of the dividend
-  pub fewer : (op : Operation) (rule : Rule) (b a : ℕ) → Operands op b a → Made (taskOf op b a) (stepsIn (answerOf op rule b a))
+  pub fewer : (op : Operation) (rule : Rule) (b a : ℕ) → Operands op b a
+      → Made (taskOf op b a) (stepsIn (answerOf op rule b a))
 
 -- ---- what ./steps tells
 
@@ -129,9 +131,11 @@ pub record StepsText : Type 0 where
   pub chips : (code : ℕ) (op : Operation) → operationAt code ≡ Named op → decoded code ≡ Known (commandFor op)
   -- a line for each step, by its number, and then the answer
   pub lines : (op : Operation) (rule : Rule) (b a : ℕ) → Operands op b a
-      → workingsOf op rule b a ≡ linesAfter (taskOf op b a) (stepsIn (answerOf op rule b a)) 0 ++ answerLine (widthOf op) (answerOf op rule b a)
+      → workingsOf op rule b a ≡ linesAfter (taskOf op b a) (stepsIn (answerOf op rule b a)) 0
+      ++ answerLine (widthOf op) (answerOf op rule b a)
   -- what a call asks for is told, and where it asks for nothing that the program does, `usage`
-  pub told : (words : ℕ) (code b a option : List ℕ) (op : Operation) (rule : Rule) (x y : ℕ) → Asks words code b a option op rule x y
+  pub told : (words : ℕ) (code b a option : List ℕ) (op : Operation) (rule : Rule) (x y : ℕ)
+      → Asks words code b a option op rule x y
       → toldOf words code b a option ≡ workingsOf op rule x y
   pub not-told : (words : ℕ) (code b a option : List ℕ)
       → ((op : Operation) (rule : Rule) (x y : ℕ) → Asks words code b a option op rule x y → ⊥)
@@ -141,15 +145,19 @@ pub record StepsText : Type 0 where
   pub smul : steps "6E" "0005" "0003"
       ≡ line "1 1 0000000000000005" (line "2 0 000000000000000F" (last "word 000F error 0 status 00"))
   pub smuu : steps "76" "FFF7" "0004"
-      ≡ line "1 2 0000000000000000" (line "2 1 0000000000000000" (line "3 0 0000000000000024" (last "word FFFF error 0 status 40")))
+      ≡ line "1 2 0000000000000000" (line "2 1 0000000000000000"
+      (line "3 0 0000000000000024" (last "word FFFF error 0 status 40")))
   pub sdiv : steps "6F" "C000" "0002"
-      ≡ line "1 15 0000000000004000" (line "2 14 0000000000004000" (line "3 13 0000000000000000" (last "word E000 error 0 status 40")))
+      ≡ line "1 15 0000000000004000"
+      (line "2 14 0000000000004000" (line "3 13 0000000000000000" (last "word E000 error 0 status 40")))
   pub dmul : steps "2E" "FFFFFFFB" "00000003"
       ≡ line "1 1 0000000000000005" (line "2 0 000000000000000F" (last "word FFFFFFF1 error 0 status 40"))
   pub dmuu : steps "36" "7654321F" "00000005"
-      ≡ line "1 2 000000007654321F" (line "2 1 000000007654321F" (line "3 0 000000024FA4FA9B" (last "word 00000002 error 0 status 00")))
+      ≡ line "1 2 000000007654321F" (line "2 1 000000007654321F"
+      (line "3 0 000000024FA4FA9B" (last "word 00000002 error 0 status 00")))
   pub ddiv : steps "2F" "C0000000" "00000002"
-      ≡ line "1 31 0000000040000000" (line "2 30 0000000040000000" (line "3 29 0000000000000000" (last "word E0000000 error 0 status 40")))
+      ≡ line "1 31 0000000040000000"
+      (line "2 30 0000000040000000" (line "3 29 0000000000000000" (last "word E0000000 error 0 status 40")))
   pub fmul : steps "12" "81A00000" "00000000"
       ≡ last "word 00000000 error 0 status 20"
   pub fdiv : steps "13" "03800000" "82800000"

@@ -35,7 +35,8 @@ pub record Parts (stack : List ℕ) (p u v : ℕ) (t : List ℕ) : Type 0 where
 
 pub record EventCallUnder (g : Given) : Type 0 where
   -- a bad state: 256 times 13, before the kind is looked at; nothing is written
-  pub bad-state : (state : List ℕ) (kind byte : ℕ) → (IsState state → ⊥) → eventCall g state kind byte ≡ signalled 3328 state
+  pub bad-state : (state : List ℕ) (kind byte : ℕ) → (IsState state → ⊥)
+      → eventCall g state kind byte ≡ signalled 3328 state
   -- a kind that is not 1 to 8, all of its bits looked at: 256 times 5, whatever the byte
   pub bad-kind : (state : List ℕ) (kind byte : ℕ) → IsState state → (kind ≡ 0) ⊎ (8 < kind)
       → eventCall g state kind byte ≡ signalled 1280 state
@@ -79,7 +80,11 @@ pub record Converts (reply : Reply) : Type 0 where
       → sentOf reply out ≡ record { result = number reply; out = out }
   -- and on 0 the 32 bits as four bytes, little-endian
   pub done : (out : List ℕ) → length out ≡ 4 → number reply ≡ 0
-      → sentOf reply out ≡ record { result = 0; out = reply .bits % 256 ∷ reply .bits / 256 % 256 ∷ reply .bits / 65536 % 256 ∷ reply .bits / 16777216 % 256 ∷ [] }
+      → sentOf reply out ≡ record {
+        result = 0;
+        out = reply .bits % 256 ∷ reply .bits / 256 % 256 ∷ reply .bits / 65536 % 256 ∷ reply .bits / 16777216 % 256
+            ∷ [];
+      }
 
 pub record ConversionCalls : Type 0 where
   pub word-to-f32 : (word : ℕ) → Converts (outward word)

@@ -39,7 +39,13 @@ pub record Whole (on : Settings) : Type 0 where
       → (afterEvents on s es) .pending ≡ odd n
   -- with nothing pending, a word's bytes pushed, low first, lie on top, the rest moves down, and nothing is pending
   pub lies-on-top : (w : Width) (s : State) (x : ℕ) → busy s ≡ false → s .pending ≡ false
-      → afterPushes s (lowFirst (sizeOf w) x) ≡ record { stack = bytesOf (sizeOf w) x ++ take (16 - sizeOf w) (s .stack); pending = false; status = s .status; service = s .service }
+      → afterPushes s (lowFirst (sizeOf w) x)
+      ≡ record {
+        stack = bytesOf (sizeOf w) x ++ take (16 - sizeOf w) (s .stack);
+        pending = false;
+        status = s .status;
+        service = s .service;
+      }
   -- and as many pops hand out that word's bytes, high first
   pub handed-back : (w : Width) (s : State) (x : ℕ) → busy s ≡ false
       → bytesPopped (sizeOf w) (afterPushes s (lowFirst (sizeOf w) x)) ≡ bytesOf (sizeOf w) x

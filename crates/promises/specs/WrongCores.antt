@@ -23,8 +23,10 @@ No g Class = (c : Core) → Meets g c → Class c → ⊥
 -- ---- (a) refuses everything: one of its calls never answers 0 (a single event answers 0 where it returns less than
 -- 256)
 pub data RefusesEverything (c : Core) : Type 0 where
-  never-run : ((state input replies report : List ℕ) → Bytes state → Bytes input → Bytes replies → Bytes report → (c .run state input replies report) .result ≡ 0 → ⊥) → RefusesEverything c
-  never-event : ((state : List ℕ) (kind byte : ℕ) → Bytes state → kind < 2 ^ 32 → byte < 256 → (c .event state kind byte) .result < 256 → ⊥) → RefusesEverything c
+  never-run : ((state input replies report : List ℕ) → Bytes state → Bytes input → Bytes replies → Bytes report
+      → (c .run state input replies report) .result ≡ 0 → ⊥) → RefusesEverything c
+  never-event : ((state : List ℕ) (kind byte : ℕ) → Bytes state → kind < 2 ^ 32 → byte < 256
+      → (c .event state kind byte) .result < 256 → ⊥) → RefusesEverything c
   never-float : ((word : ℕ) (out : List ℕ) → word < 2 ^ 32 → Bytes out → (c .word-to-f32 word out) .result ≡ 0 → ⊥)
       → RefusesEverything c
   never-word : ((bits : ℕ) (out : List ℕ) → bits < 2 ^ 32 → Bytes out → (c .f32-to-word bits out) .result ≡ 0 → ⊥)
@@ -32,8 +34,10 @@ pub data RefusesEverything (c : Core) : Type 0 where
 
 -- ---- (b) a single reply: one of its calls returns the same number on every input
 pub data SingleReply (c : Core) : Type 0 where
-  same-run : (n : ℕ) → ((state input replies report : List ℕ) → Bytes state → Bytes input → Bytes replies → Bytes report → (c .run state input replies report) .result ≡ n) → SingleReply c
-  same-event : (n : ℕ) → ((state : List ℕ) (kind byte : ℕ) → Bytes state → kind < 2 ^ 32 → byte < 256 → (c .event state kind byte) .result ≡ n) → SingleReply c
+  same-run : (n : ℕ) → ((state input replies report : List ℕ) → Bytes state → Bytes input → Bytes replies → Bytes report
+      → (c .run state input replies report) .result ≡ n) → SingleReply c
+  same-event : (n : ℕ) → ((state : List ℕ) (kind byte : ℕ) → Bytes state → kind < 2 ^ 32 → byte < 256
+      → (c .event state kind byte) .result ≡ n) → SingleReply c
   same-float : (n : ℕ) → ((word : ℕ) (out : List ℕ) → word < 2 ^ 32 → Bytes out → (c .word-to-f32 word out) .result ≡ n)
       → SingleReply c
   same-word : (n : ℕ) → ((bits : ℕ) (out : List ℕ) → bits < 2 ^ 32 → Bytes out → (c .f32-to-word bits out) .result ≡ n)
@@ -48,10 +52,14 @@ SameReplies c =
 
 -- ---- (c) does nothing: one of its slices always comes back as it was lent
 pub data DoesNothing (c : Core) : Type 0 where
-  back-state : ((state input replies report : List ℕ) → Bytes state → Bytes input → Bytes replies → Bytes report → (c .run state input replies report) .state ≡ state) → DoesNothing c
-  back-replies : ((state input replies report : List ℕ) → Bytes state → Bytes input → Bytes replies → Bytes report → (c .run state input replies report) .replies ≡ replies) → DoesNothing c
-  back-report : ((state input replies report : List ℕ) → Bytes state → Bytes input → Bytes replies → Bytes report → (c .run state input replies report) .report ≡ report) → DoesNothing c
-  back-event : ((state : List ℕ) (kind byte : ℕ) → Bytes state → kind < 2 ^ 32 → byte < 256 → (c .event state kind byte) .state ≡ state) → DoesNothing c
+  back-state : ((state input replies report : List ℕ) → Bytes state → Bytes input → Bytes replies → Bytes report
+      → (c .run state input replies report) .state ≡ state) → DoesNothing c
+  back-replies : ((state input replies report : List ℕ) → Bytes state → Bytes input → Bytes replies → Bytes report
+      → (c .run state input replies report) .replies ≡ replies) → DoesNothing c
+  back-report : ((state input replies report : List ℕ) → Bytes state → Bytes input → Bytes replies → Bytes report
+      → (c .run state input replies report) .report ≡ report) → DoesNothing c
+  back-event : ((state : List ℕ) (kind byte : ℕ) → Bytes state → kind < 2 ^ 32 → byte < 256
+      → (c .event state kind byte) .state ≡ state) → DoesNothing c
   back-float : ((word : ℕ) (out : List ℕ) → word < 2 ^ 32 → Bytes out → (c .word-to-f32 word out) .out ≡ out)
       → DoesNothing c
   back-word : ((bits : ℕ) (out : List ℕ) → bits < 2 ^ 32 → Bytes out → (c .f32-to-word bits out) .out ≡ out)
@@ -59,9 +67,11 @@ pub data DoesNothing (c : Core) : Type 0 where
 
 -- ---- (d) works only its first record: the state, or the replies, after a file are those of its first record
 pub data FirstRecordOnly (c : Core) : Type 0 where
-  first-state : ((state r rest replies report : List ℕ) → IsRecord r → Bytes state → Bytes r → Bytes rest → Bytes replies → Bytes report
+  first-state : ((state r rest replies report : List ℕ) → IsRecord r → Bytes state → Bytes r → Bytes rest
+      → Bytes replies → Bytes report
       → (c .run state (r ++ rest) replies report) .state ≡ (c .run state r replies report) .state) → FirstRecordOnly c
-  first-replies : ((state r rest replies report : List ℕ) → IsRecord r → Bytes state → Bytes r → Bytes rest → Bytes replies → Bytes report
+  first-replies : ((state r rest replies report : List ℕ) → IsRecord r → Bytes state → Bytes r → Bytes rest
+      → Bytes replies → Bytes report
       → (c .run state (r ++ rest) replies report) .replies
       ≡ (c .run state r replies report) .replies) → FirstRecordOnly c
 
@@ -71,16 +81,21 @@ pub data FirstRecordOnly (c : Core) : Type 0 where
 pub data InventedCounts (g : Given) (c : Core) : Type 0 where
   wrong-taken : (state input replies report : List ℕ) → Bytes state → Bytes input → Bytes replies → Bytes report
       → length report ≡ 9 → IsState state → length input ≤ 12288
-      → (split : Split (cardIn (settingsIn g) state) input (length replies) (fileRun (cardIn (settingsIn g) state) input (length replies)))
+      → (split : Split (cardIn (settingsIn g) state) input (length replies)
+      (fileRun (cardIn (settingsIn g) state) input (length replies)))
       → (countAt ((c .run state input replies report) .report) 1 ≡ total (lengths (split .records)) → ⊥)
       → InventedCounts g c
   wrong-written : (state input replies report : List ℕ) → Bytes state → Bytes input → Bytes replies → Bytes report
       → length report ≡ 9 → IsState state → length input ≤ 12288
-      → (split : Split (cardIn (settingsIn g) state) input (length replies) (fileRun (cardIn (settingsIn g) state) input (length replies)))
-      → (countAt ((c .run state input replies report) .report) 5 ≡ total (lengths (repliesOf (cardIn (settingsIn g) state) (split .records) (length replies))) → ⊥) → InventedCounts g c
+      → (split : Split (cardIn (settingsIn g) state) input (length replies)
+      (fileRun (cardIn (settingsIn g) state) input (length replies)))
+      → (countAt ((c .run state input replies report) .report) 5
+      ≡ total (lengths (repliesOf (cardIn (settingsIn g) state) (split .records) (length replies))) → ⊥)
+      → InventedCounts g c
   wrong-away : (state input replies report : List ℕ) → Bytes state → Bytes input → Bytes replies → Bytes report
       → length report ≡ 9 → (IsState state → ⊥) ⊎ (12288 < length input)
-      → ((countAt ((c .run state input replies report) .report) 1 ≡ 0) × (countAt ((c .run state input replies report) .report) 5 ≡ 0) → ⊥) → InventedCounts g c
+      → ((countAt ((c .run state input replies report) .report) 1 ≡ 0)
+      × (countAt ((c .run state input replies report) .report) 5 ≡ 0) → ⊥) → InventedCounts g c
 
 -- ---- (f) answers every chain with zero
 -- after every chain of one or more steps, from any state with nothing pending, on any proper word, the zero word lies

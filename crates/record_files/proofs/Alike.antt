@@ -1,4 +1,5 @@
--- Two steps that differ only where the first stops with one refusal run every file alike that does not end with it, and every other file alike up to the record that stops it. Assumes nothing.
+-- Two steps that differ only where the first stops with one refusal run every file alike that does not end with it, and every other file alike up to the record
+-- that stops it. Assumes nothing.
 use mathlib.Core.Path.{_≡_, sym, ap, _∙_}
 use mathlib.Core.List.{List, _++_}
 use Prim.Native.Nat.{ℕ, _-_, _<_}

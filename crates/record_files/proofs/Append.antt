@@ -69,7 +69,8 @@ module _ {S : Type 0} {most : ℕ} {step : RecordStep S} (ok : Lawful most step)
       ∙ rw (d, nothing (t .state) (room - length (t .reply)), add-zero (t .size), append-nil (t .reply))
 
   -- an outcome after a record, gone on from
-  on-after : (n : ℕ) (w : List ℕ) (o : Outcome S) (rest : List ℕ) (room : ℕ) → after n w (onward step o rest (room - length w)) ≡ onward step (after n w o) rest room
+  on-after : (n : ℕ) (w : List ℕ) (o : Outcome S) (rest : List ℕ) (room : ℕ) → after n w (onward step o rest (room - length w)) ≡ onward step (after n w o) rest
+      room
   on-after n w o rest room =
       after-after n (o .taken) w (o .written) (runBy step (o .state) rest (room - length w - length (o .written)))
       ∙ ap (λ (k : ℕ). after (n + o .taken) (w ++ o .written) (runBy step (o .state) rest k)) (sym (room-after room w (o .written)))
@@ -104,5 +105,6 @@ module _ {S : Type 0} {most : ℕ} {step : RecordStep S} (ok : Lawful most step)
       ∙ ap (λ (o : Outcome S). onward step o rest room) (sym one)
 
   -- the append law: whatever follows a file that ends with 0
-  pub appended : (s : S) (l rest : List ℕ) (room : ℕ) → runBy step s l room .refusal ≡ 0 → runBy step s (l ++ rest) room ≡ onward step (runBy step s l room) rest room
+  pub appended : (s : S) (l rest : List ℕ) (room : ℕ) → runBy step s l room .refusal ≡ 0 → runBy step s (l ++ rest) room ≡ onward step (runBy step s l room)
+      rest room
   appended s l rest room e = going (length l) s l rest room (omega arith) e

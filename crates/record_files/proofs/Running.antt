@@ -20,7 +20,8 @@ beyond step t l room = runBy step (t .state) (drop (t .size) l) (room - length (
 same-next : {S : Type 0} (t : Turned S) (o p : Outcome S) → (t .refusal ≡ 0 → o ≡ p) → next t o ≡ next t p
 same-next t o p h = pick (eqb (t .refusal) 0) refl
   where
-    pick : (b : Bool) → eqb (t .refusal) 0 ≡ b → cond b (after (t .size) (t .reply) o) (ended (t .refusal) (t .state)) ≡ cond b (after (t .size) (t .reply) p) (ended (t .refusal) (t .state))
+    pick : (b : Bool) → eqb (t .refusal) 0 ≡ b → cond b (after (t .size) (t .reply) o) (ended (t .refusal) (t .state)) ≡ cond b (after (t .size) (t .reply) p)
+        (ended (t .refusal) (t .state))
     pick true e = ap (after (t .size) (t .reply)) (h (eqb-true _ _ e))
     pick false e = refl
 
@@ -128,7 +129,8 @@ module _ {S : Type 0} {most : ℕ} {step : RecordStep S} (ok : Lawful most step)
         let T = step s (drop at input) (length (drop w replies)) in
         let z : T .refusal ≡ 0 → ⊥ = λ x. e (turn .refusal-is ∙ x) in
         let k : left ≡ drop w replies =
-        turn .left-is ∙ ap (λ (u : Turned S). u .reply ++ drop (length (u .reply)) (drop w replies)) (ok .stops s (drop at input) (length (drop w replies)) z .1) in
+        turn .left-is ∙ ap (λ (u : Turned S). u .reply ++ drop (length (u .reply)) (drop w replies)) (ok .stops s (drop at input) (length (drop w replies)) z
+        .1) in
         let r : runBy step s (drop at input) (length replies₀ - w) ≡ ended refusal t =
         rw (← room-is, turn .refusal-is, turn .state-is) (refuses s (drop at input) (length (drop w replies)) some-left z) in
         rw (k, take-append-drop w replies) (finish s₀ input replies₀ s at w replies g refusal t r)
@@ -151,7 +153,8 @@ module _ {S : Type 0} {most : ℕ} {step : RecordStep S} (ok : Lawful most step)
     abbrev R : List ℕ
     R = step s (drop at input) (length (drop w replies)) .reply
 
-    one-more : refusal ≡ 0 → runBy step s (drop at input) (length replies₀ - w) ≡ after size R (runBy step t (drop (at + size) input) (length replies₀ - (w + n)))
+    one-more : refusal ≡ 0 → runBy step s (drop at input) (length replies₀ - w) ≡ after size R (runBy step t (drop (at + size) input)
+        (length replies₀ - (w + n)))
     one-more e =
         let q : length replies₀ - (w + n) ≡ (length replies₀ - w) - n = omega arith in
         rw (q, ← drop-drop size at input, ← room-is)
@@ -163,7 +166,8 @@ module _ {S : Type 0} {most : ℕ} {step : RecordStep S} (ok : Lawful most step)
       at-most = omega (arith, turn .within, length-drop at input);
       room = rw all-length enough-room;
       same = all-length ∙ g .same;
-      tail = rw joined (drop-at (take w replies ++ R) (drop (w + n) replies) (w + n) head-length ∙ sym (drop-drop n w replies) ∙ ap (drop n) (g .tail) ∙ drop-drop n w replies₀);
+      tail = rw joined (drop-at (take w replies ++ R) (drop (w + n) replies) (w + n) head-length ∙ sym (drop-drop n w replies) ∙ ap (drop n) (g .tail)
+          ∙ drop-drop n w replies₀);
       so-far =
           g .so-far
           ∙ ap (after at (take w replies)) (one-more e)

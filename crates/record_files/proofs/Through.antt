@@ -1,4 +1,5 @@
--- What holds of an empty file and of one whose first record stops, and goes on over a record that is taken, holds of every run: the counts, the file up to the stop. Assumes nothing.
+-- What holds of an empty file and of one whose first record stops, and goes on over a record that is taken, holds of every run: the counts, the file up to the
+-- stop. Assumes nothing.
 use mathlib.Core.Path.{_≡_, refl, sym, ap, subst, _∙_}
 use mathlib.Core.List.{List, [], _∷_}
 use Prim.Native.Nat.{ℕ, zero, suc, _+_, _*_, _-_, _≤_, _<_, zero-le}
@@ -83,7 +84,8 @@ module _ {S : Type 0} {most : ℕ} {step : RecordStep S} (ok : Lawful most step)
   -- the run of the first bytes of a file, up to a place behind its first record
   pub behind-first : (s : S) (l : List ℕ) (room k : ℕ) → 0 < length l → step s l room .refusal ≡ 0 → step s l room .size + k ≤ length l
       → runBy step s (take (step s l room .size + k) l) room
-      ≡ after (step s l room .size) (step s l room .reply) (runBy step (step s l room .state) (take k (drop (step s l room .size) l)) (room - length (step s l room .reply)))
+      ≡ after (step s l room .size) (step s l room .reply) (runBy step (step s l room .state) (take k (drop (step s l room .size) l))
+      (room - length (step s l room .reply)))
   behind-first s l room k p z there =
       let t = step s l room in
       let m : 0 < t .size = ok .moves s l room z in
@@ -106,7 +108,8 @@ module _ {S : Type 0} {most : ℕ} {step : RecordStep S} (ok : Lawful most step)
 
   -- and the record that stands there stops with the run's refusal
   pub stops-there : (s : S) (l : List ℕ) (room : ℕ) → (runBy step s l room .refusal ≡ 0 → ⊥)
-      → step (runBy step s l room .state) (drop (runBy step s l room .taken) l) (room - length (runBy step s l room .written)) .refusal ≡ runBy step s l room .refusal
+      → step (runBy step s l room .state) (drop (runBy step s l room .taken) l) (room - length (runBy step s l room .written)) .refusal ≡ runBy step s l room
+      .refusal
   stops-there =
       through (λ s l room o. (o .refusal ≡ 0 → ⊥) → step (o .state) (drop (o .taken) l) (room - length (o .written)) .refusal ≡ o .refusal)
       (λ s room z. absurd (z refl))

@@ -14,7 +14,8 @@ Stopping r = (numberOf NoSuchKind ≤ r) × (r ≤ numberOf NoRoom)
 -- a step whose replies have at most so many bytes for each byte of their record
 pub record Lawful {S : Type 0} (most : ℕ) (step : RecordStep S) : Type 0 where
   -- a record that stops stops with 5 to 8 and nothing done
-  pub stops : (s : S) (l : List ℕ) (room : ℕ) → (step s l room .refusal ≡ 0 → ⊥) → Stopping (step s l room .refusal) × (step s l room ≡ idle (step s l room .refusal) s)
+  pub stops : (s : S) (l : List ℕ) (room : ℕ) → (step s l room .refusal ≡ 0 → ⊥) → Stopping (step s l room .refusal)
+      × (step s l room ≡ idle (step s l room .refusal) s)
   -- a record that is taken has a byte, stands in the file, and its reply fits the room and is short
   pub moves : (s : S) (l : List ℕ) (room : ℕ) → step s l room .refusal ≡ 0 → 0 < step s l room .size
   pub within : (s : S) (l : List ℕ) (room : ℕ) → step s l room .refusal ≡ 0 → step s l room .size ≤ length l

@@ -31,28 +31,33 @@ pushes : (p : List ℕ) (s : State) → s .status < 128 → pushAll (done 0 s) p
 pushes [] s h = refl
 pushes (b ∷ p) s h = rw (push-done s b h) (pushes p (moved s (pushed (s .stack) b)) h)
 
-pops : (k : ℕ) (a : Answer) → a .state .status < 128 → popAll (suc k) a ≡ done (getD (handedOut (suc k) (a .state .stack)) k 0) (restacked (a .state) (poppedAll (suc k) (a .state .stack)) (suc k))
+pops : (k : ℕ) (a : Answer) → a .state .status < 128 → popAll (suc k) a ≡ done (getD (handedOut (suc k) (a .state .stack)) k 0)
+    (restacked (a .state) (poppedAll (suc k) (a .state .stack)) (suc k))
 pops zero a h = pop-done (a .state) h
 pops (suc k) a h =
     ap (popAll (suc k)) (pop-done (a .state) h)
     ∙ pops k (done (topByte (a .state .stack)) (moved (a .state) (popped (a .state .stack)))) h
 
 module _ (s : State) (h : s .status < 128) where
-  pub pushed-block : (p after : List ℕ) (q : Bool) → q ≡ flipped (length p) (s .pending) → after ≡ pushedAll (s .stack) p → done 0 (held after q (s .status) (s .service)) ≡ pushAll (before s) p
+  pub pushed-block : (p after : List ℕ) (q : Bool) → q ≡ flipped (length p) (s .pending) → after ≡ pushedAll (s .stack) p
+      → done 0 (held after q (s .status) (s .service)) ≡ pushAll (before s) p
   pushed-block p after q eq ea =
       ap₂ (λ (l : List ℕ) (x : Bool). done 0 (held l x (s .status) (s .service))) ea (eq ∙ flips (length p) (s .pending))
       ∙ sym (pushes p s h)
 
-  pub popped-block : (n : ℕ) (after room left : List ℕ) (q : Bool) → 1 ≤ n → q ≡ flipped n (s .pending) → after ≡ poppedAll n (s .stack) → left ≡ handedOut n (s .stack) ++ drop n room
+  pub popped-block : (n : ℕ) (after room left : List ℕ) (q : Bool) → 1 ≤ n → q ≡ flipped n (s .pending) → after ≡ poppedAll n (s .stack)
+      → left ≡ handedOut n (s .stack) ++ drop n room
       → (done (getD left (n - 1) 0) (held after q (s .status) (s .service)) ≡ popAll n (before s)) × (left ≡ bytesPopped n s ++ drop n room)
   popped-block zero after room left q m eq ea el = absurd (not-suc-le-zero m)
   popped-block (suc k) after room left q m eq ea el =
       let b = sym (pops-bytes (suc k) s h) in
       let y : k < length (handedOut (suc k) (s .stack)) = omega (arith, ap length b ∙ length-popped (suc k) s) in
       let o : suc k - 1 ≡ k = omega arith in
-      let z : getD left (suc k - 1) 0 ≡ getD (handedOut (suc k) (s .stack)) k 0 = ap (λ (i : ℕ). getD left i 0) o ∙ ap (λ (l : List ℕ). getD l k 0) el ∙ List·getD-append (handedOut (suc k) (s .stack)) (drop (suc k) room) 0 k y in (
+      let z : getD left (suc k - 1) 0 ≡ getD (handedOut (suc k) (s .stack)) k 0 = ap (λ (i : ℕ). getD left i 0) o ∙ ap (λ (l : List ℕ). getD l k 0) el
+      ∙ List·getD-append (handedOut (suc k) (s .stack)) (drop (suc k) room) 0 k y in (
         ap (λ (x : ℕ). done x (held after q (s .status) (s .service))) z
-            ∙ ap₂ (λ (l : List ℕ) (x : Bool). done (getD (handedOut (suc k) (s .stack)) k 0) (held l x (s .status) (s .service))) ea (eq ∙ flips (suc k) (s .pending))
+            ∙ ap₂ (λ (l : List ℕ) (x : Bool). done (getD (handedOut (suc k) (s .stack)) k 0) (held l x (s .status) (s .service))) ea
+            (eq ∙ flips (suc k) (s .pending))
             ∙ sym (pops k (before s) h),
         el ∙ ap (λ (l : List ℕ). l ++ drop (suc k) room) b,
       )

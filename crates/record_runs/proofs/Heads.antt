@@ -19,7 +19,8 @@ use Rattle.record_runs.specs.declared.head.Frame.{Frame}
 use Rattle.record_runs.specs.declared.head.Frame.the-variants.{Framed, Broken}
 use Rattle.record_runs.specs.Record.{Head}
 use Rattle.record_runs.specs.Record.{Whole, Stop}
-use Rattle.record_runs.specs.Record.{wordAt, kindOf, payloadOf, answeredOf, exactly, kindNamed, rowBy, rowUnder, frameUnder, headIn, headUnder, Carried, Holds}
+use Rattle.record_runs.specs.Record.{wordAt, kindOf, payloadOf, answeredOf, exactly, kindNamed, rowBy, rowUnder, frameUnder, headIn, headUnder, Carried}
+use Rattle.record_runs.specs.Record.{Holds}
 
 module _ (most : ℕ) (l : List ℕ) where
   -- fewer than two bytes
@@ -42,7 +43,8 @@ module _ (most : ℕ) (l : List ℕ) where
   cut a b d e = simp (lt-ltb, le-ltb)
 
   -- all bytes there
-  pub whole : 2 ≤ length l → leastLength ≤ wordAt l 0 → wordAt l 0 ≤ leastLength + most → wordAt l 0 ≤ length l - 2 → frameUnder most l ≡ Framed (wordAt l 0 - 2)
+  pub whole : 2 ≤ length l → leastLength ≤ wordAt l 0 → wordAt l 0 ≤ leastLength + most → wordAt l 0 ≤ length l - 2 → frameUnder most
+      l ≡ Framed (wordAt l 0 - 2)
   unfolding frameUnder
   whole a b d e = simp le-ltb
 
@@ -83,7 +85,8 @@ pub record Fits (most : ℕ) (l : List ℕ) (n : ℕ) : Type 0 where
   pub small : n ≤ most
 
 -- what holds of 6 and 7, and of each size that fits, holds of the frame
-pub frames : {most : ℕ} (P : Frame → Type 0) → ((r : Refusal) → Stops r → P (Broken r)) → (l : List ℕ) → ((n : ℕ) → Fits most l n → P (Framed n)) → P (frameUnder most l)
+pub frames : {most : ℕ} (P : Frame → Type 0) → ((r : Refusal) → Stops r → P (Broken r)) → (l : List ℕ) → ((n : ℕ) → Fits most l n → P (Framed n))
+    → P (frameUnder most l)
 unfolding frameUnder
 frames {most} P broken l w =
     either-lt P (length l) 2 _ _ (λ a. broken CutShort (lit≤ tt, lit≤ tt)) (λ a.
@@ -93,7 +96,8 @@ frames {most} P broken l w =
     w (wordAt l 0 - 2) (record { length-is = omega arith; there = omega arith; small = omega arith })))))
 
 -- what holds of each refusal that stops, and of each event that a whole record holds, holds of the head
-pub heads : {most : ℕ} (P : Head → Type 0) → ((r : Refusal) → Stops r → P (Stop r)) → (l : List ℕ) → ((e : Event) → Holds most l e → P (Whole e)) → P (headUnder most l)
+pub heads : {most : ℕ} (P : Head → Type 0) → ((r : Refusal) → Stops r → P (Stop r)) → (l : List ℕ) → ((e : Event) → Holds most l e → P (Whole e))
+    → P (headUnder most l)
 heads {most} P stop l w =
     frames (λ f. P (headIn most l f)) stop l (λ n f. rows P stop most n (getD l 4 0) (wordAt l 2) (λ e k p q. w e (record {
       length-is = omega (arith, f .length-is, p);

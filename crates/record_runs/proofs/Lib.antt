@@ -2,6 +2,7 @@
 pub mod Heads
 pub mod Blocks
 pub mod Writes
+pub mod Places
 pub mod Turning
 pub mod Steps
 pub mod Prefix

@@ -1,4 +1,5 @@
--- The record step is lawful: a record that is taken is taken alike in every file that begins with its bytes, and one that a cut goes through is 6. Assumes nothing.
+-- The record step is lawful: a record that is taken is taken alike in every file that begins with its bytes, and one that a cut goes through is 6. Assumes
+-- nothing.
 use mathlib.Core.Path.{_≡_, refl, sym, ap, _∙_}
 use mathlib.Core.List.{List}
 use Prim.Native.Nat.{ℕ, _+_, _*_, _-_, _≤_, _<_, zero-le}
@@ -54,7 +55,8 @@ module _ (e : Event) (l m : List ℕ) (same : take (4 + payloadOf e) l ≡ take 
 abbrev Alike : ℕ → Card → List ℕ → List ℕ → ℕ → Turned → Type 0
 Alike most s l m more t = t .refusal ≡ 0 → take (t .size) l ≡ take (t .size) m → t .size ≤ length m → length (t .reply) ≤ more → turnUnder most s m more ≡ t
 
-worked-too : {most : ℕ} (s : Card) (l m : List ℕ) (more : ℕ) (e : Event) → Holds most l e → Alike most s l m more (worked s e (answerOf s (take (payloadOf e) (drop 4 l)) e))
+worked-too : {most : ℕ} (s : Card) (l m : List ℕ) (more : ℕ) (e : Event) → Holds most l e
+    → Alike most s l m more (worked s e (answerOf s (take (payloadOf e) (drop 4 l)) e))
 unfolding turnUnder
 worked-too s l m more e h z same fits g =
     let d = length-dataOf s e in
@@ -62,7 +64,8 @@ worked-too s l m more e h z same fits g =
 
 -- a record that is taken
 pub alike : (most : ℕ) (s : Card) (l m : List ℕ) (room more : ℕ) → Alike most s l m more (turnUnder most s l room)
-alike most s l m room more = steps {most = most} (Alike most s l m more) s l room (λ r a b z. let y : ⊥ = omega arith in absurd y) (λ e h g. worked-too s l m more e h)
+alike most s l m room more = steps {most = most} (Alike most s l m more) s l room (λ r a b z. let y : ⊥ = omega arith in absurd y)
+    (λ e h g. worked-too s l m more e h)
 
 -- what is taken stands in the file
 pub within : (most : ℕ) (s : Card) (l : List ℕ) (room : ℕ) → turnUnder most s l room .refusal ≡ 0 → turnUnder most s l room .size ≤ length l
@@ -94,7 +97,8 @@ module _ (most : ℕ) (s : Card) (l : List ℕ) (room k : ℕ) (in-file : k ≤ 
       (λ d. short most (take k l) (omega (arith, long)))
       (λ d.
       let w = word d in
-      cut most (take k l) (omega (arith, long)) (omega (arith, w, h .length-is)) (omega (arith, w, h .length-is, h .small)) (omega (arith, w, long, h .length-is)))
+      cut most (take k l) (omega (arith, long)) (omega (arith, w, h .length-is)) (omega (arith, w, h .length-is, h .small))
+      (omega (arith, w, long, h .length-is)))
 
   cut-turn : (e : Event) → Holds most l e → k < 4 + payloadOf e → turnUnder most s (take k l) room ≡ stopped CutShort s
   unfolding turnUnder
@@ -106,9 +110,11 @@ module _ (most : ℕ) (s : Card) (l : List ℕ) (room k : ℕ) (in-file : k ≤ 
       (λ r a b z. let y : ⊥ = omega arith in absurd y) (λ e h g z i. cut-turn e h i)
 
 -- a record that stops stops with 5 to 8 and nothing done
-stops : (most : ℕ) (s : Card) (l : List ℕ) (room : ℕ) → (turnUnder most s l room .refusal ≡ 0 → ⊥) → Stopping (turnUnder most s l room .refusal) × (turnUnder most s l room ≡ idle (turnUnder most s l room .refusal) s)
+stops : (most : ℕ) (s : Card) (l : List ℕ) (room : ℕ) → (turnUnder most s l room .refusal ≡ 0 → ⊥) → Stopping (turnUnder most s l room .refusal)
+    × (turnUnder most s l room ≡ idle (turnUnder most s l room .refusal) s)
 stops most s l room =
-    steps {most = most} (λ t. (t .refusal ≡ 0 → ⊥) → Stopping (t .refusal) × (t ≡ idle (t .refusal) s)) s l room (λ r a b z. ((a, b), refl)) (λ e h g z. absurd (z refl))
+    steps {most = most} (λ t. (t .refusal ≡ 0 → ⊥) → Stopping (t .refusal) × (t ≡ idle (t .refusal) s)) s l room (λ r a b z. ((a, b), refl))
+    (λ e h g z. absurd (z refl))
 
 -- under every limit that lets two bytes through
 pub lawful-under : (most : ℕ) → 2 ≤ most → Lawful (5 + most) (turnUnder most)

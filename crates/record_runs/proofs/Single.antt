@@ -28,7 +28,8 @@ use Rattle.record_files.proofs.Append.{nothing, first-stops, first-taken}
 use Rattle.record_runs.specs.Record.{Event}
 use Rattle.record_runs.specs.Record.{Push, Pop, Command, Status, Reset, Acknowledge, Recall, Forget}
 use Rattle.record_runs.specs.Record.{Stop}
-use Rattle.record_runs.specs.Record.{kindOf, payloadOf, answeredOf, headOf, Carried, Holds, before, pushAll, popAll, answerOf, dataOf, replyOf, stopped, worked, turnUnder, turnOf}
+use Rattle.record_runs.specs.Record.{kindOf, payloadOf, answeredOf, headOf, Carried, Holds, before, pushAll, popAll, answerOf, dataOf, replyOf, stopped}
+use Rattle.record_runs.specs.Record.{worked, turnUnder, turnOf}
 use Rattle.record_runs.specs.Run.{ended, took, runOf}
 use Rattle.record_runs.proofs.Heads.{head-is}
 use Rattle.record_runs.proofs.Blocks.{length-popped}
@@ -79,7 +80,8 @@ unfolding acknowledgeOf
 acknowledge-is s h = rw h
 
 -- blocks: every byte is answered 0
-pushes : (p : List ℕ) (a : Answer) → busy (a .state) ≡ false → a .refusal ≡ Done → (pushAll a p .refusal ≡ Done) × (pushAll a p .state ≡ afterPushes (a .state) p)
+pushes : (p : List ℕ) (a : Answer) → busy (a .state) ≡ false → a .refusal ≡ Done → (pushAll a p .refusal ≡ Done) × (pushAll a p .state ≡ afterPushes (a .state)
+    p)
 pushes [] a h d = (d, refl)
 pushes (b ∷ bs) a h d =
     let e = push-done (a .state) b (leb-false 128 (a .state .status) h) in
@@ -115,7 +117,8 @@ module _ (on : Settings) (s : State) (m : Memory) where
 
   pub command-alone : (code room : ℕ) → 5 ≤ room
       → runOf (cardWith on s m) (3 ∷ 0 ∷ 3 ∷ 0 ∷ code ∷ []) room
-      ≡ took (cardWith on (commandUnder (on .rule) s code .state) (keptAfter m (CommandEvent code) (commandUnder (on .rule) s code))) 5 (3 ∷ 0 ∷ 131 ∷ 0 ∷ numberOf (commandUnder (on .rule) s code .refusal) ∷ [])
+      ≡ took (cardWith on (commandUnder (on .rule) s code .state) (keptAfter m (CommandEvent code) (commandUnder (on .rule) s code))) 5
+      (3 ∷ 0 ∷ 131 ∷ 0 ∷ numberOf (commandUnder (on .rule) s code .refusal) ∷ [])
   command-alone code room fits =
       let r : List ℕ = 3 ∷ 0 ∷ 3 ∷ 0 ∷ code ∷ [] in
       let h : Holds mostPayload r (Command code) = record { length-is = refl; kind-is = refl; there = omega arith; small = lit≤ tt; carried = refl } in
@@ -130,7 +133,8 @@ module _ (on : Settings) (s : State) (m : Memory) (room : ℕ) (calm : busy s �
   status-alone fits =
       one-turn (cardWith on s m) (2 ∷ 0 ∷ 4 ∷ 0 ∷ []) room Status (bare Status 4 refl refl tt) refl fits ∙ rw (read-is s calm)
 
-  pub reset-alone : 5 ≤ room → runOf (cardWith on s m) (2 ∷ 0 ∷ 5 ∷ 0 ∷ []) room ≡ took (cardWith on (afterReset (on .mode) s) emptyMemory) 4 (3 ∷ 0 ∷ 133 ∷ 0 ∷ 0 ∷ [])
+  pub reset-alone : 5 ≤ room → runOf (cardWith on s m) (2 ∷ 0 ∷ 5 ∷ 0 ∷ []) room ≡ took (cardWith on (afterReset (on .mode) s) emptyMemory) 4
+      (3 ∷ 0 ∷ 133 ∷ 0 ∷ 0 ∷ [])
   reset-alone fits =
       one-turn (cardWith on s m) (2 ∷ 0 ∷ 5 ∷ 0 ∷ []) room Reset (bare Reset 5 refl refl tt) refl fits ∙ rw (reset-is (on .mode) s calm)
 

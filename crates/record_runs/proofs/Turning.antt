@@ -22,14 +22,19 @@ use Rattle.error_memory.specs.Memory.{Card, CardAnswer, emptyMemory, remembered
 use Rattle.error_memory.specs.Held.{cardUnder}
 use Rattle.record_files.specs.Run.{Turns}
 use Rattle.record_runs.specs.declared.head.EventKind.{EventKind}
-use Rattle.record_runs.specs.declared.head.EventKind.the-variants.{Push as PushKind, Pop as PopKind, Command as CommandKind, Status as StatusKind, Reset as ResetKind, Acknowledge as AcknowledgeKind, Recall as RecallKind, Forget as ForgetKind, Unknown as UnknownKind}
+use Rattle.record_runs.specs.declared.head.EventKind.the-variants.{Push as PushKind, Pop as PopKind, Command as CommandKind, Status as StatusKind}
+use Rattle.record_runs.specs.declared.head.EventKind.the-variants.{Reset as ResetKind, Acknowledge as AcknowledgeKind, Recall as RecallKind}
+use Rattle.record_runs.specs.declared.head.EventKind.the-variants.{Forget as ForgetKind, Unknown as UnknownKind}
 use Rattle.record_runs.specs.declared.head.Frame.the-variants.{Framed, Broken}
 use Rattle.record_runs.specs.declared.step.Pass.{Pass}
+use Rattle.record_runs.specs.declared.step.Place.{Place}
 use Rattle.record_runs.specs.Record.{Event, Push, Pop, Command, Status, Reset, Acknowledge, Recall, Forget, Head, Whole, Stop}
-use Rattle.record_runs.specs.Record.{wordAt, le2, exactly, kindNamed, rowBy, kindOf, payloadOf, answeredOf, frameUnder, headIn, answerOf, dataOf, replyOf, stopped, turnBy, turnUnder, turnOf}
-use Rattle.record_runs.specs.Pass.{unchanged, finished, Passed, Passes}
+use Rattle.record_runs.specs.Record.{wordAt, le2, exactly, kindNamed, rowBy, kindOf, payloadOf, answeredOf, frameUnder, headIn}
+use Rattle.record_runs.specs.Record.{answerOf, dataOf, replyOf, stopped, turnBy, turnUnder, turnOf}
+use Rattle.record_runs.specs.Pass.{further, unchanged, finished, Passed, Passes, Leaves}
 use Rattle.record_runs.proofs.Heads.{frame-stops}
 use Rattle.record_runs.proofs.Blocks.{length-popped}
+use Rattle.record_runs.proofs.Places.{at-rest}
 
 -- the data of a reply are as many as its event says
 pub length-dataOf : (c : Card) (e : Event) → length (dataOf c e) ≡ answeredOf e
@@ -50,56 +55,80 @@ closed kind r n bytes room h =
     ap (λ (i : ℕ). le2 (3 + n) ++ (le2 (kind + 128) ++ (r ∷ (bytes ++ drop i room)))) k
     ∙ ap (λ (i : ℕ). le2 (3 + i) ++ (le2 (kind + 128) ++ (r ∷ (bytes ++ drop (length (replyOf kind r bytes)) room)))) (sym h)
 
-module _ (on : Settings) (c : Held) (file room : List ℕ) where
+module _ (on : Settings) (p : Place) (c : Held) (file room : List ℕ) where
   -- a record that stops
-  pub stays : (q : Refusal) {r : Pass} → r ≡ unchanged q c → 0 < numberOf q → Passed on (stopped q (cardUnder on c)) r file room room
-  stays q e h = subst (λ (x : Pass). Passed on (stopped q (cardUnder on c)) x file room room) (sym e) (record {
-    refusal-is = refl;
-    state-is = refl;
-    size-is = refl;
-    reply-is = refl;
-    left-is = refl;
-    within = zero-le;
-    fits = zero-le;
-    moves = λ z. omega arith;
-  })
+  pub stays : (q : Refusal) {r : Pass} → r ≡ unchanged q c p → 0 < numberOf q → Passed on p (stopped q (cardUnder on c)) r file room room
+  stays q e h = subst (λ (x : Pass). Passed on p (stopped q (cardUnder on c)) x file room room) (sym e) (
+    at-rest p,
+    record {
+      refusal-is = refl;
+      state-is = refl;
+      size-is = refl;
+      reply-is = refl;
+      left-is = refl;
+      within = zero-le;
+      fits = zero-le;
+      moves = λ z. omega arith;
+    },
+  )
 
-  pub no-room : (e : Event) {r : Pass} → r ≡ unchanged NoRoom c → length room < 5 + answeredOf e → Passed on (turnBy (cardUnder on c) file (length room) (Whole e)) r file room room
+  pub no-room : (e : Event) {r : Pass} → r ≡ unchanged NoRoom c p → length room < 5 + answeredOf e
+      → Passed on p (turnBy (cardUnder on c) file (length room) (Whole e)) r file room room
   no-room e er h = rw (lt-ltb (length room) (5 + answeredOf e) h) (stays NoRoom er (lit< tt))
 
   -- a payload that has not as many bytes as it must have, or as many
-  pub other-size : (wanted n : ℕ) (e : Event) {r : Pass} → (n ≡ wanted → ⊥) → r ≡ unchanged BadLength c
-      → Passed on (turnBy (cardUnder on c) file (length room) (exactly wanted n e)) r file room room
+  pub other-size : (wanted n : ℕ) (e : Event) {r : Pass} → (n ≡ wanted → ⊥) → r ≡ unchanged BadLength c p
+      → Passed on p (turnBy (cardUnder on c) file (length room) (exactly wanted n e)) r file room room
   other-size wanted n e h er = rw (ne-eqb n wanted h) (stays BadLength er (lit< tt))
 
   pub that-size : (wanted n : ℕ) (e : Event) (r : Pass) {left : List ℕ} → n ≡ wanted
-      → Passed on (turnBy (cardUnder on c) file (length room) (Whole e)) r file room left → Passed on (turnBy (cardUnder on c) file (length room) (exactly wanted n e)) r file room left
+      → Passed on p (turnBy (cardUnder on c) file (length room) (Whole e)) r file room left
+      → Passed on p (turnBy (cardUnder on c) file (length room) (exactly wanted n e)) r file room left
   that-size wanted n e r h w = rw (eq-eqb n wanted h) w
 
   -- a record that is worked: the answer found to be its event's, the data behind the reply's first five bytes
   pub took : (e : Event) (a : CardAnswer) (s : State) (m : Memory) {r : Pass} {refusal : ℕ} {bytes left : List ℕ}
-      → r ≡ finished s m (4 + payloadOf e) (5 + answeredOf e) → a ≡ answerOf (cardUnder on c) (take (payloadOf e) (drop 4 file)) e
+      → r ≡ finished s m (further p (4 + payloadOf e) (5 + answeredOf e)) → a ≡ answerOf (cardUnder on c) (take (payloadOf e) (drop 4 file)) e
       → cardUnder on (record { chip = s; memory = m }) ≡ a .card → refusal ≡ numberOf (a .refusal)
       → bytes ≡ dataOf (cardUnder on c) e ++ drop (answeredOf e) (drop 5 room) → left ≡ le2 (3 + answeredOf e) ++ (le2 (kindOf e + 128) ++ (refusal ∷ bytes))
       → 4 + payloadOf e ≤ length file → 5 + answeredOf e ≤ length room
-      → Passed on (turnBy (cardUnder on c) file (length room) (Whole e)) r file room left
+      → Passed on p (turnBy (cardUnder on c) file (length room) (Whole e)) r file room left
   took e a s m {left = left} ep ea ek er eb el there has =
       let k = cardUnder on c in
       let d = length-dataOf k e in
-      let t : Passed on (turnBy k file (length room) (Whole e)) (finished s m (4 + payloadOf e) (5 + answeredOf e)) file room left = rw (le-ltb (length room) (5 + answeredOf e) has) (record {
-        refusal-is = refl;
-        state-is = ek ∙ ap (λ (x : CardAnswer). x .card) ea;
-        size-is = refl;
-        reply-is = omega (arith, d);
-        left-is =
-            el
-            ∙ rw (eb, drop-drop (answeredOf e) 5 room, er, ea)
-            (closed (kindOf e) (numberOf (answerOf k (take (payloadOf e) (drop 4 file)) e .refusal)) (answeredOf e) (dataOf k e) room d);
-        within = there;
-        fits = has;
-        moves = λ z. omega arith;
-      }) in
-      subst (λ (x : Pass). Passed on (turnBy k file (length room) (Whole e)) x file room left) (sym ep) t
+      let long : 5 + answeredOf e ≡ length (replyOf (kindOf e) (numberOf (answerOf k (take (payloadOf e) (drop 4 file)) e .refusal)) (dataOf k e)) = omega
+      (arith, d) in
+      let t : Passed on p (turnBy k file (length room) (Whole e)) (finished s m (further p (4 + payloadOf e) (5 + answeredOf e))) file room left =
+      rw (le-ltb (length room) (5 + answeredOf e) has) (
+        ap (further p (4 + payloadOf e)) long,
+        record {
+          refusal-is = refl;
+          state-is = ek ∙ ap (λ (x : CardAnswer). x .card) ea;
+          size-is = refl;
+          reply-is = refl;
+          left-is =
+              el
+              ∙ rw (eb, drop-drop (answeredOf e) 5 room, er, ea)
+              (closed (kindOf e) (numberOf (answerOf k (take (payloadOf e) (drop 4 file)) e .refusal)) (answeredOf e) (dataOf k e) room d);
+          within = there;
+          fits = omega (arith, long);
+          moves = λ z. omega arith;
+        },
+      ) in
+      subst (λ (x : Pass). Passed on p (turnBy k file (length room) (Whole e)) x file room left) (sym ep) t
+
+  -- a record of an event that asks no payload and answers no data
+  module _ (after : Held) {kind : ℕ} (e : Event) (h : Leaves (cardUnder on c) (cardUnder on after) kind e) where
+    pub bare-no-room : {r : Pass} → r ≡ unchanged NoRoom c p → length room < 5 → Passed on p (turnBy (cardUnder on c) file (length room) (Whole e)) r file room
+        room
+    bare-no-room er less = no-room e er (omega (arith, h .no-data .0))
+
+    pub bare : {r : Pass} {left : List ℕ} → r ≡ finished (after .chip) (after .memory) (further p 4 5) → left ≡ le2 3 ++ (le2 kind ++ (0 ∷ drop 5 room))
+        → 4 ≤ length file → 5 ≤ length room → Passed on p (turnBy (cardUnder on c) file (length room) (Whole e)) r file room left
+    bare er el there has =
+        let q = take (payloadOf e) (drop 4 file) in
+        took e (answerOf (cardUnder on c) q e) (after .chip) (after .memory) {bytes = drop 5 room} (rw (h .no-payload, h .no-data .0) er) refl (h .card-is q)
+        (h .done-is q) (rw (h .no-data .1, h .no-data .0)) (rw (h .no-data .0, ← h .kind-is) el) (omega (arith, h .no-payload)) (omega (arith, h .no-data .0))
 
 -- ---- what is remembered after a command and after a reset, by the number of the refusal
 module _ (m : Memory) (code n status : ℕ) where
@@ -120,7 +149,8 @@ stored room bytes h =
     ∙ ap (λ (l : List ℕ). bytes ++ l) (sym (drop-drop (length bytes) 5 room))
 
 -- the status byte as the data of a reply, and the memory's two bytes
-pub status-data : (c : Card) (room : List ℕ) (b : ℕ) → b ≡ readOf (c .chip) .byte → 6 ≤ length room → drop 5 (sets room 5 (b ∷ [])) ≡ dataOf c Status ++ drop 1 (drop 5 room)
+pub status-data : (c : Card) (room : List ℕ) (b : ℕ) → b ≡ readOf (c .chip) .byte → 6 ≤ length room → drop 5 (sets room 5 (b ∷ [])) ≡ dataOf c Status
+    ++ drop 1 (drop 5 room)
 status-data c room b e h = stored room (b ∷ []) h ∙ ap (λ (x : ℕ). x ∷ drop 1 (drop 5 room)) e
 
 pub recall-data : (c : Card) (room : List ℕ) → c .chip .status < 128 → 7 ≤ length room
@@ -144,18 +174,22 @@ same-first : (kind : EventKind) (n : ℕ) (l : List ℕ) → rowBy mostPayload k
 same-first kind zero l = no-first kind (getD (take 0 (drop 4 l)) 0 0) (getD l 4 0)
 same-first kind (suc n) l = ap (rowBy mostPayload kind (suc n)) (getD-take (suc n) (drop 4 l) 0 0 (omega arith) ∙ getD-drop 4 l 0 0)
 
-pub framed : (on : Settings) (c : Held) (l room left : List ℕ) (n : ℕ) (kind : EventKind) (r : Pass)
+pub framed : (on : Settings) (p : Place) (c : Held) (l room left : List ℕ) (n : ℕ) (kind : EventKind) (r : Pass)
     → 4 + n ≤ length l → kind ≡ kindNamed (wordAt l 2) → frameUnder mostPayload l ≡ Framed n
-    → Passes on c kind (take n (drop 4 l)) r room left → Passed on (turnOf (cardUnder on c) l (length room)) r l room left
+    → Passes on p c kind (take n (drop 4 l)) r room left → Passed on p (turnOf (cardUnder on c) l (length room)) r l room left
 unfolding turnUnder
-framed on c l room left n kind r there ek ef passes =
-    let p = take n (drop 4 l) in
-    let e : length p ≡ n = length-take-le n (drop 4 l) (omega (arith, length-drop 4 l)) in
-    let row = ap (λ (k : ℕ). rowBy mostPayload kind k (getD p 0 0)) e ∙ same-first kind n l ∙ ap (λ (k : EventKind). rowBy mostPayload k n (getD l 4 0)) ek ∙ ap (headIn mostPayload l) (sym ef) in
-    subst (λ (h : Head). Passed on (turnBy (cardUnder on c) l (length room) h) r l room left) row (passes l (omega (arith, e, there)) (ap (λ (k : ℕ). take k (drop 4 l)) e))
+framed on p c l room left n kind r there ek ef passes =
+    let q = take n (drop 4 l) in
+    let e : length q ≡ n = length-take-le n (drop 4 l) (omega (arith, length-drop 4 l)) in
+    let row =
+    ap (λ (k : ℕ). rowBy mostPayload kind k (getD q 0 0)) e ∙ same-first kind n l ∙ ap (λ (k : EventKind). rowBy mostPayload k n (getD l 4 0)) ek
+    ∙ ap (headIn mostPayload l) (sym ef) in
+    subst (λ (h : Head). Passed on p (turnBy (cardUnder on c) l (length room) h) r l room left) row
+    (passes l (omega (arith, e, there)) (ap (λ (k : ℕ). take k (drop 4 l)) e))
 
-pub broken : (on : Settings) (c : Held) (l room : List ℕ) (q : Refusal) {r : Pass} → frameUnder mostPayload l ≡ Broken q → r ≡ unchanged q c → Passed on (turnOf (cardUnder on c) l (length room)) r l room room
+pub broken : (on : Settings) (p : Place) (c : Held) (l room : List ℕ) (q : Refusal) {r : Pass} → frameUnder mostPayload l ≡ Broken q → r ≡ unchanged q c p
+    → Passed on p (turnOf (cardUnder on c) l (length room)) r l room room
 unfolding turnUnder
-broken on c l room q ef er =
+broken on p c l room q ef er =
     let s = frame-stops mostPayload l q ef in
-    rw ef (stays on c l room q er (omega (arith, s .0)))
+    rw ef (stays on p c l room q er (omega (arith, s .0)))

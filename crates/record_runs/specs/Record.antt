@@ -20,7 +20,9 @@ use Rattle.error_memory.specs.Event.{Chip, Recall as RecallEvent, Forget as For
 use Rattle.error_memory.specs.Memory.{Card, CardAnswer, around, eventIn}
 use Rattle.record_files.specs.Run as files
 use Rattle.record_runs.specs.declared.head.EventKind.{EventKind}
-use Rattle.record_runs.specs.declared.head.EventKind.the-variants.{Push as PushKind, Pop as PopKind, Command as CommandKind, Status as StatusKind, Reset as ResetKind, Acknowledge as AcknowledgeKind, Recall as RecallKind, Forget as ForgetKind, Unknown as UnknownKind}
+use Rattle.record_runs.specs.declared.head.EventKind.the-variants.{Push as PushKind, Pop as PopKind, Command as CommandKind, Status as StatusKind}
+use Rattle.record_runs.specs.declared.head.EventKind.the-variants.{Reset as ResetKind, Acknowledge as AcknowledgeKind, Recall as RecallKind}
+use Rattle.record_runs.specs.declared.head.EventKind.the-variants.{Forget as ForgetKind, Unknown as UnknownKind}
 use Rattle.record_runs.specs.declared.head.Frame.{Frame}
 use Rattle.record_runs.specs.declared.head.Frame.the-variants.{Framed, Broken}
 

@@ -1,9 +1,15 @@
 // The head of the record at the front of a file: its frame and its kind. Nothing is done here.
 use terms::Refusal;
 ghost use mathlib.Core.Path.{_≡_};
-ghost use Prim.Native.Nat.{_+_, _*_};
-ghost use Rattle.terms.specs.Limits.{mostPayload};
+ghost use Prim.Native.Nat.{_+_, _*_, _≤_};
+ghost use lib.ListN.{length};
+ghost use Rattle.terms.specs.Limits.{mostPayload, mostInput};
 ghost use Rattle.record_runs.specs.Record.{kindNamed, frameUnder};
+
+// The least and the most that a record's length may say.
+const LEAST_LENGTH: u32 = terms::LEAST_LENGTH as u32;
+
+const MOST_LENGTH: u32 = terms::MOST_LENGTH as u32;
 
 // A kind of event, by 01's numbers 1 to 6 and 02's two of the error memory: read (7) and cleared (8).
 pub enum EventKind {
@@ -20,7 +26,7 @@ pub enum EventKind {
 
 // The frame of the record at the front of a file: the bytes of its payload, or a refusal.
 pub enum Frame {
-    Framed(usize),
+    Framed(u32),
     Broken(Refusal),
 }
 
@@ -48,22 +54,22 @@ pub fn kind_of(number: u32) -> EventKind
     }
 }
 
-// The frame of the record at the front of `rest`.
-pub fn read_frame(rest: &[u8]) -> Frame
+// The frame of the record at the front of `rest`, which is what is left of a file of this size from a place on.
+pub fn read_frame(rest: &[u8], at: u32, size: u32) -> Frame
+    requires { ⌜ (at + length (now rest) ≡ size) × (size ≤ mostInput) ⌝ }
     ensures { λ r. ⌜ r ≡ frameUnder mostPayload (now (rest .entry)) ⌝ }
 {
-    let left = rest.len();
-    if left < 2 {
+    if size < at + 2 {
         return Frame::Broken(Refusal::CutShort);
     }
-    let n = word(rest[0], rest[1]) as usize;
-    if n < terms::LEAST_LENGTH {
+    let n = word(rest[0], rest[1]) as u32;
+    if n < LEAST_LENGTH {
         return Frame::Broken(Refusal::BadLength);
     }
-    if terms::MOST_LENGTH < n {
+    if MOST_LENGTH < n {
         return Frame::Broken(Refusal::BadLength);
     }
-    if left - 2 < n {
+    if size < at + 2 + n {
         return Frame::Broken(Refusal::CutShort);
     }
     Frame::Framed(n - 2)

@@ -20,16 +20,36 @@ pub bits : (n j : ℕ) → n < 16 → j < 4 → Bits j n (withBit j n)
 bits n j h =
     below4 (λ j. Bits j n (withBit j n))
     (either-eq (λ (m : ℕ). Bits 0 n m) (n / 1 % 2) 0 (n + 1) n
-    (λ e. (omega arith, below4 (λ k. (k ≡ 0 → ⊥) → (n + 1) / 2 ^ k % 2 ≡ n / 2 ^ k % 2) (λ z. absurd (z refl)) (λ z. let x : (n + 1) / 2 ≡ n / 2 = omega arith in rw x) (λ z. let x : (n + 1) / 4 ≡ n / 4 = omega arith in rw x) (λ z. let x : (n + 1) / 8 ≡ n / 8 = omega arith in rw x)))
+    (λ e. (
+      omega arith,
+      below4 (λ k. (k ≡ 0 → ⊥) → (n + 1) / 2 ^ k % 2 ≡ n / 2 ^ k % 2) (λ z. absurd (z refl)) (λ z. let x : (n + 1) / 2 ≡ n / 2 = omega arith
+          in rw x) (λ z. let x : (n + 1) / 4 ≡ n / 4 = omega arith in rw x) (λ z. let x : (n + 1) / 8 ≡ n / 8 = omega arith in rw x),
+    ))
     (λ e. (h, λ k i z. refl)))
     (either-eq (λ (m : ℕ). Bits 1 n m) (n / 2 % 2) 0 (n + 2) n
-    (λ e. (omega arith, below4 (λ k. (k ≡ 1 → ⊥) → (n + 2) / 2 ^ k % 2 ≡ n / 2 ^ k % 2) (λ z. let x : (n + 2) / 1 ≡ n / 1 + 2 = omega arith in let y : (n / 1 + 2) % 2 ≡ n / 1 % 2 = omega arith in rw x y) (λ z. absurd (z refl)) (λ z. let x : (n + 2) / 4 ≡ n / 4 = omega arith in rw x) (λ z. let x : (n + 2) / 8 ≡ n / 8 = omega arith in rw x)))
+    (λ e. (
+      omega arith,
+      below4 (λ k. (k ≡ 1 → ⊥) → (n + 2) / 2 ^ k % 2 ≡ n / 2 ^ k % 2) (λ z. let x : (n + 2) / 1 ≡ n / 1 + 2 = omega arith
+          in let y : (n / 1 + 2) % 2 ≡ n / 1 % 2 = omega arith in rw x y) (λ z. absurd (z refl)) (λ z. let x : (n + 2) / 4 ≡ n / 4 = omega arith in rw x)
+          (λ z. let x : (n + 2) / 8 ≡ n / 8 = omega arith in rw x),
+    ))
     (λ e. (h, λ k i z. refl)))
     (either-eq (λ (m : ℕ). Bits 2 n m) (n / 4 % 2) 0 (n + 4) n
-    (λ e. (omega arith, below4 (λ k. (k ≡ 2 → ⊥) → (n + 4) / 2 ^ k % 2 ≡ n / 2 ^ k % 2) (λ z. let x : (n + 4) / 1 ≡ n / 1 + 4 = omega arith in let y : (n / 1 + 4) % 2 ≡ n / 1 % 2 = omega arith in rw x y) (λ z. let x : (n + 4) / 2 ≡ n / 2 + 2 = omega arith in let y : (n / 2 + 2) % 2 ≡ n / 2 % 2 = omega arith in rw x y) (λ z. absurd (z refl)) (λ z. let x : (n + 4) / 8 ≡ n / 8 = omega arith in rw x)))
+    (λ e. (
+      omega arith,
+      below4 (λ k. (k ≡ 2 → ⊥) → (n + 4) / 2 ^ k % 2 ≡ n / 2 ^ k % 2) (λ z. let x : (n + 4) / 1 ≡ n / 1 + 4 = omega arith
+          in let y : (n / 1 + 4) % 2 ≡ n / 1 % 2 = omega arith in rw x y) (λ z. let x : (n + 4) / 2 ≡ n / 2 + 2 = omega arith
+          in let y : (n / 2 + 2) % 2 ≡ n / 2 % 2 = omega arith in rw x y) (λ z. absurd (z refl)) (λ z. let x : (n + 4) / 8 ≡ n / 8 = omega arith in rw x),
+    ))
     (λ e. (h, λ k i z. refl)))
     (either-eq (λ (m : ℕ). Bits 3 n m) (n / 8 % 2) 0 (n + 8) n
-    (λ e. (omega arith, below4 (λ k. (k ≡ 3 → ⊥) → (n + 8) / 2 ^ k % 2 ≡ n / 2 ^ k % 2) (λ z. let x : (n + 8) / 1 ≡ n / 1 + 8 = omega arith in let y : (n / 1 + 8) % 2 ≡ n / 1 % 2 = omega arith in rw x y) (λ z. let x : (n + 8) / 2 ≡ n / 2 + 4 = omega arith in let y : (n / 2 + 4) % 2 ≡ n / 2 % 2 = omega arith in rw x y) (λ z. let x : (n + 8) / 4 ≡ n / 4 + 2 = omega arith in let y : (n / 4 + 2) % 2 ≡ n / 4 % 2 = omega arith in rw x y) (λ z. absurd (z refl))))
+    (λ e. (
+      omega arith,
+      below4 (λ k. (k ≡ 3 → ⊥) → (n + 8) / 2 ^ k % 2 ≡ n / 2 ^ k % 2) (λ z. let x : (n + 8) / 1 ≡ n / 1 + 8 = omega arith
+          in let y : (n / 1 + 8) % 2 ≡ n / 1 % 2 = omega arith in rw x y) (λ z. let x : (n + 8) / 2 ≡ n / 2 + 4 = omega arith
+          in let y : (n / 2 + 4) % 2 ≡ n / 2 % 2 = omega arith in rw x y) (λ z. let x : (n + 8) / 4 ≡ n / 4 + 2 = omega arith
+          in let y : (n / 4 + 2) % 2 ≡ n / 4 % 2 = omega arith in rw x y) (λ z. absurd (z refl)),
+    ))
     (λ e. (h, λ k i z. refl)))
     j
 

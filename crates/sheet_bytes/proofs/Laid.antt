@@ -25,7 +25,8 @@ module _ (l : List ℕ) (at : ℕ) (vs : List ℕ) (fits : at + length vs ≤ le
       ap (take a) parts ∙ take-append-le a (take at l) (vs ++ rest) (omega (arith, front-long)) ∙ take-take a at l h
 
   pub in-laid : bytesAt (laidAt l at vs) at (length vs) ≡ vs
-  in-laid = ap (λ (v : List ℕ). take (length vs) (drop at v)) parts ∙ ap (take (length vs)) (drop-at (take at l) (vs ++ rest) at front-long) ∙ take-at vs rest (length vs) refl
+  in-laid = ap (λ (v : List ℕ). take (length vs) (drop at v)) parts ∙ ap (take (length vs)) (drop-at (take at l) (vs ++ rest) at front-long)
+      ∙ take-at vs rest (length vs) refl
 
   both-long : length (take at l ++ vs) ≡ at + length vs
   both-long = length-append (take at l) vs ∙ ap (λ (n : ℕ). n + length vs) front-long
@@ -50,7 +51,8 @@ module _ (l : List ℕ) (at : ℕ) (vs : List ℕ) (fits : at + length vs ≤ le
   byte-behind i h =
       let z : i + 0 ≡ i = omega arith in
       subst (λ (k : ℕ). getD (laidAt l at vs) k 0 ≡ getD l k 0) z
-      (sym (getD-drop i (laidAt l at vs) 0 0) ∙ ap (λ (v : List ℕ). getD v 0 0) (subst (λ (k : ℕ). drop k (laidAt l at vs) ≡ drop k l) (let e : at + length vs + (i - (at + length vs)) ≡ i = omega arith in e) (behind-laid (i - (at + length vs)))) ∙ getD-drop i l 0 0)
+      (sym (getD-drop i (laidAt l at vs) 0 0) ∙ ap (λ (v : List ℕ). getD v 0 0) (subst (λ (k : ℕ). drop k (laidAt l at vs) ≡ drop k l)
+      (let e : at + length vs + (i - (at + length vs)) ≡ i = omega arith in e) (behind-laid (i - (at + length vs)))) ∙ getD-drop i l 0 0)
 
 -- a byte as one of some bytes
 pub byte-of : (l : List ℕ) (a n i : ℕ) → i < n → getD l (a + i) 0 ≡ getD (bytesAt l a n) i 0
@@ -82,7 +84,8 @@ four l h =
     let d = drop-cons l 2 0 (omega arith) in
     let e = drop-cons l 3 0 (omega arith) in
     let f = drop-of-length-le l {i = 4} (omega arith) in
-    sym (a ∙ ap (λ (t : List ℕ). getD l 0 0 ∷ t) (b ∙ ap (λ (t : List ℕ). getD l 1 0 ∷ t) (d ∙ ap (λ (t : List ℕ). getD l 2 0 ∷ t) (e ∙ ap (λ (t : List ℕ). getD l 3 0 ∷ t) f))))
+    sym (a ∙ ap (λ (t : List ℕ). getD l 0 0 ∷ t) (b ∙ ap (λ (t : List ℕ). getD l 1 0 ∷ t) (d ∙ ap (λ (t : List ℕ). getD l 2 0 ∷ t) (e
+    ∙ ap (λ (t : List ℕ). getD l 3 0 ∷ t) f))))
 
 -- ---- lines
 

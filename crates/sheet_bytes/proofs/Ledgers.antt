@@ -9,7 +9,8 @@ use lib.Dec.{eqb}
 use lib.ListN.{length, getD, set, take, drop, replicate, length-append, length-drop, length-set, drop-of-length-le}
 use lib.Seq.{length-paste, take-all, take-at, length-take-le}
 use borrow.Author.Tests.{lt-ltb, le-ltb, eq-eqb, ne-eqb, eqb-true}
-use Rattle.sheet_bytes.specs.Ledger.{sheetsBytes, mostSheets, openAt, isSheets, closedIn, keptBits, openSerial, openWords, laidAt, placeAt, dropped, closed}
+use Rattle.sheet_bytes.specs.Ledger.{sheetsBytes, mostSheets, openAt, isSheets, closedIn, keptBits, openSerial, openWords, laidAt, placeAt, dropped}
+use Rattle.sheet_bytes.specs.Ledger.{closed}
 
 -- ---- which bytes stand for sheets
 

@@ -7,7 +7,8 @@ ghost use mathlib.Core.Bool.{cond};
 ghost use lib.Dec.{eqb};
 ghost use lib.ListN.{length};
 ghost use Rattle.little.specs.Little.{le4};
-ghost use Rattle.sheet_bytes.specs.Ledger.{sheetsBytes, mostSheets, isSheets, isOpen, closedIn, laidAt, dropped, opened, keptIn, closed, withBit, openSerial, openWords};
+ghost use Rattle.sheet_bytes.specs.Ledger.{sheetsBytes, mostSheets, isSheets, isOpen, closedIn, laidAt, dropped};
+ghost use Rattle.sheet_bytes.specs.Ledger.{opened, keptIn, closed, withBit, openSerial, openWords};
 
 pub const SHEETS_BYTES: usize = 1303;
 

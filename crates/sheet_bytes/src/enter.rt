@@ -1,4 +1,5 @@
-// What a record of kind 256, 257 or 258 does to the sheets. Each answers the refusal of its reply; a refusal changes nothing.
+// What a record of kind 256, 257 or 258 does to the sheets. Each answers the refusal of its reply; a refusal changes
+// nothing.
 use crate::Refusal;
 use crate::bytes::KEPT_AT;
 use crate::bytes::MOST_SHEETS;
@@ -22,7 +23,8 @@ pub const CLOSE_KIND: u16 = 258;
 // Kind 256: the serial is the payload.
 fn open_sheet(sheets: &mut [u8], payload: &[u8]) -> Refusal
     requires { ⌜ (length (now sheets) ≡ sheetsBytes) × (length (now payload) ≡ 4) ⌝ }
-    ensures { λ r. ⌜ (r ≡ openOf (now (sheets .entry)) (now (payload .entry)) .refusal) × (now (sheets .exit) ≡ openOf (now (sheets .entry)) (now (payload .entry)) .sheets) ⌝ }
+    ensures { λ r. ⌜ (r ≡ openOf (now (sheets .entry)) (now (payload .entry)) .refusal)
+        × (now (sheets .exit) ≡ openOf (now (sheets .entry)) (now (payload .entry)) .sheets) ⌝ }
 {
     if is_open(sheets) {
         return Refusal::StillOpen;
@@ -34,7 +36,8 @@ fn open_sheet(sheets: &mut [u8], payload: &[u8]) -> Refusal
 // Kind 257: the word on top of the stack into a slot.
 fn keep_word(sheets: &mut [u8], slot: u8, pending: bool, top: u32) -> Refusal
     requires { ⌜ length (now sheets) ≡ sheetsBytes ⌝ }
-    ensures { λ r. ⌜ (r ≡ keepOf (now (sheets .entry)) slot pending top .refusal) × (now (sheets .exit) ≡ keepOf (now (sheets .entry)) slot pending top .sheets) ⌝ }
+    ensures { λ r. ⌜ (r ≡ keepOf (now (sheets .entry)) slot pending top .refusal)
+        × (now (sheets .exit) ≡ keepOf (now (sheets .entry)) slot pending top .sheets) ⌝ }
 {
     if !is_open(sheets) {
         return Refusal::NoneOpen;
@@ -52,7 +55,8 @@ fn keep_word(sheets: &mut [u8], slot: u8, pending: bool, top: u32) -> Refusal
 // Kind 258.
 fn close_sheet(sheets: &mut [u8]) -> Refusal
     requires { ⌜ length (now sheets) ≡ sheetsBytes ⌝ }
-    ensures { λ r. ⌜ (r ≡ closeOf (now (sheets .entry)) .refusal) × (now (sheets .exit) ≡ closeOf (now (sheets .entry)) .sheets) ⌝ }
+    ensures { λ r. ⌜ (r ≡ closeOf (now (sheets .entry)) .refusal)
+        × (now (sheets .exit) ≡ closeOf (now (sheets .entry)) .sheets) ⌝ }
 {
     if !is_open(sheets) {
         return Refusal::NoneOpen;
@@ -81,7 +85,8 @@ pub fn payload_for(kind: u16) -> usize
 // A record of this library done, with the half word pending or not and the word on top of the stack as they stand.
 pub fn enter(sheets: &mut [u8], kind: u16, payload: &[u8], pending: bool, top: u32) -> Refusal
     requires { ⌜ (length (now sheets) ≡ sheetsBytes) × (length (now payload) ≡ payloadFor kind) ⌝ }
-    ensures { λ r. ⌜ (r ≡ enteredOf (now (sheets .entry)) kind (now (payload .entry)) pending top .refusal) × (now (sheets .exit) ≡ enteredOf (now (sheets .entry)) kind (now (payload .entry)) pending top .sheets) ⌝ }
+    ensures { λ r. ⌜ (r ≡ enteredOf (now (sheets .entry)) kind (now (payload .entry)) pending top .refusal)
+        × (now (sheets .exit) ≡ enteredOf (now (sheets .entry)) kind (now (payload .entry)) pending top .sheets) ⌝ }
 {
     match kind {
         256 => open_sheet(sheets, payload),

@@ -23,7 +23,8 @@ module _ (sheets out : List ℕ) (r : ℕ) where
       let i : figuresOf sheets out ≡ refused BadState out = rw (eq-eqb (length out) figuresBytes h, b) in
       subst (λ (t : Told). Tells t r out) (sym i) (record { result-is = e; out-is = refl })
 
-  pub told : (left : List ℕ) → length out ≡ figuresBytes → isSheets sheets ≡ true → r ≡ numberOf Done → left ≡ written (linesOf sheets) → Tells (figuresOf sheets out) r left
+  pub told : (left : List ℕ) → length out ≡ figuresBytes → isSheets sheets ≡ true → r ≡ numberOf Done → left ≡ written (linesOf sheets)
+      → Tells (figuresOf sheets out) r left
   unfolding figuresOf
   told left h b e f =
       let i : figuresOf sheets out ≡ record { result = 0; out = written (linesOf sheets) } = rw (eq-eqb (length out) figuresBytes h, b) in

@@ -44,9 +44,11 @@ module _ (p q : ℕ → Bool) (x : ℕ) (agree : (y : ℕ) → (x ≡ y → ⊥)
   one-more : (y : ℕ) (m : List ℕ) → many p m + cond (q x) 1 0 * count x m ≡ many q m + cond (p x) 1 0 * count x m → (t : Bool) → eqb x y ≡ t
       → many p (y ∷ m) + cond (q x) 1 0 * count x (y ∷ m) ≡ many q (y ∷ m) + cond (p x) 1 0 * count x (y ∷ m)
   one-more y m is true e =
-      rw e (subst (λ (z : ℕ). cond (p z) (suc (many p m)) (many p m) + cond (q x) 1 0 * suc (count x m) ≡ cond (q z) (suc (many q m)) (many q m) + cond (p x) 1 0 * suc (count x m)) (eqb-true x y e) (differed (p x) (q x) (many p m) (many q m) (count x m) is))
+      rw e (subst (λ (z : ℕ). cond (p z) (suc (many p m)) (many p m) + cond (q x) 1 0 * suc (count x m) ≡ cond (q z) (suc (many q m)) (many q m) + cond (p x) 1
+      0 * suc (count x m)) (eqb-true x y e) (differed (p x) (q x) (many p m) (many q m) (count x m) is))
   one-more y m is false e =
-      rw e (subst (λ (b : Bool). cond (p y) (suc (many p m)) (many p m) + cond (q x) 1 0 * count x m ≡ cond b (suc (many q m)) (many q m) + cond (p x) 1 0 * count x m) (agree y (eqb-false x y e)) (agreed (p y) (many p m) (many q m) (cond (q x) 1 0 * count x m) (cond (p x) 1 0 * count x m) is))
+      rw e (subst (λ (b : Bool). cond (p y) (suc (many p m)) (many p m) + cond (q x) 1 0 * count x m ≡ cond b (suc (many q m)) (many q m) + cond (p x) 1
+      0 * count x m) (agree y (eqb-false x y e)) (agreed (p y) (many p m) (many q m) (cond (q x) 1 0 * count x m) (cond (p x) 1 0 * count x m) is))
 
   many-changed : (m : List ℕ) → many p m + cond (q x) 1 0 * count x m ≡ many q m + cond (p x) 1 0 * count x m
   many-changed [] = none (cond (q x) 1 0) (cond (p x) 1 0)
@@ -80,7 +82,8 @@ module _ (x : ℕ) (l : List ℕ) where
   at-itself = rw (eq-eqb x x refl)
 
   pick : (t : Bool) (m : List ℕ) → many (λ y. leb 2 (count y (x ∷ l))) (cond t (x ∷ m) m)
-      ≡ cond t (cond (leb 2 (count x (x ∷ l))) (suc (many (λ y. leb 2 (count y (x ∷ l))) m)) (many (λ y. leb 2 (count y (x ∷ l))) m)) (many (λ y. leb 2 (count y (x ∷ l))) m)
+      ≡ cond t (cond (leb 2 (count x (x ∷ l))) (suc (many (λ y. leb 2 (count y (x ∷ l))) m)) (many (λ y. leb 2 (count y (x ∷ l))) m))
+      (many (λ y. leb 2 (count y (x ∷ l))) m)
   pick true m = refl
   pick false m = refl
 

@@ -57,8 +57,11 @@ module _ (s : List ℕ) (p m i w : ℕ) (more : i < closedIn s) (is : w ≡ word
       same q p u c d a e = omega arith
 
 pub gather-ends : (s : List ℕ) (p m i : ℕ) → closedIn s ≤ i → Gathers s p m i → (p ≡ ups (words (linesOf s))) × (m ≡ downs (words (linesOf s)))
-gather-ends s p m i h g =
-    (counted-all (λ l. ups (words l)) s p i (ups (words (linesOf s))) refl h (g .plus-is), counted-all (λ l. downs (words l)) s m i (downs (words (linesOf s))) refl h (g .minus-is))
+gather-ends s p m i h g = (
+  counted-all (λ l. ups (words l)) s p i (ups (words (linesOf s))) refl h (g .plus-is),
+  counted-all (λ l. downs (words l)) s m i (downs (words (linesOf s)))
+      refl h (g .minus-is),
+)
 
 -- ---- the sum of all
 
@@ -77,7 +80,8 @@ module _ (l : List (List ℕ)) (a b d top : ℕ) (is-a : a ≡ ups (words l)) (i
       left x z e = let f : d + b ≡ a + 0 * top = subst (λ (n : ℕ). d + b ≡ a + n * top) z e in omega arith
 
   -- borrowed: below zero, and the other difference is the magnitude
-  pub sum-below : (c x y : ℕ) → (x ≡ 0 → ⊥) → x ≤ 1 → y ≤ 1 → c < top → d < top → c + b ≡ a + x * top → d + a ≡ b + y * top → (minus ≡ signOf (sum88 l)) × (d ≡ natAbs (sum88 l))
+  pub sum-below : (c x y : ℕ) → (x ≡ 0 → ⊥) → x ≤ 1 → y ≤ 1 → c < top → d < top → c + b ≡ a + x * top → d + a ≡ b + y * top → (minus ≡ signOf (sum88 l))
+      × (d ≡ natAbs (sum88 l))
   sum-below c x y z hx hy hc hd e f =
       let o : x ≡ 1 = omega arith in
       let g : c + b ≡ a + 1 * top = subst (λ (n : ℕ). c + b ≡ a + n * top) o e in
@@ -88,4 +92,5 @@ module _ (l : List (List ℕ)) (a b d top : ℕ) (is-a : a ≡ ups (words l)) (i
       (sym (ap signOf i), sym (ap natAbs i ∙ omega arith))
     where
       none : (y : ℕ) → y ≤ 1 → d + a ≡ b + y * top → a < b → y ≡ 0
-      none y h e m = ⊎-elim (λ (p : 0 < y). let z : y ≡ 1 = omega arith in let q : d + a ≡ b + 1 * top = subst (λ (n : ℕ). d + a ≡ b + n * top) z e in absurd (omega arith)) (λ (p : y ≤ 0). omega arith) (either 0 y)
+      none y h e m = ⊎-elim (λ (p : 0 < y). let z : y ≡ 1 = omega arith in let q : d + a ≡ b + 1 * top = subst (λ (n : ℕ). d + a ≡ b + n * top) z e
+          in absurd (omega arith)) (λ (p : y ≤ 0). omega arith) (either 0 y)

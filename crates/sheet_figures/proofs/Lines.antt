@@ -18,11 +18,13 @@ pub sheets-are : (l : List ℕ) → isSheets l ≡ true → (length l ≡ sheets
 unfolding isSheets
 sheets-are l h = size (eqb (length l) sheetsBytes) refl h
   where
-    number : (t : Bool) → ltb mostSheets (getD l 0 0) ≡ t → cond t false (cond (ltb 1 (getD l openAt 0)) false (cond (ltb 15 (getD l keptAt 0)) false true)) ≡ true → getD l 0 0 ≤ mostSheets
+    number : (t : Bool) → ltb mostSheets (getD l 0 0) ≡ t → cond t false (cond (ltb 1 (getD l openAt 0)) false (cond (ltb 15 (getD l keptAt 0)) false true))
+        ≡ true → getD l 0 0 ≤ mostSheets
     number true e k = absurd (subst (λ (b : Bool). cond b ⊥ Unit) k tt)
     number false e k = ltb-false mostSheets (getD l 0 0) e
 
-    size : (t : Bool) → eqb (length l) sheetsBytes ≡ t → cond t (cond (ltb mostSheets (getD l 0 0)) false (cond (ltb 1 (getD l openAt 0)) false (cond (ltb 15 (getD l keptAt 0)) false true))) false ≡ true → (length l ≡ sheetsBytes) × (closedIn l ≤ mostSheets)
+    size : (t : Bool) → eqb (length l) sheetsBytes ≡ t → cond t (cond (ltb mostSheets (getD l 0 0)) false (cond (ltb 1 (getD l openAt 0)) false
+        (cond (ltb 15 (getD l keptAt 0)) false true))) false ≡ true → (length l ≡ sheetsBytes) × (closedIn l ≤ mostSheets)
     size true e k = (eqb-true (length l) sheetsBytes e, number (ltb mostSheets (getD l 0 0)) refl k)
     size false e k = absurd (subst (λ (b : Bool). cond b ⊥ Unit) k tt)
 
@@ -50,7 +52,13 @@ byte-at l i j at h k e =
 
 four-at : (l : List ℕ) (i j at : ℕ) → i < closedIn l → j + 3 < 20 → at ≡ 1 + 20 * i + j → fourAt (getD (linesOf l) i []) j ≡ fourAt l at
 four-at l i j at h k e =
-    rw (byte-at l i j at h (omega arith) e, byte-at l i (j + 1) (at + 1) h (omega arith) (omega arith), byte-at l i (j + 2) (at + 2) h (omega arith) (omega arith), byte-at l i (j + 3) (at + 3) h (omega arith) (omega arith))
+    rw (
+      byte-at l i j at h (omega arith) e,
+      byte-at l i (j + 1) (at + 1) h (omega arith) (omega arith),
+      byte-at l i (j + 2) (at + 2) h (omega arith)
+          (omega arith),
+      byte-at l i (j + 3) (at + 3) h (omega arith) (omega arith),
+    )
 
 pub serial-at : (l : List ℕ) (i at : ℕ) → i < closedIn l → at ≡ 1 + 20 * i → serialOn (getD (linesOf l) i []) ≡ fourAt l at
 serial-at l i at h e = four-at l i 0 at h (omega arith) (omega arith)

@@ -27,7 +27,13 @@ digit-hex : (d : ℕ) → d < 16 → isHex (hexDigit d) ≡ true
 digit-hex d h =
     ⊎-elim
     (λ (p : d < 10). rw (lt-ltb d 10 p) (rw (le-leb 48 (48 + d) (omega arith), lt-ltb (48 + d) 58 (omega arith))))
-    (λ (p : 10 ≤ d). rw (le-ltb d 10 p) (rw (le-leb 48 (55 + d) (omega arith), le-ltb (55 + d) 58 (omega arith), le-leb 65 (55 + d) (omega arith), lt-ltb (55 + d) 71 (omega arith))))
+    (λ (p : 10 ≤ d). rw (le-ltb d 10 p) (rw (
+      le-leb 48 (55 + d) (omega arith),
+      le-ltb (55 + d) 58 (omega arith),
+      le-leb 65 (55 + d) (omega arith),
+      lt-ltb
+          (55 + d) 71 (omega arith),
+    )))
     (either d 10)
 
 -- ---- a digit after others

@@ -60,7 +60,8 @@ module _ (s : List ℕ) (p i t k : ℕ) (more : i < closedIn s) where
   count-on x w a b =
       let n : ℕ = count x (serials (drop (i + 1) (linesOf s))) in
       on p (count x (serials (drop i (linesOf s)))) k n t
-      (ap (λ (l : List (List ℕ)). count x (serials l)) (ahead-is s i more) ∙ counted (eqb x (serialOn (getD (linesOf s) i []))) n ∙ ap (λ (j : ℕ). j + n) (ap (λ (v : ℕ). cond (eqb x v) 1 0) (sym a) ∙ sym b))
+      (ap (λ (l : List (List ℕ)). count x (serials l)) (ahead-is s i more) ∙ counted (eqb x (serialOn (getD (linesOf s) i []))) n
+      ∙ ap (λ (j : ℕ). j + n) (ap (λ (v : ℕ). cond (eqb x v) 1 0) (sym a) ∙ sym b))
 
   -- the different serials: this one counts where it does not stand further on
   pub different-on : (x c : ℕ) → x ≡ serialOn (getD (linesOf s) i []) → c ≡ count x (serials (drop (i + 1) (linesOf s))) → k ≡ cond (eqb c 0) 1 0
@@ -74,7 +75,8 @@ module _ (s : List ℕ) (p i t k : ℕ) (more : i < closedIn s) where
       ∙ ap (λ (j : ℕ). j + different ahead) (ap (λ (v : ℕ). cond (eqb v 0) 1 0) (sym b) ∙ sym d))
 
   -- those that pass a test
-  pub tested-on : (test : ℕ → Bool) (x c j : ℕ) → x ≡ serialOn (getD (linesOf s) i []) → c ≡ count x (serials (drop (i + 1) (linesOf s))) → k ≡ cond (eqb c 0) 1 0
+  pub tested-on : (test : ℕ → Bool) (x c j : ℕ) → x ≡ serialOn (getD (linesOf s) i []) → c ≡ count x (serials (drop (i + 1) (linesOf s)))
+      → k ≡ cond (eqb c 0) 1 0
       → j ≡ cond (test x) 1 0
       → p + many test (once (serials (drop i (linesOf s)))) ≡ t → p + k * j + many test (once (serials (drop (i + 1) (linesOf s)))) ≡ t
   tested-on test x c j a b d e =

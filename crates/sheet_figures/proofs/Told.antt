@@ -12,7 +12,8 @@ use Rattle.sheet_bytes.specs.Ledger.{isSheets, lines, linesOf}
 use Rattle.terms.specs.declared.Refusal.the-variants.{NoRoom}
 use Rattle.sheet_figures.specs.Figures.{different, repeated, improper, sum88}
 use Rattle.sheet_figures.specs.Digits.{plus, sumText}
-use Rattle.sheet_figures.specs.Telling.{figuresBytes, written, refused, figuresOf, FiguresDetermined, FiguresAnswered, AnyOrderWritten, AnyOrderTold, SumIsTold, NoSheets, Examples}
+use Rattle.sheet_figures.specs.Telling.{figuresBytes, written, refused, figuresOf, FiguresDetermined, FiguresAnswered, AnyOrderWritten, AnyOrderTold}
+use Rattle.sheet_figures.specs.Telling.{SumIsTold, NoSheets, Examples}
 use Rattle.sheet_figures.proofs.Orders.{any-order}
 use Rattle.sheet_figures.proofs.Sums.{always-fits}
 use Rattle.sheet_figures.proofs.Reading.{text-is-the-sum}
@@ -50,7 +51,8 @@ any-order-written l m d =
 pub any-order-told : AnyOrderTold
 unfolding figuresOf
 any-order-told s t out h k d =
-    rw (h, k) (ap (λ (w : List ℕ). cond (eqb (length out) figuresBytes) (record { result = 0; out = w }) (refused NoRoom out)) (any-order-written (linesOf s) (linesOf t) d))
+    rw (h, k) (ap (λ (w : List ℕ). cond (eqb (length out) figuresBytes) (record { result = 0; out = w }) (refused NoRoom out)) (any-order-written (linesOf s)
+    (linesOf t) d))
 
 pub sum-is-told : SumIsTold
 sum-is-told sheets h =

@@ -46,7 +46,8 @@ digits-on out size i c d ho hs h small ec ed is =
     ∙ sym (two-digits (2 * i) b (le (drop (24 - i) size)) small)
     ∙ ap₂ (λ (k : ℕ) (l : List ℕ). hexDigits k (le l)) (sym n) (sym low)
 
-pub digits-all : (out size : List ℕ) (i : ℕ) → i ≡ 24 → length out ≡ 48 → take (2 * i) out ≡ hexDigits (2 * i) (le (drop (24 - i) size)) → out ≡ hexDigits 48 (le size)
+pub digits-all : (out size : List ℕ) (i : ℕ) → i ≡ 24 → length out ≡ 48 → take (2 * i) out ≡ hexDigits (2 * i) (le (drop (24 - i) size))
+    → out ≡ hexDigits 48 (le size)
 digits-all out size i e h is =
     sym (take-all 48 out (omega arith)) ∙ subst (λ (k : ℕ). take (2 * k) out ≡ hexDigits (2 * k) (le (drop (24 - k) size))) e is
 

@@ -21,7 +21,8 @@ fn one(test: bool) -> u8
 
 // On how many lines, from one on, a serial stands.
 fn count_from(sheets: &[u8], from: usize, serial: u32) -> u8
-    requires { ⌜ (length (now sheets) ≡ sheetsBytes) × (closedIn (now sheets) ≤ mostSheets) × (from ≤ closedIn (now sheets)) ⌝ }
+    requires { ⌜ (length (now sheets) ≡ sheetsBytes) × (closedIn (now sheets) ≤ mostSheets)
+        × (from ≤ closedIn (now sheets)) ⌝ }
     ensures { λ r. ⌜ r ≡ count serial (serials (drop from (linesOf (now (sheets .entry))))) ⌝ }
 {
     let n = sheets[0] as usize;
@@ -43,7 +44,8 @@ pub struct Serials {
 // A serial is counted on the last line on which it stands.
 pub fn count_serials(sheets: &[u8]) -> Serials
     requires { ⌜ (length (now sheets) ≡ sheetsBytes) × (closedIn (now sheets) ≤ mostSheets) ⌝ }
-    ensures { λ r. ⌜ (r .different ≡ different (linesOf (now (sheets .entry)))) × (r .repeated ≡ repeated (linesOf (now (sheets .entry)))) ⌝ }
+    ensures { λ r. ⌜ (r .different ≡ different (linesOf (now (sheets .entry))))
+        × (r .repeated ≡ repeated (linesOf (now (sheets .entry)))) ⌝ }
 {
     let n = sheets[0] as usize;
     let mut different = 0;

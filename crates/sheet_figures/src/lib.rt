@@ -36,7 +36,8 @@ fn put_front(out: &mut [u8], lines: u8, different: u8, repeated: u8, improper: u
 
 // The figures of bytes that stand for sheets.
 fn write(sheets: &[u8], out: &mut [u8])
-    requires { ⌜ (length (now sheets) ≡ sheetsBytes) × (closedIn (now sheets) ≤ mostSheets) × (length (now out) ≡ figuresBytes) ⌝ }
+    requires { ⌜ (length (now sheets) ≡ sheetsBytes) × (closedIn (now sheets) ≤ mostSheets)
+        × (length (now out) ≡ figuresBytes) ⌝ }
     ensures { λ _. ⌜ now (out .exit) ≡ written (linesOf (now (sheets .entry))) ⌝ }
 {
     let s = count_serials(sheets);

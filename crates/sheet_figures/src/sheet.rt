@@ -10,7 +10,8 @@ ghost use Rattle.sheet_figures.specs.Figures.{serialOn, wordOn};
 
 // The serial of the i-th line.
 pub fn serial_at(sheets: &[u8], i: usize) -> u32
-    requires { ⌜ (length (now sheets) ≡ sheetsBytes) × (closedIn (now sheets) ≤ mostSheets) × (i < closedIn (now sheets)) ⌝ }
+    requires { ⌜ (length (now sheets) ≡ sheetsBytes) × (closedIn (now sheets) ≤ mostSheets)
+        × (i < closedIn (now sheets)) ⌝ }
     ensures { λ r. ⌜ r ≡ serialOn (getD (linesOf (now (sheets .entry))) i []) ⌝ }
 {
     four_at(sheets, 1 + PLACE_BYTES * i)
@@ -18,7 +19,8 @@ pub fn serial_at(sheets: &[u8], i: usize) -> u32
 
 // The word of slot 0 of the i-th line.
 pub fn word_at(sheets: &[u8], i: usize) -> u32
-    requires { ⌜ (length (now sheets) ≡ sheetsBytes) × (closedIn (now sheets) ≤ mostSheets) × (i < closedIn (now sheets)) ⌝ }
+    requires { ⌜ (length (now sheets) ≡ sheetsBytes) × (closedIn (now sheets) ≤ mostSheets)
+        × (i < closedIn (now sheets)) ⌝ }
     ensures { λ r. ⌜ r ≡ wordOn (getD (linesOf (now (sheets .entry))) i []) ⌝ }
 {
     four_at(sheets, 5 + PLACE_BYTES * i)

@@ -83,7 +83,8 @@ pub struct Difference {
 
 // a less b, byte by byte; what is borrowed at the end is 1 where b is the greater.
 fn less(a: [u8; 24], b: [u8; 24]) -> Difference
-    ensures { λ r. ⌜ (le (r .bytes) + le b ≡ le a + r .borrowed * sumLimit) × (le (r .bytes) < sumLimit) × (r .borrowed ≤ 1) ⌝ }
+    ensures { λ r. ⌜ (le (r .bytes) + le b ≡ le a + r .borrowed * sumLimit) × (le (r .bytes) < sumLimit)
+        × (r .borrowed ≤ 1) ⌝ }
 {
     let mut bytes = a;
     let mut borrowed = 0;
@@ -127,7 +128,8 @@ fn gather(s: Sums, word: u32) -> Sums
 // The sums of the words in slot 0 of all lines.
 fn gather_all(sheets: &[u8]) -> Sums
     requires { ⌜ (length (now sheets) ≡ sheetsBytes) × (closedIn (now sheets) ≤ mostSheets) ⌝ }
-    ensures { λ r. ⌜ (le (r .plus) ≡ ups (words (linesOf (now (sheets .entry))))) × (le (r .minus) ≡ downs (words (linesOf (now (sheets .entry))))) ⌝ }
+    ensures { λ r. ⌜ (le (r .plus) ≡ ups (words (linesOf (now (sheets .entry)))))
+        × (le (r .minus) ≡ downs (words (linesOf (now (sheets .entry))))) ⌝ }
 {
     let n = sheets[0] as usize;
     let mut s = Sums {
@@ -151,7 +153,8 @@ pub struct Total {
 // The sum of the proper words of slot 0.
 pub fn sum_of(sheets: &[u8]) -> Total
     requires { ⌜ (length (now sheets) ≡ sheetsBytes) × (closedIn (now sheets) ≤ mostSheets) ⌝ }
-    ensures { λ r. ⌜ (r .sign ≡ signOf (sum88 (linesOf (now (sheets .entry))))) × (le (r .size) ≡ natAbs (sum88 (linesOf (now (sheets .entry))))) ⌝ }
+    ensures { λ r. ⌜ (r .sign ≡ signOf (sum88 (linesOf (now (sheets .entry)))))
+        × (le (r .size) ≡ natAbs (sum88 (linesOf (now (sheets .entry))))) ⌝ }
 {
     let s = gather_all(sheets);
     let above = s.plus;

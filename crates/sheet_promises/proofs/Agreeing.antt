@@ -16,7 +16,8 @@ use Rattle.sheet_bytes.specs.Ledger.{closedIn, isOpen, keptBits, bytesAt, laidA
 use Rattle.sheet_bytes.proofs.Ledgers.{length-laid, length-line}
 use Rattle.sheet_promises.specs.History.{Entry, opens, keeps, closes, serialOf, keptOf, sheetOf, sheetsIn}
 use Rattle.sheet_bytes.proofs.Bits.{Bits, bits}
-use Rattle.sheet_bytes.proofs.Laid.{four, before-laid, in-laid, bytes-before, bytes-behind, byte-of, bytes-of, bytes-set, bytes-set-front, same-lines, line-more}
+use Rattle.sheet_bytes.proofs.Laid.{four, before-laid, in-laid, bytes-before, bytes-behind, byte-of, bytes-of, bytes-set, bytes-set-front, same-lines}
+use Rattle.sheet_bytes.proofs.Laid.{line-more}
 
 -- ---- what the bytes say of the open sheet, and of the list
 pub record OpenAs (es : List Entry) (l : List ℕ) : Type 0 where

@@ -32,7 +32,8 @@ use Rattle.sheet_promises.specs.Bytes.{fourAt}
 use Rattle.sheet_promises.specs.Sheets.{isSheets}
 use Rattle.sheet_promises.specs.Records.{isOwnKind, split, recordsOf, joined, struck, struckReplies}
 use Rattle.sheet_promises.specs.History.{Entry, historyFrom, sheetsIn}
-use Rattle.sheet_promises.specs.SheetsCall.{SheetsAllowed, SheetsDetermined, SheetsTurnedAway, ReportsResult, repliesIn, SheetsRepliesStay, Grown, SheetsKept}
+use Rattle.sheet_promises.specs.SheetsCall.{SheetsAllowed, SheetsDetermined, SheetsTurnedAway, ReportsResult, repliesIn, SheetsRepliesStay, Grown}
+use Rattle.sheet_promises.specs.SheetsCall.{SheetsKept}
 use Rattle.sheet_promises.specs.PowerCut.{PowerCut}
 use Rattle.sheet_promises.specs.StruckOut.{StruckOut}
 use Rattle.sheet_promises.specs.OwnWords.{Job, answerTo, sheetsAfter, historyOver, Lent, AllLent, Every, Owned, OwnWords}

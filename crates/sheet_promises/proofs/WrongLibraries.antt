@@ -19,9 +19,12 @@ use Rattle.sheets.specs.Step.{isOwn, lineOf}
 use Rattle.sheets.specs.Calls.{callOf}
 use Rattle.sheet_promises.specs.Bytes.{Bytes, zeros, fourAt}
 use Rattle.sheet_promises.specs.Subjects.{SheetsAnswer, FiguresAnswer}
-use Rattle.sheet_promises.specs.WrongLibraries.{Library, Lent, Meets, No, RefusesEverything, never-run, never-figures, SingleReply, same-run, same-figures}
-use Rattle.sheet_promises.specs.WrongLibraries.{same-out, IsRecord, SameReplies, DoesNothing, back-state, back-sheets, back-replies, back-report, back-out}
-use Rattle.sheet_promises.specs.WrongLibraries.{FirstRecordOnly, first-state, first-sheets, first-replies, InventedCounts, wrong-taken, wrong-written, first}
+use Rattle.sheet_promises.specs.WrongLibraries.{Library, Lent, Meets, No, RefusesEverything, never-run, never-figures, SingleReply, same-run}
+use Rattle.sheet_promises.specs.WrongLibraries.{same-figures}
+use Rattle.sheet_promises.specs.WrongLibraries.{same-out, IsRecord, SameReplies, DoesNothing, back-state, back-sheets, back-replies, back-report}
+use Rattle.sheet_promises.specs.WrongLibraries.{back-out}
+use Rattle.sheet_promises.specs.WrongLibraries.{FirstRecordOnly, first-state, first-sheets, first-replies, InventedCounts, wrong-taken, wrong-written}
+use Rattle.sheet_promises.specs.WrongLibraries.{first}
 use Rattle.sheet_promises.specs.WrongLibraries.{rest, close, Tells, WrongLibraries}
 use Rattle.sheet_promises.proofs.SheetsCall.{sheets-call}
 

@@ -7,7 +7,8 @@ use lib.Dec.{eqb, ltb}
 use lib.ListN.{length, getD, take, drop}
 use Rattle.sheet_promises.specs.Bytes.{zeros, part, twoAt, fourAt}
 use Rattle.sheet_promises.specs.Sheets.{dropped}
-use Rattle.sheet_promises.specs.Records.{framing, firstRecord, kindOf, isOwnKind, payloadOf, replyOf, Entered, enter}
+use Rattle.sheet_promises.specs.Records.{framing, firstRecord, kindOf, isOwnKind, payloadOf, replyOf}
+use Rattle.sheet_promises.specs.Records.{Entered, enter}
 use Rattle.sheet_promises.specs.Subjects.{CoreAnswer, coreCall}
 
 -- ---- the bytes of a state

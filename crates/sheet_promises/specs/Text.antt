@@ -99,4 +99,6 @@ textOf a =
 -- for every mode, rule and input: the run from reset on an empty list, 65,536 reply bytes
 abbrev pub SheetsText : Type 0
 SheetsText =
-    (mode rule : ℕ) → (input : List ℕ) → sheetsText mode rule input ≡ textOf (sheetsCall mode rule (zeros 19) (zeros 1303) input (zeros 65536) (zeros 9))
+    (mode rule : ℕ) (input : List ℕ)
+    → sheetsText mode rule input
+    ≡ textOf (sheetsCall mode rule (zeros 19) (zeros 1303) input (zeros 65536) (zeros 9))

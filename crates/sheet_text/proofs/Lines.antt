@@ -15,7 +15,8 @@ use Rattle.listing.specs.Text.{digit, decimal, Adds}
 use Rattle.listing.specs.Listing.{newline, field, printedOf}
 use Rattle.listing.proofs.Adding.{nothing}
 use Rattle.listing.proofs.Decimal.{at-most}
-use Rattle.sheet_text.specs.Printout.{sheetWord, openWord, wordText, wordsText, sheetText, sheetsText, openText, figureText, figuresText, figuresFor, printedFor, printoutOf, toldOf}
+use Rattle.sheet_text.specs.Printout.{sheetWord, openWord, wordText, wordsText, sheetText, sheetsText, openText, figureText, figuresText, figuresFor}
+use Rattle.sheet_text.specs.Printout.{restText, printedFor, printoutOf, toldOf}
 
 -- the line of a sheet has room
 pub sheet-length : (l : List ℕ) → length (sheetText l) ≡ length (decimal (fourAt l 0)) + 43
@@ -95,14 +96,19 @@ open-short l = pick (isOpen l)
 pub figure-short : (name : List ℕ) (n : ℕ) → length (figureText name n) ≤ length name + 22
 figure-short name n = omega (arith, length-append name (field n ++ (newline ∷ [])), length-append (decimal n) (newline ∷ []), at-most 20 n)
 
+-- what stands behind the listing, of the figures that the code has
+pub rest-of : (sheets : List ℕ) {figures before after : List ℕ} {place new : ℕ} → figures ≡ figuresFor sheets
+    → Adds (sheetsText (linesOf sheets) ++ (openText sheets ++ figuresText figures)) before after place new → Adds (restText sheets) before after place new
+rest-of sheets {figures} {before} {after} {place} {new} e x =
+    subst (λ (f : List ℕ). Adds (sheetsText (linesOf sheets) ++ (openText sheets ++ figuresText f)) before after place new) e x
+
 -- what a run left has its text
-pub of-run : (c : Called) {replies report sheets figures : List ℕ} → replies ≡ c .replies → report ≡ c .report → sheets ≡ c .sheets → figures ≡ figuresFor sheets
-    → printedOf replies report ++ (sheetsText (linesOf sheets) ++ (openText sheets ++ figuresText figures)) ≡ printedFor c
-of-run c {replies} {report} {sheets} {figures} e f g h =
-    ap (λ (l : List ℕ). printedOf l report ++ (sheetsText (linesOf sheets) ++ (openText sheets ++ figuresText figures))) e
-    ∙ ap (λ (l : List ℕ). printedOf (c .replies) l ++ (sheetsText (linesOf sheets) ++ (openText sheets ++ figuresText figures))) f
-    ∙ ap (λ (l : List ℕ). printedOf (c .replies) (c .report) ++ (sheetsText (linesOf sheets) ++ (openText sheets ++ figuresText l))) h
-    ∙ ap (λ (l : List ℕ). printedOf (c .replies) (c .report) ++ (sheetsText (linesOf l) ++ (openText l ++ figuresText (figuresFor l)))) g
+pub of-run : (c : Called) {replies report sheets : List ℕ} → replies ≡ c .replies → report ≡ c .report → sheets ≡ c .sheets
+    → printedOf replies report ++ restText sheets ≡ printedFor c
+of-run c {replies} {report} {sheets} e f g =
+    ap (λ (l : List ℕ). printedOf l report ++ restText sheets) e
+    ∙ ap (λ (l : List ℕ). printedOf (c .replies) l ++ restText sheets) f
+    ∙ ap (λ (l : List ℕ). printedOf (c .replies) (c .report) ++ restText l) g
 
 -- a call without options has mode and rule 0
 pub stays : (first second input : List ℕ) → toldOf 1 first second input ≡ printoutOf input

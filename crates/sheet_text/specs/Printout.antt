@@ -26,6 +26,10 @@ openRoom = 32
 abbrev pub figuresRoom : ℕ
 figuresRoom = 192
 
+-- together, for 64 sheets
+abbrev pub restRoom : ℕ
+restRoom = 4320
+
 -- ---- the lines
 
 -- the words that begin them, `sheet` and `open`
@@ -103,9 +107,13 @@ abbrev pub callUnder : ℕ → ℕ → List ℕ → Called
 callUnder mode rule input =
     callOf mode rule (replicate stateBytes 0) (replicate sheetsBytes 0) input (replicate replyRoom 0) (replicate reportBytes 0)
 
--- the listing of the replies and the report that a run leaves, then the closed sheets, then the open one, then the figures
+-- the closed sheets of a slice, then the open one, then the figures
+abbrev pub restText : List ℕ → List ℕ
+restText sheets = sheetsText (linesOf sheets) ++ (openText sheets ++ figuresText (figuresFor sheets))
+
+-- the listing of the replies and the report that a run leaves, then those of its sheets
 abbrev pub printedFor : Called → List ℕ
-printedFor c = printedOf (c .replies) (c .report) ++ (sheetsText (linesOf (c .sheets)) ++ (openText (c .sheets) ++ figuresText (figuresFor (c .sheets))))
+printedFor c = printedOf (c .replies) (c .report) ++ restText (c .sheets)
 
 abbrev pub printoutUnder : ℕ → ℕ → List ℕ → List ℕ
 printoutUnder mode rule input = printedFor (callUnder mode rule input)

@@ -7,7 +7,9 @@ ghost use Rattle.io.specs.Counts.{Counts};
 ghost use Rattle.sheet_bytes.specs.Ledger.{sheetsBytes, mostSheets, placeBytes, closedIn, linesOf};
 ghost use Rattle.sheet_figures.specs.Telling.{figuresBytes};
 ghost use Rattle.listing.specs.Text.{Adds};
-ghost use Rattle.sheet_text.specs.Printout.{lineRoom, openRoom, figuresRoom, wordText, wordsText, sheetText, sheetsText, openText, figureText, countsText, figuresText, printoutUnder, toldOf};
+ghost use Rattle.sheet_text.specs.Printout.{lineRoom, openRoom, figuresRoom, restRoom, wordFrom, wordsText};
+ghost use Rattle.sheet_text.specs.Printout.{sheetText, sheetsText, openText, figureText, countsText, figuresText};
+ghost use Rattle.sheet_text.specs.Printout.{restText, printoutUnder, toldOf};
 use listing::REPLY_ROOM;
 use listing::add_field;
 use listing::add_printed;
@@ -26,11 +28,15 @@ use terms::STATE_BYTES;
 // Room for any text: the listing's, 64 bytes for each of 64 sheets, 32 for the open one, 192 for the figures.
 pub const PRINT_ROOM: usize = 266510;
 
-// A blank, and a word as eight hex digits; its bytes come the low one first.
-fn add_word(out: &mut [u8], place: usize, a: u8, b: u8, c: u8, d: u8) -> usize
-    requires { ⌜ place + 9 ≤ length (now out) ⌝ }
-    ensures { λ r. ⌜ Adds (wordText a b c d) (now (out .entry)) (now (out .exit)) place r ⌝ }
+// A blank, and the word at a place of the bytes as eight hex digits; its bytes come the low one first.
+fn add_word(out: &mut [u8], place: usize, bytes: &[u8], at: usize) -> usize
+    requires { ⌜ (at + 4 ≤ length (now bytes)) × (place + 9 ≤ length (now out)) ⌝ }
+    ensures { λ r. ⌜ Adds (wordFrom (now (bytes .entry)) at) (now (out .entry)) (now (out .exit)) place r ⌝ }
 {
+    let a = bytes[at];
+    let b = bytes[at + 1];
+    let c = bytes[at + 2];
+    let d = bytes[at + 3];
     let text = [
         32,
         digit(d / 16),
@@ -50,10 +56,10 @@ fn add_words(out: &mut [u8], place: usize, line: &[u8]) -> usize
     requires { ⌜ (length (now line) ≡ placeBytes) × (place + 36 ≤ length (now out)) ⌝ }
     ensures { λ r. ⌜ Adds (wordsText (now (line .entry))) (now (out .entry)) (now (out .exit)) place r ⌝ }
 {
-    let a = add_word(out, place, line[4], line[5], line[6], line[7]);
-    let b = add_word(out, a, line[8], line[9], line[10], line[11]);
-    let c = add_word(out, b, line[12], line[13], line[14], line[15]);
-    add_word(out, c, line[16], line[17], line[18], line[19])
+    let a = add_word(out, place, line, 4);
+    let b = add_word(out, a, line, 8);
+    let c = add_word(out, b, line, 12);
+    add_word(out, c, line, 16)
 }
 
 // The line of a closed sheet.
@@ -70,7 +76,8 @@ fn add_sheet(out: &mut [u8], place: usize, line: &[u8]) -> usize
 
 // A line for each closed sheet, in order.
 fn add_sheets(out: &mut [u8], place: usize, sheets: &[u8]) -> usize
-    requires { ⌜ (length (now sheets) ≡ sheetsBytes) × (closedIn (now sheets) ≤ mostSheets) × (place + lineRoom * mostSheets ≤ length (now out)) ⌝ }
+    requires { ⌜ (length (now sheets) ≡ sheetsBytes) × (closedIn (now sheets) ≤ mostSheets)
+        × (place + lineRoom * mostSheets ≤ length (now out)) ⌝ }
     ensures { λ r. ⌜ Adds (sheetsText (linesOf (now (sheets .entry)))) (now (out .entry)) (now (out .exit)) place r ⌝ }
     ensures { λ r. ⌜ r ≤ place + lineRoom * mostSheets ⌝ }
 {
@@ -134,6 +141,18 @@ fn add_figures(out: &mut [u8], place: usize, figures: &[u8]) -> usize
     add(out, c, b"\n")
 }
 
+// What stands behind the listing: the closed sheets, the open one, the figures.
+fn add_rest(out: &mut [u8], place: usize, sheets: &[u8; SHEETS_BYTES]) -> usize
+    requires { ⌜ (closedIn (now sheets) ≤ mostSheets) × (place + restRoom ≤ length (now out)) ⌝ }
+    ensures { λ r. ⌜ Adds (restText (now (sheets .entry))) (now (out .entry)) (now (out .exit)) place r ⌝ }
+{
+    let a = add_sheets(out, place, sheets);
+    let b = add_open(out, a, sheets);
+    let mut figures = [0u8; FIGURES_BYTES];
+    sheets::sheets_figures(sheets, &mut figures);
+    add_figures(out, b, &figures)
+}
+
 // The text for an input under a mode and a rule, at the front of the lent text: the answer says how many bytes.
 pub fn print(mode: u32, rule: u32, input: &[u8], text: &mut [u8; PRINT_ROOM]) -> usize
     ensures { λ r. ⌜ Counts r (now (text .exit)) ⌝ }
@@ -152,12 +171,8 @@ pub fn print(mode: u32, rule: u32, input: &[u8], text: &mut [u8; PRINT_ROOM]) ->
         &mut replies,
         &mut report,
     );
-    let a = add_printed(text, &replies, &report);
-    let b = add_sheets(text, a, &sheets);
-    let c = add_open(text, b, &sheets);
-    let mut figures = [0u8; FIGURES_BYTES];
-    sheets::sheets_figures(&sheets, &mut figures);
-    add_figures(text, c, &figures)
+    let place = add_printed(text, &replies, &report);
+    add_rest(text, place, &sheets)
 }
 
 // The text for a call of so many words, the program's own name among them, with the first two
@@ -170,7 +185,8 @@ pub fn told(
     text: &mut [u8; PRINT_ROOM],
 ) -> usize
     ensures { λ r. ⌜ Counts r (now (text .exit)) ⌝ }
-    ensures { λ r. ⌜ take r (now (text .exit)) ≡ toldOf words (now (first .entry)) (now (second .entry)) (now (input .entry)) ⌝ }
+    ensures { λ r. ⌜ take r (now (text .exit)) ≡ toldOf words (now (first .entry)) (now (second .entry))
+        (now (input .entry)) ⌝ }
 {
     let asked = options::asked_of(words, first, second);
     match asked {

@@ -43,12 +43,14 @@ pub turned-away : (r : Refusal) (n : ℕ) (state sheets replies report : List �
 turned-away r n state sheets replies report e h = record { result-is = e; state-is = refl; sheets-is = refl; replies-is = refl; report-is = h }
 
 module _ (mode rule : ℕ) (state sheets input replies report : List ℕ) where
-  pub bad-report : (length report ≡ reportBytes → ⊥) → (n : ℕ) → n ≡ 14 → Calls (callOf mode rule state sheets input replies report) n state sheets replies report
+  pub bad-report : (length report ≡ reportBytes → ⊥) → (n : ℕ) → n ≡ 14 → Calls (callOf mode rule state sheets input replies report) n state sheets replies
+      report
   unfolding callOf
   bad-report a n e = rw (ne-eqb (length report) reportBytes a) record { result-is = e; state-is = refl; sheets-is = refl; replies-is = refl; report-is = refl }
 
   module _ (a : length report ≡ reportBytes) where
-    pub call-away : (numberOf (doorOf mode rule state) ≡ 0 → ⊥) → callOf mode rule state sheets input replies report ≡ away (doorOf mode rule state) state sheets replies
+    pub call-away : (numberOf (doorOf mode rule state) ≡ 0 → ⊥) → callOf mode rule state sheets input replies report ≡ away (doorOf mode rule state) state
+        sheets replies
     unfolding callOf
     call-away h = rw (eq-eqb (length report) reportBytes a) (shut (λ r. away r state sheets replies) _ (isMode mode) (isRule rule) (isState state) h)
 
@@ -69,11 +71,13 @@ module _ (mode rule : ℕ) (state sheets input replies report : List ℕ) where
       unfolding callOf
       bad-sheets b d = rw (eq-eqb (length report) reportBytes a, le-leb mode 1 k, le-leb rule 1 q, b, d)
 
-      pub too-long : isState state ≡ true → isSheets sheets ≡ true → mostInput < length input → callOf mode rule state sheets input replies report ≡ away InputTooLong state sheets replies
+      pub too-long : isState state ≡ true → isSheets sheets ≡ true → mostInput < length input → callOf mode rule state sheets input replies report
+          ≡ away InputTooLong state sheets replies
       unfolding callOf
       too-long b d e = rw (eq-eqb (length report) reportBytes a, le-leb mode 1 k, le-leb rule 1 q, b, d, lt-ltb mostInput (length input) e)
 
       pub good : isState state ≡ true → isSheets sheets ≡ true → length input ≤ mostInput
-          → callOf mode rule state sheets input replies report ≡ ranOf (length state) (runOf (held (cardIn (given (modeOf mode) (ruleOf rule)) state) sheets) input (length replies)) replies
+          → callOf mode rule state sheets input replies report ≡ ranOf (length state) (runOf (held (cardIn (given (modeOf mode) (ruleOf rule)) state) sheets)
+          input (length replies)) replies
       unfolding callOf
       good b d e = rw (eq-eqb (length report) reportBytes a, le-leb mode 1 k, le-leb rule 1 q, b, d, le-ltb mostInput (length input) e)

@@ -91,7 +91,8 @@ anew l vs g n f b =
     let long = g .long in
     let fits : 1281 + length vs ≤ length l = omega arith in
     let all = in-laid l 1281 vs fits in
-    let byte : (i : ℕ) → i < length vs → getD (laidAt l 1281 vs) (1281 + i) 0 ≡ getD vs i 0 = λ i h. byte-of (laidAt l 1281 vs) 1281 (length vs) i h ∙ ap (λ (v : List ℕ). getD v i 0) all in
+    let byte : (i : ℕ) → i < length vs → getD (laidAt l 1281 vs) (1281 + i) 0 ≡ getD vs i 0 = λ i h. byte-of (laidAt l 1281 vs) 1281 (length vs) i h
+    ∙ ap (λ (v : List ℕ). getD v i 0) all in
     let flag = byte 0 (omega arith) in
     let slots = byte 5 (omega arith) in
     behind l (laidAt l 1281 vs) g (before-laid l 1281 vs fits 1281 (lit≤ tt)) (length-laid l 1281 vs fits) (omega arith) (omega arith)
@@ -161,7 +162,8 @@ closed-grows l g few =
 abbrev Grows : List ℕ → Entered → Type 0
 Grows l e = Grown l (e .sheets)
 
-entered-grows : (l : List ℕ) (kind : ℕ) (payload : List ℕ) (pending : Bool) (top : ℕ) → Good l → length payload ≡ payloadFor kind → Grows l (enteredOf l kind payload pending top)
+entered-grows : (l : List ℕ) (kind : ℕ) (payload : List ℕ) (pending : Bool) (top : ℕ) → Good l → length payload ≡ payloadFor kind
+    → Grows l (enteredOf l kind payload pending top)
 entered-grows l kind payload pending top g n =
     either-eq (Grows l) kind 256 _ _ (λ k. opening (n ∙ rw k)) (λ a.
     either-eq (Grows l) kind 257 _ _ (λ k. keeping (getD payload 0 0)) (λ b. closing))
@@ -176,7 +178,8 @@ entered-grows l kind payload pending top g n =
     keeping : (slot : ℕ) → Grows l (keepOf l slot pending top)
     keeping slot = pick (isOpen l) pending
       where
-        pick : (b p : Bool) → Grows l (cond b (cond (ltb 3 slot) (refuse NoSuchSlot l) (cond p (refuse HalfPending l) (enter (keptIn l slot (le4 top))))) (refuse NoneOpen l))
+        pick : (b p : Bool) → Grows l (cond b (cond (ltb 3 slot) (refuse NoSuchSlot l) (cond p (refuse HalfPending l) (enter (keptIn l slot (le4 top)))))
+            (refuse NoneOpen l))
         pick false p = same l g
         pick true true = either-lt (Grows l) 3 slot _ _ (λ h. same l g) (λ h. same l g)
         pick true false = either-lt (Grows l) 3 slot _ _ (λ h. same l g) (λ h. kept-grows l slot top g h)
@@ -184,7 +187,8 @@ entered-grows l kind payload pending top g n =
     closing : Grows l (closeOf l)
     closing = pick (isOpen l)
       where
-        pick : (b : Bool) → Grows l (cond b (cond (ltb (keptBits l) 15) (refuse SlotEmpty l) (cond (ltb (closedIn l) 64) (enter (closed l)) (refuse ListFull l))) (refuse NoneOpen l))
+        pick : (b : Bool) → Grows l (cond b (cond (ltb (keptBits l) 15) (refuse SlotEmpty l) (cond (ltb (closedIn l) 64) (enter (closed l))
+            (refuse ListFull l))) (refuse NoneOpen l))
         pick false = same l g
         pick true =
             either-lt (Grows l) (keptBits l) 15 _ _ (λ h. same l g) (λ h.
@@ -196,7 +200,8 @@ line-grows h l room g =
     (λ o q r.
     let there = o .there in
     let d = length-drop 4 l in
-    entered-grows (h .sheets) (wordAt l 2) (take (payloadFor (wordAt l 2)) (drop 4 l)) (h .card .chip .pending) (topOf (h .card)) g (length-take-le (payloadFor (wordAt l 2)) (drop 4 l) (omega arith)))
+    entered-grows (h .sheets) (wordAt l 2) (take (payloadFor (wordAt l 2)) (drop 4 l)) (h .card .chip .pending) (topOf (h .card)) g
+    (length-take-le (payloadFor (wordAt l 2)) (drop 4 l) (omega arith)))
     (λ z.
     either-eq (λ (s : List ℕ). Grown (h .sheets) s) (turnOf (h .card) l room .refusal) 0 _ _
     (λ y. either-eq (λ (s : List ℕ). Grown (h .sheets) s) (wordAt l 2) 5 _ _ (λ k. dropped-grows (h .sheets) g) (λ k. same (h .sheets) g))

@@ -22,7 +22,9 @@ use Rattle.record_runs.specs.declared.step.Pass.{Pass}
 use Rattle.record_runs.specs.Record.{frameUnder, turnOf}
 use Rattle.record_runs.proofs.Ready.{calm-turn}
 use Rattle.chip.proofs.Ready.{Ready}
-use Rattle.record_runs.specs.Pass.{unchanged}
+use Rattle.record_runs.specs.declared.step.Place.{Place}
+use Rattle.record_runs.specs.Pass.{further, unchanged, finished}
+use Rattle.record_runs.proofs.Places.{at-rest}
 use Rattle.sheet_bytes.specs.declared.Refusal.{Refusal as SheetRefusal}
 use Rattle.sheet_bytes.specs.Ledger.{bytesAt, dropped}
 use Rattle.sheet_bytes.specs.Entering.{Entered, numberOf, payloadFor}
@@ -38,41 +40,54 @@ own-frame l a b e = rw (own-kind (wordAt l 2) a b, e)
 
 -- ---- a record of this library
 
-module _ (on : Settings) (c : CardHeld) (sheets l room : List ℕ) {r : Pass} where
+module _ (on : Settings) (p : Place) (c : CardHeld) (sheets l room : List ℕ) {r : Pass} where
   -- nothing of it is done
-  stays : (q : Refusal) → r ≡ unchanged q c → 0 < coreNumber q → Passed on (idle (coreNumber q) (held (cardUnder on c) sheets)) r sheets l room room
-  stays q e h = subst (λ (x : Pass). Passed on (idle (coreNumber q) (held (cardUnder on c) sheets)) x sheets l room room) (sym e) (record {
-    refusal-is = refl;
-    state-is = refl;
-    size-is = refl;
-    reply-is = refl;
-    left-is = refl;
-    within = zero-le;
-    fits = zero-le;
-    moves = λ z. omega arith;
-  })
+  stays : (q : Refusal) → r ≡ unchanged q c p → 0 < coreNumber q → Passed on p (idle (coreNumber q) (held (cardUnder on c) sheets)) r sheets l room room
+  stays q e h = subst (λ (x : Pass). Passed on p (idle (coreNumber q) (held (cardUnder on c) sheets)) x sheets l room room) (sym e) (
+    at-rest p,
+    record {
+      refusal-is = refl;
+      state-is = refl;
+      size-is = refl;
+      reply-is = refl;
+      left-is = refl;
+      within = zero-le;
+      fits = zero-le;
+      moves = λ z. omega arith;
+    },
+  )
 
-  pub own-bad : r ≡ unchanged BadLength c → (wordAt l 0 ≡ 2 + payloadFor (wordAt l 2) → ⊥) → Passed on (ownTurn (held (cardUnder on c) sheets) l (length room)) r sheets l room room
+  pub own-bad : r ≡ unchanged BadLength c p → (wordAt l 0 ≡ 2 + payloadFor (wordAt l 2) → ⊥)
+      → Passed on p (ownTurn (held (cardUnder on c) sheets) l (length room)) r sheets l room room
   own-bad e z = rw (ne-eqb _ _ z) (stays BadLength e (lit< tt))
 
-  pub own-full : r ≡ unchanged NoRoom c → wordAt l 0 ≡ 2 + payloadFor (wordAt l 2) → length room < 5 → Passed on (ownTurn (held (cardUnder on c) sheets) l (length room)) r sheets l room room
+  pub own-full : r ≡ unchanged NoRoom c p → wordAt l 0 ≡ 2 + payloadFor (wordAt l 2) → length room < 5
+      → Passed on p (ownTurn (held (cardUnder on c) sheets) l (length room)) r sheets l room room
   own-full e q z = rw (eq-eqb _ _ q, lt-ltb _ _ z) (stays NoRoom e (lit< tt))
 
 -- answered
-pub own-done : (h : Held) (l room sheets left : List ℕ) (r : SheetRefusal) (end : ℕ) → Owns l → wordAt l 0 ≡ 2 + payloadFor (wordAt l 2) → 5 ≤ length room
-    → Enters (entryOf h (wordAt l 2) (bytesAt l 4 (payloadFor (wordAt l 2)))) r sheets
-    → left ≡ ownReply (wordAt l 2) (numberOf r) ++ drop 5 room → end ≡ 4 + payloadFor (wordAt l 2)
-    → Turns (ownTurn h l (length room)) 0 (held (h .card) sheets) end 5 l room left
-own-done h l room sheets left r end o e z n k f = rw (eq-eqb _ _ e, le-ltb _ _ z) record {
-  refusal-is = refl;
-  state-is = ap (held (h .card)) (n .1);
-  size-is = f;
-  reply-is = refl;
-  left-is = k ∙ ap (λ (q : SheetRefusal). ownReply (wordAt l 2) (numberOf q) ++ drop 5 room) (n .0);
-  within = omega (arith, o .there);
-  fits = z;
-  moves = λ z. omega arith;
-}
+pub own-done : (on : Settings) (p : Place) (c : CardHeld) (before l room sheets left : List ℕ) (q : SheetRefusal) (end : ℕ) {r : Pass}
+    → r ≡ finished (c .chip) (c .memory) (further p end 5) → Owns l → wordAt l 0 ≡ 2 + payloadFor (wordAt l 2) → 5 ≤ length room
+    → Enters (entryOf (held (cardUnder on c) before) (wordAt l 2) (bytesAt l 4 (payloadFor (wordAt l 2)))) q sheets
+    → left ≡ ownReply (wordAt l 2) (numberOf q) ++ drop 5 room → end ≡ 4 + payloadFor (wordAt l 2)
+    → Passed on p (ownTurn (held (cardUnder on c) before) l (length room)) r sheets l room left
+own-done on p c before l room sheets left q end er o e z n k f =
+    let h = held (cardUnder on c) before in
+    let t : Passed on p (ownTurn h l (length room)) (finished (c .chip) (c .memory) (further p end 5)) sheets l room left =
+    rw (eq-eqb _ _ e, le-ltb _ _ z) (
+      ap (λ (m : ℕ). further p m 5) f,
+      record {
+        refusal-is = refl;
+        state-is = ap (held (cardUnder on c)) (n .1);
+        size-is = refl;
+        reply-is = refl;
+        left-is = k ∙ ap (λ (x : SheetRefusal). ownReply (wordAt l 2) (numberOf x) ++ drop 5 room) (n .0);
+        within = omega (arith, o .there);
+        fits = z;
+        moves = λ y. omega arith;
+      },
+    ) in
+    subst (λ (x : Pass). Passed on p (ownTurn h l (length room)) x sheets l room left) (sym er) t
 
 -- ---- a record of the core
 
@@ -107,7 +122,8 @@ module _ (sheets : List ℕ) (kind refusal : ℕ) where
   reset-drops z k = rw (eq-eqb refusal 0 z, eq-eqb kind 5 k)
 
 -- ---- a card whose state is not busy stays one
-own-card : (h : Held) (kind : ℕ) (e : Entered) (x y : Bool) → cond x (cond y (idle (coreNumber NoRoom) h) (answered h kind e)) (idle (coreNumber BadLength) h) .state .card ≡ h .card
+own-card : (h : Held) (kind : ℕ) (e : Entered) (x y : Bool) → cond x (cond y (idle (coreNumber NoRoom) h) (answered h kind e)) (idle (coreNumber BadLength) h)
+    .state .card ≡ h .card
 own-card h kind e true true = refl
 own-card h kind e true false = refl
 own-card h kind e false true = refl
@@ -118,7 +134,8 @@ unfolding lineOf
 calm-line h l room r = by (isOwn l)
   where
     stays-calm : ownTurn h l room .state .card .chip .status < 128
-    stays-calm = subst (λ (k : Card). k .chip .status < 128) (sym (own-card h (wordAt l 2) (entryOf h (wordAt l 2) (bytesAt l 4 (payloadFor (wordAt l 2)))) (eqb (wordAt l 0) (2 + payloadFor (wordAt l 2))) (ltb room 5))) (r .ready)
+    stays-calm = subst (λ (k : Card). k .chip .status < 128) (sym (own-card h (wordAt l 2) (entryOf h (wordAt l 2) (bytesAt l 4 (payloadFor (wordAt l 2))))
+        (eqb (wordAt l 0) (2 + payloadFor (wordAt l 2))) (ltb room 5))) (r .ready)
 
     by : (b : Bool) → cond b (ownTurn h l room) (coreBy h (wordAt l 2) (turnOf (h .card) l room)) .state .card .chip .status < 128
     by true = stays-calm

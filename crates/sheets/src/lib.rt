@@ -21,8 +21,9 @@ use terms::number;
 use terms::rule_of;
 ghost use mathlib.Core.Path.{_≡_};
 ghost use mathlib.Core.Bool.{true};
+ghost use Prim.Native.Nat.{_≤_};
 ghost use lib.ListN.{length};
-ghost use Rattle.terms.specs.Limits.{reportBytes};
+ghost use Rattle.terms.specs.Limits.{reportBytes, mostInput};
 ghost use Rattle.chip.specs.Step.{given};
 ghost use Rattle.state_bytes.specs.Bytes.{isState, cardIn};
 ghost use Rattle.sheet_bytes.specs.Ledger.{sheetsBytes};
@@ -41,7 +42,7 @@ fn run_good(
     report: &mut [u8],
 ) -> u32
     requires { ⌜ (isState (now state) ≡ true) × (length (now sheets) ≡ sheetsBytes) ×
-        (length (now report) ≡ reportBytes) ⌝ }
+        (length (now report) ≡ reportBytes) × (length (now input) ≤ mostInput) ⌝ }
     ensures { λ r. ⌜ Calls (ranOf (length (now (state .entry)))
         (runOf (held (cardIn (given mode rule) (now (state .entry))) (now (sheets .entry))) (now (input .entry))
         (length (now (replies .entry)))) (now (replies .entry))) r (now (state .exit)) (now (sheets .exit))
@@ -51,11 +52,17 @@ fn run_good(
     let chip = r.card.chip;
     let memory = r.card.memory;
     put_card(state, chip, memory);
-    fill_report(report, r.refusal as u8, r.taken, r.written);
+    fill_report(
+        report,
+        r.refusal as u8,
+        r.place.taken as usize,
+        r.place.written as usize,
+    );
     r.refusal as u32
 }
 
 // A file of records run on a state and on sheets. Returns the refusal; 14, then 16, 17, 13, 9 before any record.
+// A call for each length of a state: the run stays a function of its own, as the core's does.
 #[no_mangle]
 pub extern "C" fn sheets_run(
     mode: u32,
@@ -83,15 +90,12 @@ pub extern "C" fn sheets_run(
     if terms::MOST_INPUT < input.len() {
         return turn_away(report, number(Refusal::InputTooLong));
     }
-    run_good(
-        mode_of(mode),
-        rule_of(rule),
-        state,
-        sheets,
-        input,
-        replies,
-        report,
-    )
+    let part = mode_of(mode);
+    let way = rule_of(rule);
+    if state.len() == terms::STATE_BYTES {
+        return run_good(part, way, state, sheets, input, replies, report);
+    }
+    run_good(part, way, state, sheets, input, replies, report)
 }
 
 // The shift's figures of a `sheets` slice, 53 bytes: lines, different serials, serials on more than one line, slot 0

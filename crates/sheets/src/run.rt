@@ -2,12 +2,14 @@
 use crate::step::pass_line;
 use chip::State;
 use error_memory::Card;
+use record_runs::run::begin;
 use record_runs::step::Pass;
 use terms::Mode;
 use terms::Rule;
 ghost use mathlib.Core.Path.{_≡_};
-ghost use Prim.Native.Nat.{_<_};
+ghost use Prim.Native.Nat.{_≤_, _<_};
 ghost use lib.ListN.{length};
+ghost use Rattle.terms.specs.Limits.{mostInput};
 ghost use Rattle.chip.specs.Step.{given};
 ghost use Rattle.sheet_bytes.specs.Ledger.{sheetsBytes};
 ghost use Rattle.error_memory.specs.Held.{cardUnder};
@@ -24,24 +26,19 @@ pub fn run_lines(
     input: &[u8],
     replies: &mut [u8],
 ) -> Pass
-    requires { ⌜ (start .chip .status < 128) × (length (now sheets) ≡ sheetsBytes) ⌝ }
+    requires { ⌜ (start .chip .status < 128) × (length (now sheets) ≡ sheetsBytes) ×
+        (length (now input) ≤ mostInput) ⌝ }
     ensures { λ r. ⌜ Ran (given mode rule)
         (runOf (held (cardUnder (given mode rule) start) (now (sheets .entry))) (now (input .entry))
         (length (now (replies .entry)))) r (now (sheets .exit)) (now (input .entry)) (now (replies .entry))
         (now (replies .exit)) ⌝ }
 {
     let mut card = start;
-    let mut taken = 0;
-    let mut written = 0;
-    while taken < input.len() {
-        let t = pass_line(
-            card,
-            mode,
-            rule,
-            sheets,
-            &input[taken..],
-            &mut replies[written..],
-        );
+    let mut place = begin(input.len(), replies.len());
+    while place.taken < place.size {
+        let rest = &input[place.taken as usize..];
+        let room = &mut replies[place.written as usize..];
+        let t = pass_line(card, mode, rule, sheets, rest, room, place);
         let stack = t.card.chip.stack;
         let memory = t.card.memory;
         card = Card {
@@ -58,17 +55,14 @@ pub fn run_lines(
             return Pass {
                 card,
                 refusal,
-                taken,
-                written,
+                place,
             };
         }
-        taken += t.taken;
-        written += t.written;
+        place = t.place;
     }
     Pass {
         card,
         refusal: 0,
-        taken,
-        written,
+        place,
     }
 }

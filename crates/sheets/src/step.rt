@@ -5,6 +5,8 @@ use record_runs::head::Frame;
 use record_runs::head::read_frame;
 use record_runs::head::word;
 use record_runs::step::Pass;
+use record_runs::step::Place;
+use record_runs::step::finish;
 use record_runs::step::open_reply;
 use record_runs::step::pass_record;
 use record_runs::step::stop;
@@ -25,14 +27,16 @@ ghost use lib.ListN.{length};
 ghost use Rattle.chip.specs.Step.{given};
 ghost use Rattle.sheet_bytes.specs.Ledger.{sheetsBytes};
 ghost use Rattle.error_memory.specs.Held.{cardUnder};
+ghost use Rattle.record_runs.specs.Pass.{Begins, Stands};
 ghost use Rattle.sheets.specs.Step.{held, isOwn, lineOf};
 ghost use Rattle.sheets.specs.Held.{Passed, PassesOwn, PassesCore};
 
 // Whether a whole record of this library stands at the front of `rest`.
-fn is_own(rest: &[u8]) -> bool
+fn is_own(rest: &[u8], place: Place) -> bool
+    requires { ⌜ Begins place (length (now rest)) ⌝ }
     ensures { λ r. ⌜ r ≡ isOwn (now (rest .entry)) ⌝ }
 {
-    if rest.len() < 4 {
+    if place.size < place.taken + 4 {
         return false;
     }
     let kind = word(rest[2], rest[3]);
@@ -42,37 +46,34 @@ fn is_own(rest: &[u8]) -> bool
     if CLOSE_KIND < kind {
         return false;
     }
-    match read_frame(rest) {
+    match read_frame(rest, place.taken, place.size) {
         Frame::Framed(_) => true,
         Frame::Broken(_) => false,
     }
 }
 
 // A record of this library.
-fn pass_own(card: Card, sheets: &mut [u8], rest: &[u8], room: &mut [u8]) -> Pass
-    requires { ⌜ (length (now sheets) ≡ sheetsBytes) × (isOwn (now rest) ≡ true) ⌝ }
-    ensures { λ r. ⌜ PassesOwn card (now (sheets .entry)) r (now (sheets .exit)) (now (rest .entry))
+fn pass_own(card: Card, sheets: &mut [u8], rest: &[u8], room: &mut [u8], place: Place) -> Pass
+    requires { ⌜ (length (now sheets) ≡ sheetsBytes) × (isOwn (now rest) ≡ true) × Stands place (length (now room)) ⌝ }
+    ensures { λ r. ⌜ PassesOwn place card (now (sheets .entry)) r (now (sheets .exit)) (now (rest .entry))
         (now (room .entry)) (now (room .exit)) ⌝ }
 {
     let kind = word(rest[2], rest[3]);
     let wanted = payload_for(kind);
     if word(rest[0], rest[1]) as usize != 2 + wanted {
-        return stop(Refusal::BadLength, card);
+        return stop(Refusal::BadLength, card, place);
     }
-    if room.len() < 5 {
-        return stop(Refusal::NoRoom, card);
+    if place.most < place.written + 5 {
+        return stop(Refusal::NoRoom, card, place);
     }
     let end = 4 + wanted;
-    let stack = card.chip.stack;
+    let chip = card.chip;
+    let memory = card.memory;
+    let stack = chip.stack;
     let top = stack.tos(Width::Double);
-    let refusal = enter(sheets, kind, &rest[4..end], card.chip.pending, top);
+    let refusal = enter(sheets, kind, &rest[4..end], chip.pending, top);
     open_reply(room, 0, kind + 0x8000, number(refusal));
-    Pass {
-        card,
-        refusal: 0,
-        taken: end,
-        written: 5,
-    }
+    finish(chip, memory, place, end as u32, 5)
 }
 
 // A record of the core: a reset that is taken drops the open sheet.
@@ -83,17 +84,16 @@ fn pass_core(
     sheets: &mut [u8],
     rest: &[u8],
     room: &mut [u8],
+    place: Place,
 ) -> Pass
-    requires { ⌜ (card .chip .status < 128) × (length (now sheets) ≡ sheetsBytes) ⌝ }
-    ensures { λ r. ⌜ PassesCore (given mode rule) card (now (sheets .entry)) r (now (sheets .exit))
+    requires { ⌜ (card .chip .status < 128) × (length (now sheets) ≡ sheetsBytes) × Begins place (length (now rest)) ×
+        Stands place (length (now room)) ⌝ }
+    ensures { λ r. ⌜ PassesCore (given mode rule) place card (now (sheets .entry)) r (now (sheets .exit))
         (now (rest .entry)) (now (room .entry)) (now (room .exit)) ⌝ }
 {
-    let t = pass_record(card, mode, rule, rest, room);
+    let t = pass_record(card, mode, rule, rest, room, place);
     let refusal = t.refusal;
     if refusal != 0 {
-        return t;
-    }
-    if rest.len() < 4 {
         return t;
     }
     if word(rest[2], rest[3]) != 5 {
@@ -111,15 +111,17 @@ pub fn pass_line(
     sheets: &mut [u8],
     rest: &[u8],
     room: &mut [u8],
+    place: Place,
 ) -> Pass
-    requires { ⌜ (card .chip .status < 128) × (length (now sheets) ≡ sheetsBytes) ⌝ }
-    ensures { λ r. ⌜ Passed (given mode rule)
+    requires { ⌜ (card .chip .status < 128) × (length (now sheets) ≡ sheetsBytes) × Begins place (length (now rest)) ×
+        Stands place (length (now room)) ⌝ }
+    ensures { λ r. ⌜ Passed (given mode rule) place
         (lineOf (held (cardUnder (given mode rule) card) (now (sheets .entry))) (now (rest .entry))
         (length (now (room .entry)))) r (now (sheets .exit)) (now (rest .entry)) (now (room .entry))
         (now (room .exit)) ⌝ }
 {
-    if is_own(rest) {
-        return pass_own(card, sheets, rest, room);
+    if is_own(rest, place) {
+        return pass_own(card, sheets, rest, room, place);
     }
-    pass_core(card, mode, rule, sheets, rest, room)
+    pass_core(card, mode, rule, sheets, rest, room, place)
 }

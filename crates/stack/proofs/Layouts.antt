@@ -1,15 +1,16 @@
--- Every layout of a stack is a stack again, what 01 keeps is kept below R, POP turns the stack by a word and XCH swaps its first two. Assumes nothing.
-use mathlib.Core.Path.{_≡_, refl, ap, ap₂, _∙_}
-use mathlib.Core.List.{List, _++_, append-assoc}
+-- Every layout of a stack is a stack again, and R lies on top. Assumes nothing.
+use mathlib.Core.Path.{_≡_, refl, ap, _∙_}
+use mathlib.Core.List.{List, _++_}
 use Prim.Native.Nat.{ℕ, zero, suc, _+_, _-_, _≤_, _<_}
 use native.Mathlib.Omega.{arith}
 use lib.Dec.{lit<, lit≤}
 use lib.ListN.{length, take, drop, length-append, length-take, length-drop}
-use lib.Seq.{take-at, drop-at, length-take-le}
+use lib.Seq.{take-at, length-take-le}
 use Rattle.terms.specs.declared.Width.{Width}
 use Rattle.terms.specs.declared.Width.the-variants.{Single, Double}
 use Rattle.terms.specs.Width.{sizeOf}
-use Rattle.stack.specs.Stack.{Bytes, IsStack, bytesOf, zeros, pushed, rotated, overA, overZero, replaced, copied, exchanged, pushedWord, converted, widened, narrowed}
+use Rattle.stack.specs.Stack.{Bytes, IsStack, bytesOf, zeros, pushed, rotated, overA, overZero, replaced, copied, exchanged, pushedWord, converted}
+use Rattle.stack.specs.Stack.{widened, narrowed}
 use Rattle.stack.proofs.Words.{length-bytes, length-zeros, bytes-append, bytes-take, bytes-drop, bytes-of}
 
 -- ---- zeros
@@ -41,7 +42,10 @@ module _ (s : List ℕ) (S : IsStack s) where
   realigned-stack =
       let r = rotated-stack 1 (lit≤ tt) in
       let e = length-take-le 14 (rotated 1 s) (omega (arith, r .sixteen)) in
-      record { sixteen = length-append (take 14 (rotated 1 s)) (zeros 2) ∙ omega arith; bytes = bytes-append (take 14 (rotated 1 s)) (zeros 2) (bytes-take 14 (rotated 1 s) (r .bytes)) (bytes-zeros 2) }
+      record {
+        sixteen = length-append (take 14 (rotated 1 s)) (zeros 2) ∙ omega arith;
+        bytes = bytes-append (take 14 (rotated 1 s)) (zeros 2) (bytes-take 14 (rotated 1 s) (r .bytes)) (bytes-zeros 2);
+      }
 
   pub exchanged-stack : (n : ℕ) → n + n ≤ 16 → IsStack (exchanged n s)
   exchanged-stack n h = let e = S .sixteen in record {
@@ -106,13 +110,3 @@ module _ (s : List ℕ) (S : IsStack s) where
 -- ---- R on top, and what is below it
 pub top-bytes : (n r : ℕ) (t : List ℕ) → take n (bytesOf n r ++ t) ≡ bytesOf n r
 top-bytes n r t = take-at (bytesOf n r) t n (length-bytes n r)
-
--- ---- POP is a rotation by the width, XCH a swap of two blocks
-pub pop-turns : (n : ℕ) (a t : List ℕ) → length a ≡ n → rotated n (a ++ t) ≡ t ++ a
-pop-turns n a t h = ap₂ (λ (x y : List ℕ). x ++ y) (drop-at a t n h) (take-at a t n h)
-
-pub xch-swaps : (n : ℕ) (a b t : List ℕ) → length a ≡ n → length b ≡ n → exchanged n (a ++ (b ++ t)) ≡ b ++ (a ++ t)
-xch-swaps n a b t h g =
-    let both : length (a ++ b) ≡ n + n = simp length-append (omega arith) in
-    let rest : drop (n + n) (a ++ (b ++ t)) ≡ t = rw (← append-assoc a b t) (drop-at (a ++ b) t (n + n) both) in
-    rw (drop-at a (b ++ t) n h, take-at a (b ++ t) n h, take-at b t n g, rest)

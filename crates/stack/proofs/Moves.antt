@@ -1,4 +1,5 @@
--- Bytes pushed and popped one after the other: a word pushed low byte first lies on top, its bytes come back high byte first, and the rest moves by as many places. Assumes nothing.
+-- Bytes pushed and popped one after the other: a word pushed low byte first lies on top, its bytes come back high byte first, and the rest moves by as
+-- many places. Assumes nothing.
 use mathlib.Core.Path.{_≡_, refl, sym, ap, ap₂, _∙_}
 use mathlib.Core.List.{List, [], _∷_, _++_, append-assoc, append-nil}
 use Prim.Native.Nat.{ℕ, zero, suc, _-_, _/_, _%_, _≤_}
@@ -45,7 +46,3 @@ pub pops-read : (n r : ℕ) (t : List ℕ) → handedOut n (bytesOf n r ++ t) �
 pops-read n r t =
     let m : n ≤ length (bytesOf n r ++ t) = simp (length-append, length-bytes) (omega arith) in
     pops-hand n (bytesOf n r ++ t) m ∙ top-bytes n r t
-
--- a word pushed low byte first and popped comes back high byte first
-pub pushed-then-popped : (n r : ℕ) (s : List ℕ) → n ≤ 15 → handedOut (suc n) (pushedAll s (lowFirst (suc n) r)) ≡ bytesOf (suc n) r
-pushed-then-popped n r s h = ap (handedOut (suc n)) (pushes-lay n r s h) ∙ pops-read (suc n) r (take (15 - n) s)

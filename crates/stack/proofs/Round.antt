@@ -1,4 +1,5 @@
--- Blocks longer than the stack: 16 pops hand it out and leave it as it was, so that longer ones go round; of the bytes pushed the last 16 stay. Assumes nothing.
+-- Blocks longer than the stack: 16 pops hand it out and leave it as it was, so that longer ones go round; of the bytes pushed the last 16 stay. Assumes
+-- nothing.
 use mathlib.Core.Path.{_≡_, refl, sym, ap, ap₂, _∙_}
 use mathlib.Core.Logic.{_⊎_, ⊎-elim}
 use mathlib.Core.List.{List, [], _∷_, _++_, append-assoc, reverse, reverse-cons, reverse-append}
@@ -8,7 +9,7 @@ use native.Mathlib.Nat.{not-suc-le-zero, eq-or-lt-of-le}
 use lib.Dec.{lit≤}
 use lib.ListN.{length, take, drop, getD, length-drop, length-reverse, drop-of-length-le, take-append-drop, List·getD-append}
 use lib.Seq.{take-all, take-take, take-at, length-take-le, getD-at}
-use Rattle.stack.specs.Stack.{topByte, pushed, popped, rotated, pushedAll, poppedAll, handedOut}
+use Rattle.stack.specs.Stack.{pushed, popped, pushedAll, poppedAll, handedOut}
 use Rattle.stack.proofs.Moves.{pops-hand}
 use Rattle.stack.proofs.Several.{length-popped, pops-after, handed-after, pops-block}
 
@@ -52,7 +53,7 @@ front [] y n m h = take-take n m y h
 front (a ∷ x) y zero m h = refl
 front (a ∷ x) y (suc n) m h = ap (λ (l : List ℕ). a ∷ l) (front x y n m (omega arith))
 
-pub pushed-front : (p s : List ℕ) → length s ≡ 16 → pushedAll s p ≡ take 16 (reverse p ++ s)
+pushed-front : (p s : List ℕ) → length s ≡ 16 → pushedAll s p ≡ take 16 (reverse p ++ s)
 pushed-front [] s h = sym (take-all 16 s (omega arith))
 pushed-front (b ∷ p) s h =
     pushed-front p (pushed s b) (omega (arith, length-take-le 15 s (omega arith)))

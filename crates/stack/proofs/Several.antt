@@ -67,7 +67,8 @@ paste-on d x y at j k e f =
     ∙ ap (λ (n : ℕ). take at d ++ take (j + k) (x ++ y) ++ drop n d) (add-assoc at j k)
 
 pub pop-on : (s room : List ℕ) (from j k : ℕ) → from + j ≤ length room
-    → (poppedAll k (poppedAll j s) ≡ poppedAll (j + k) s) × (paste (paste room from (handedOut j s) j) (from + j) (handedOut k (poppedAll j s)) k ≡ paste room from (handedOut (j + k) s) (j + k))
+    → (poppedAll k (poppedAll j s) ≡ poppedAll (j + k) s)
+    × (paste (paste room from (handedOut j s) j) (from + j) (handedOut k (poppedAll j s)) k ≡ paste room from (handedOut (j + k) s) (j + k))
 pop-on s room from j k f = (
   sym (pops-after j k s),
   paste-on room (handedOut j s) (handedOut k (poppedAll j s)) from j k (length-handed j s) f
@@ -75,4 +76,5 @@ pop-on s room from j k f = (
 )
 
 pub popped-front : (n : ℕ) (s room : List ℕ) → paste room 0 (handedOut n s) n ≡ handedOut n s ++ drop n room
-popped-front n s room = ap₂ (λ (x y : List ℕ). x ++ y) (take-all n (handedOut n s) (omega (arith, length-handed n s))) (ap (λ (k : ℕ). drop k room) (zero-add n))
+popped-front n s room =
+    ap₂ (λ (x y : List ℕ). x ++ y) (take-all n (handedOut n s) (omega (arith, length-handed n s))) (ap (λ (k : ℕ). drop k room) (zero-add n))

@@ -1,118 +1,126 @@
--- Windows of two words, written out, are the stacks of document 01, and the words on top are parts of the first. Assumes nothing.
+-- Bytes pushed, turned and lifted by windows of two words, the layouts made of these, and the words on top. Assumes nothing.
 use mathlib.Core.Path.{_≡_, refl, sym, ap, ap₂, _∙_}
-use mathlib.Core.List.{List, _++_, append-assoc}
-use Prim.Native.Nat.{ℕ, _+_, _/_, _%_, _^_, _<_}
-use native.Mathlib.Nat.{mod-eq-of-lt, mod-lt, div-lt-iff-lt-mul}
+use mathlib.Core.List.{List, _∷_, _++_, append-assoc}
+use Prim.Native.Nat.{ℕ, zero, suc, _+_, _-_, _/_, _%_, _^_, _≤_, _<_}
+use native.Mathlib.Nat.{mod-eq-of-lt, mod-lt, div-lt-iff-lt-mul, le-of-suc-le-suc, not-suc-le-zero}
 use native.Mathlib.Omega.{arith}
-use lib.ListN.{take, drop}
-use lib.Seq.{drop-at}
-use Rattle.stack.specs.Stack.{IsStack, bytesOf, zeros, pushed, pushedWord, topByte, rotated, overA, overZero, replaced, copied, exchanged, converted, widened, narrowed, tos, nos}
-use Rattle.stack.proofs.Words.{length-bytes, tos-over, bytes-append, bytes-of}
-use Rattle.stack.specs.Words.{eight, window}
-use Rattle.stack.proofs.Windows.{pos, split, kept}
+use lib.ListN.{length, take, drop, length-append, length-drop, take-append-drop}
+use lib.Seq.{take-at, drop-at, drop-drop, take-append-le, drop-append-le, take-append-add, length-take-le}
+use Rattle.stack.specs.Stack.{IsStack, bytesOf, zeros, pushed, topByte, rotated, overA, replaced, copied, exchanged, converted, widened, narrowed, tos}
+use Rattle.stack.specs.Stack.{nos}
+use Rattle.stack.proofs.Words.{length-bytes, tos-over, bytes-append, bytes-drop, bytes-of, bytes-tos}
+use Rattle.stack.specs.Words.{eight, window, slid}
+use Rattle.stack.proofs.Windows.{pos, split, kept, last-bytes}
 
--- two parts, and eight bytes of two, where each is known
+-- two parts where each is known
 pub joined : {a b x y : List ℕ} → a ≡ x → b ≡ y → a ++ b ≡ x ++ y
 joined p q = ap₂ (λ (l m : List ℕ). l ++ m) p q
 
-pub within : (k : ℕ) {a b x y : List ℕ} → a ≡ x → b ≡ y → take 8 (drop k (a ++ b)) ≡ take 8 (drop k (x ++ y))
-within k p q = ap (λ (l : List ℕ). take 8 (drop k l)) (joined p q)
+length-eight : (t : ℕ) → length (eight t) ≡ 8
+unfolding eight
+length-eight t = refl
 
-pub under : (k r : ℕ) {b y : List ℕ} → b ≡ y → take 8 (drop k (eight r ++ b)) ≡ take 8 (drop k (eight r ++ y))
-under k r q = ap (λ (l : List ℕ). take 8 (drop k (eight r ++ l))) q
+pub length-stack : (t u : ℕ) → length (eight t ++ eight u) ≡ 16
+unfolding eight
+length-stack t u = refl
 
-module _ (t u : ℕ) where
-  pub push-law : (b : ℕ) → b < 256 → window 7 b t ++ window 7 t u ≡ pushed (eight t ++ eight u) b
-  unfolding eight
-  push-law b h = rw (mod-eq-of-lt h)
+pub eight-zero : eight 0 ≡ zeros 8
+unfolding eight
+eight-zero = refl
 
-  pub turn-1 : window 1 t u ++ window 1 u t ≡ rotated 1 (eight t ++ eight u)
-  unfolding eight
-  turn-1 = refl
+take-zeros : (n m : ℕ) → n ≤ m → take n (zeros m) ≡ zeros n
+take-zeros zero m h = refl
+take-zeros (suc n) zero h = absurd (not-suc-le-zero h)
+take-zeros (suc n) (suc m) h = ap (λ (l : List ℕ). 0 ∷ l) (take-zeros n m (le-of-suc-le-suc h))
 
-  pub turn-2 : window 2 t u ++ window 2 u t ≡ rotated 2 (eight t ++ eight u)
-  unfolding eight
-  turn-2 = refl
+-- ---- two windows side by side
+pub slides : (k a b c : ℕ) → window k a b ++ window k b c ≡ slid k a b c
+slides k a b c =
+    append-assoc (drop k (eight a)) (take k (eight b)) (drop k (eight b) ++ take k (eight c))
+    ∙ ap (λ (l : List ℕ). drop k (eight a) ++ l)
+    (sym (append-assoc (take k (eight b)) (drop k (eight b)) (take k (eight c))) ∙ ap (λ (l : List ℕ). l ++ take k (eight c)) (take-append-drop k (eight b)))
 
-  pub turn-4 : window 4 t u ++ window 4 u t ≡ rotated 4 (eight t ++ eight u)
-  unfolding eight
-  turn-4 = refl
+module _ (t u n : ℕ) (h : n ≤ 8) where
+  part : n ≤ length (eight t)
+  part = omega (arith, length-eight t)
 
-  pub over-a-2 : (r : ℕ) → take 8 (drop 6 (eight r ++ window 4 t u)) ++ window 2 u t ≡ overA 2 (eight t ++ eight u) r
-  unfolding eight
-  over-a-2 r = refl
+  pub turn-law : slid n t u t ≡ rotated n (eight t ++ eight u)
+  turn-law =
+      sym (append-assoc (drop n (eight t)) (eight u) (take n (eight t)))
+      ∙ sym (joined (drop-append-le n (eight t) (eight u) part) (take-append-le n (eight t) (eight u) part))
 
-  pub over-a-4 : (r : ℕ) → window 4 r u ++ window 4 u t ≡ overA 4 (eight t ++ eight u) r
-  unfolding eight
-  over-a-4 r = refl
+  pub lift-law : slid n t u 0 ≡ drop n (eight t ++ eight u) ++ zeros n
+  lift-law =
+      sym (append-assoc (drop n (eight t)) (eight u) (take n (eight 0)))
+      ∙ sym (joined (drop-append-le n (eight t) (eight u) part) (sym (ap (take n) eight-zero ∙ take-zeros n 8 h)))
 
-  pub over-zero-2 : (r : ℕ) → take 8 (drop 6 (eight r ++ window 4 t u)) ++ window 2 u 0 ≡ overZero 2 (eight t ++ eight u) r
-  unfolding eight
-  over-zero-2 r = refl
+  pub push-law : (w k : ℕ) → k + n ≡ 8 → slid k w t u ≡ bytesOf n w ++ take (16 - n) (eight t ++ eight u)
+  push-law w k e =
+      let m : 16 - n ≡ length (eight t) + k = omega (arith, length-eight t) in
+      joined (last-bytes k n w e) (sym (ap (λ (x : ℕ). take x (eight t ++ eight u)) m ∙ take-append-add (eight t) (eight u) k))
 
-  pub over-zero-4 : (r : ℕ) → window 4 r u ++ window 4 u 0 ≡ overZero 4 (eight t ++ eight u) r
-  unfolding eight
-  over-zero-4 r = refl
+  pub put-law : (r k v w : ℕ) → k + n ≡ 8 → eight v ≡ window n t 0 → eight w ≡ window k r v → eight w ++ eight u ≡ replaced n (eight t ++ eight u) r
+  put-law r k v w e ev ew =
+      let m : length (drop n (eight t)) ≡ k = length-drop n (eight t) ∙ omega (arith, length-eight t) in
+      joined (ew ∙ joined (last-bytes k n r e) (ap (take k) ev ∙ take-at (drop n (eight t)) (take n (eight 0)) k m)) refl
+      ∙ append-assoc (bytesOf n r) (drop n (eight t)) (eight u)
+      ∙ ap (λ (l : List ℕ). bytesOf n r ++ l) (sym (drop-append-le n (eight t) (eight u) part))
 
-  pub exchange-2 : take 8 (drop 6 (window 4 0 t ++ take 8 (drop 6 (window 2 0 t ++ window 4 t 0)))) ++ eight u ≡ exchanged 2 (eight t ++ eight u)
-  unfolding eight
-  exchange-2 = refl
-
-  pub exchange-4 : window 4 t t ++ eight u ≡ exchanged 4 (eight t ++ eight u)
-  unfolding eight
-  exchange-4 = refl
-
--- ---- the rest of the layouts
+-- ---- the layouts
 pub cleared-law : eight 0 ++ eight 0 ≡ zeros 16
 unfolding eight
 cleared-law = refl
 
+-- a byte pushed
+pub one-byte : (s : List ℕ) (b : ℕ) → b < 256 → bytesOf 1 b ++ take 15 s ≡ pushed s b
+one-byte s b h = ap (λ (x : ℕ). x ∷ take 15 s) (mod-eq-of-lt h)
+
+-- R in place of the word that a move up left on top
+pub over-law : (n r : ℕ) (s x : List ℕ) → n + n ≤ length s → replaced n (drop n s ++ x) r ≡ bytesOf n r ++ (drop (n + n) s ++ x)
+over-law n r s x h =
+    let l : n ≤ length (drop n s) = simp length-drop (omega arith) in
+    ap (λ (y : List ℕ). bytesOf n r ++ y) (drop-append-le n (drop n s) x l ∙ ap (λ (y : List ℕ). y ++ x) (drop-drop n n s))
+
+module _ (n : ℕ) (s : List ℕ) (S : IsStack s) (h : n + n ≤ 16) where
+  fit : n ≤ length s
+  fit = omega (arith, S .sixteen)
+
+  pub copy-law : bytesOf n (tos n s) ++ take (16 - n) s ≡ copied n s
+  copy-law = joined (bytes-tos n s (S .bytes) fit) refl
+
+  pub exchange-law : bytesOf n (nos n s) ++ take (16 - n) (overA n s (tos n s)) ≡ exchanged n s
+  exchange-law =
+      let below : n ≤ length (drop n s) = simp length-drop (omega (arith, S .sixteen)) in
+      let a = bytes-tos n s (S .bytes) fit in
+      let size : length (take n s ++ drop (n + n) s) ≡ 16 - n = simp (length-append, length-take-le n s fit, length-drop) (omega (arith, S .sixteen)) in
+      joined (bytes-tos n (drop n s) (bytes-drop n s (S .bytes)) below)
+      (ap (λ (l : List ℕ). take (16 - n) (l ++ (drop (n + n) s ++ take n s))) a
+      ∙ ap (take (16 - n)) (sym (append-assoc (take n s) (drop (n + n) s) (take n s)))
+      ∙ take-at (take n s ++ drop (n + n) s) (take n s) (16 - n) size)
+
 module _ (t u : ℕ) where
-  pub push-2 : (w : ℕ) → window 6 w t ++ window 6 t u ≡ bytesOf 2 w ++ take 14 (eight t ++ eight u)
+  -- eight bytes at once
+  pub push-eight : (w : ℕ) → eight w ++ eight t ≡ eight w ++ take 8 (eight t ++ eight u)
   unfolding eight
-  push-2 w = refl
+  push-eight w = refl
 
-  pub push-4 : (w : ℕ) → window 4 w t ++ window 4 t u ≡ pushedWord (eight t ++ eight u) w
+  pub turn-eight : eight u ++ eight t ≡ rotated 8 (eight t ++ eight u)
   unfolding eight
-  push-4 w = refl
+  turn-eight = refl
 
-  pub push-8 : (w : ℕ) → eight w ++ eight t ≡ eight w ++ take 8 (eight t ++ eight u)
-  unfolding eight
-  push-8 w = refl
-
-  pub turn-8 : eight u ++ eight t ≡ rotated 8 (eight t ++ eight u)
-  unfolding eight
-  turn-8 = refl
-
-  pub realigned-law : window 1 t u ++ take 8 (drop 2 (window 7 0 u ++ eight 0)) ≡ take 14 (rotated 1 (eight t ++ eight u)) ++ zeros 2
+  pub realigned-law : drop 2 (bytesOf 1 0 ++ take 15 (eight t ++ eight u)) ++ zeros 2 ≡ take 14 (rotated 1 (eight t ++ eight u)) ++ zeros 2
   unfolding eight
   realigned-law = refl
 
-  pub replace-2 : (r : ℕ) → take 8 (drop 6 (eight r ++ window 2 t 0)) ++ eight u ≡ replaced 2 (eight t ++ eight u) r
-  unfolding eight
-  replace-2 r = refl
-
-  pub replace-4 : (r : ℕ) → take 8 (drop 4 (eight r ++ window 4 t 0)) ++ eight u ≡ replaced 4 (eight t ++ eight u) r
-  unfolding eight
-  replace-4 r = refl
-
-  pub copy-2 : take 8 (drop 6 (window 2 0 t ++ eight t)) ++ window 6 t u ≡ copied 2 (eight t ++ eight u)
-  unfolding eight
-  copy-2 = refl
-
-  pub copy-4 : take 8 (drop 4 (window 4 0 t ++ eight t)) ++ window 4 t u ≡ copied 4 (eight t ++ eight u)
-  unfolding eight
-  copy-4 = refl
-
-  pub convert-law : (r : ℕ) → take 8 (drop 4 (eight r ++ window 4 t 0)) ++ take 8 (drop 4 (window 4 0 u ++ eight 0)) ≡ converted (eight t ++ eight u) r
+  pub convert-law : (r : ℕ) → bytesOf 4 r ++ take 12 (window 4 t u ++ zeros 8) ≡ converted (eight t ++ eight u) r
   unfolding eight
   convert-law r = refl
 
-  pub widen-law : (r : ℕ) → take 8 (drop 4 (eight r ++ window 2 t 0)) ++ take 8 (drop 4 (window 2 t u ++ eight 0)) ≡ widened (eight t ++ eight u) r
+  pub widen-law : (r : ℕ) → bytesOf 4 r ++ take 12 (window 2 t u ++ zeros 8) ≡ widened (eight t ++ eight u) r
   unfolding eight
   widen-law r = refl
 
-  pub narrow-law : (r : ℕ) → take 8 (drop 6 (eight r ++ window 4 t u)) ++ take 8 (drop 6 (window 4 0 u ++ eight 0)) ≡ narrowed (eight t ++ eight u) r
+  pub narrow-law : (r : ℕ) → bytesOf 2 r ++ take 14 (window 4 t u ++ zeros 8) ≡ narrowed (eight t ++ eight u) r
   unfolding eight
   narrow-law r = refl
 

@@ -1,8 +1,8 @@
 -- A number and its bytes: n bytes stand for the number that they are the bytes of, and the word on top of a stack is below 256 to the n. Assumes nothing.
-use mathlib.Core.Path.{_≡_, refl, sym, ap, subst, _∙_}
-use mathlib.Core.List.{List, [], _∷_, _++_}
+use mathlib.Core.Path.{_≡_, refl, sym, ap, ap₂, subst, _∙_}
+use mathlib.Core.List.{List, [], _∷_, _++_, append-assoc, append-nil}
 use Prim.Native.Nat.{ℕ, zero, suc, _+_, _*_, _/_, _%_, _^_, _≤_, _<_}
-use native.Mathlib.Nat.{div-add-mod', div-lt-iff-lt-mul, mod-lt, mul-assoc, mul-comm, pow-suc}
+use native.Mathlib.Nat.{add-zero, zero-add, add-suc, suc-add, div-add-mod', div-lt-iff-lt-mul, mod-lt, mul-assoc, mul-comm, pow-suc}
 use native.Mathlib.Numerals.{add-one}
 use native.Mathlib.Omega.{arith}
 use lib.Dec.{lit<}
@@ -60,14 +60,32 @@ number-lt : (a k : ℕ) (l : List ℕ) → a < k → Bytes l → numberFrom a l 
 number-lt a k [] h p = omega arith
 number-lt a k (b ∷ l) h p =
     let q = p .0 in
-    let more : k * 256 * 256 ^ length l ≡ k * 256 ^ suc (length l) = mul-assoc k 256 (256 ^ length l) ∙ ap (λ (x : ℕ). k * x) (mul-comm 256 (256 ^ length l) ∙ sym (pow-suc 256 (length l))) in
+    let more : k * 256 * 256 ^ length l ≡ k * 256 ^ suc (length l) =
+    mul-assoc k 256 (256 ^ length l) ∙ ap (λ (x : ℕ). k * x) (mul-comm 256 (256 ^ length l) ∙ sym (pow-suc 256 (length l))) in
     subst (λ (x : ℕ). numberFrom (a * 256 + b) l < x) more (number-lt (a * 256 + b) (k * 256) l (omega arith) (p .1))
 
 -- bytes stand for a number below 256 to their count
 pub number-below : (l : List ℕ) → Bytes l → numberFrom 0 l < 256 ^ length l
 number-below l p = let i = number-lt 0 1 l (lit< tt) p in omega arith
 
+-- bytes are those of the number that they stand for, behind the bytes of the number before them
+bytes-after : (l : List ℕ) → Bytes l → (n x : ℕ) → bytesOf (n + length l) (numberFrom x l) ≡ bytesOf n x ++ l
+bytes-after [] h n x = ap (λ (k : ℕ). bytesOf k x) (add-zero n) ∙ sym (append-nil (bytesOf n x))
+bytes-after (b ∷ l) h n x =
+    let small = h .0 in
+    let up : (x * 256 + b) / 256 ≡ x = omega arith in
+    let last : (x * 256 + b) % 256 ≡ b = omega arith in
+    ap (λ (k : ℕ). bytesOf k (numberFrom (x * 256 + b) l)) (add-suc n (length l) ∙ sym (suc-add n (length l)))
+    ∙ bytes-after l (h .1) (suc n) (x * 256 + b)
+    ∙ ap₂ (λ (y z : ℕ). (bytesOf n y ++ (z ∷ [])) ++ l) up last
+    ∙ append-assoc (bytesOf n x) (b ∷ []) l
+
 -- ---- the word on top
+-- its bytes
+pub bytes-tos : (n : ℕ) (s : List ℕ) → Bytes s → n ≤ length s → bytesOf n (tos n s) ≡ take n s
+bytes-tos n s p h =
+    ap (λ (k : ℕ). bytesOf k (tos n s)) (sym (length-take-le n s h) ∙ sym (zero-add (length (take n s)))) ∙ bytes-after (take n s) (bytes-take n s p) 0 0
+
 -- what is laid on top is read there
 pub tos-over : (n r : ℕ) (t : List ℕ) → r < 256 ^ n → tos n (bytesOf n r ++ t) ≡ r
 tos-over n r t h = ap (λ (l : List ℕ). numberFrom 0 l) (take-at (bytesOf n r) t n (length-bytes n r)) ∙ number-bytes n r h

@@ -7,12 +7,12 @@ use little::put_word;
 use terms::Width;
 ghost use mathlib.Core.Path.{_≡_};
 ghost use mathlib.Core.List.{_++_};
-ghost use Prim.Native.Nat.{_+_, _-_, _*_, _≤_};
+ghost use Prim.Native.Nat.{_+_, _*_, _≤_};
 ghost use lib.ListN.{length, drop};
 ghost use lib.Seq.{paste};
 ghost use Rattle.little.specs.Little.{wordAt, le4, le8};
 ghost use Rattle.stack.specs.Stack.{bytesOf, pushedAll, poppedAll, handedOut};
-ghost use Rattle.stack.specs.Words.{eight, bytesIn, PopsTo};
+ghost use Rattle.stack.specs.Words.{eight, bytesIn};
 
 // Four bytes the other way round.
 fn reversed_4(w: u32) -> u32
@@ -60,7 +60,15 @@ fn two(lo: u8, hi: u8) -> u16
     lo as u16 + hi as u16 * 256
 }
 
-// The two bytes of a word, the most significant first, from a place on.
+// The bytes of a word, the most significant first, from a place on: four, and two.
+fn put_4(s: &mut [u8], at: usize, r: u32)
+    requires { ⌜ at + 4 ≤ length (now s) ⌝ }
+    ensures { λ _. ⌜ now (s .exit) ≡ paste (now (s .entry)) at (bytesOf 4 r) 4 ⌝ }
+{
+    let end = at + 4;
+    put_word(&mut s[at..end], reversed_4(r) as usize);
+}
+
 fn put_2(s: &mut [u8], at: usize, r: u32)
     requires { ⌜ at + 2 ≤ length (now s) ⌝ }
     ensures { λ _. ⌜ now (s .exit) ≡ paste (now (s .entry)) at (bytesOf 2 r) 2 ⌝ }
@@ -70,95 +78,33 @@ fn put_2(s: &mut [u8], at: usize, r: u32)
 }
 
 impl Stack {
-    // The last byte of p pushed, if there is one from a place on.
-    fn push_last(self, p: &[u8], at: usize) -> Stack
-        requires { ⌜ length (now p) ≤ at + 1 ⌝ }
-        ensures { λ r. ⌜ bytesIn r ≡ pushedAll (bytesIn self) (drop at (now (p .entry))) ⌝ }
-    {
-        if at < p.len() {
-            return self.push(p[at]);
-        }
-        self
-    }
-
-    // The last bytes of p pushed, three at most from a place on.
-    fn push_few(self, p: &[u8], at: usize) -> Stack
-        requires { ⌜ (at ≤ length (now p)) × (length (now p) ≤ at + 3) ⌝ }
-        ensures { λ r. ⌜ bytesIn r ≡ pushedAll (bytesIn self) (drop at (now (p .entry))) ⌝ }
-    {
-        if 2 <= p.len() - at {
-            let s = self.push_2(two(p[at], p[at + 1]));
-            return s.push_last(p, at + 2);
-        }
-        self.push_last(p, at)
-    }
-
-    // The last bytes of p pushed, seven at most from a place on.
-    fn push_rest(self, p: &[u8], at: usize) -> Stack
-        requires { ⌜ (at ≤ length (now p)) × (length (now p) ≤ at + 7) ⌝ }
-        ensures { λ r. ⌜ bytesIn r ≡ pushedAll (bytesIn self) (drop at (now (p .entry))) ⌝ }
-    {
-        if 4 <= p.len() - at {
-            let s = self.push_4(four_at(p, at));
-            return s.push_few(p, at + 4);
-        }
-        self.push_few(p, at)
-    }
-
-    // Every byte of p pushed, in order.
+    // Every byte of p pushed, in order: eight at a time, then four, two and one where so many are left.
     pub fn push_all(self, p: &[u8]) -> Stack
         ensures { λ r. ⌜ bytesIn r ≡ pushedAll (bytesIn self) (now (p .entry)) ⌝ }
     {
         let mut s = self;
         let mut i = 0;
         while 8 <= p.len() - i {
-            s = s.push_8(eight_at(p, i));
+            let rest = s.top;
+            let top = eight_at(p, i);
+            s = Stack { top, rest };
             i += 8;
         }
-        s.push_rest(p, i)
-    }
-
-    // The last byte popped, if one of n is left from a place on.
-    fn pop_last(self, n: usize, room: &mut [u8], at: usize) -> Stack
-        requires { ⌜ (at ≤ n) × (n ≤ length (now room)) × (n ≤ at + 1) ⌝ }
-        ensures { λ r. ⌜ PopsTo (n - at) self r at (now (room .entry)) (now (room .exit)) ⌝ }
-    {
-        if at < n {
-            room[at] = self.top_byte();
-            return self.turn_1();
+        if 4 <= p.len() - i {
+            s = s.push(four_at(p, i) as u64, 4);
+            i += 4;
         }
-        self
-    }
-
-    // The last bytes popped, three at most of n from a place on.
-    fn pop_few(self, n: usize, room: &mut [u8], at: usize) -> Stack
-        requires { ⌜ (at ≤ n) × (n ≤ length (now room)) × (n ≤ at + 3) ⌝ }
-        ensures { λ r. ⌜ PopsTo (n - at) self r at (now (room .entry)) (now (room .exit)) ⌝ }
-    {
-        if 2 <= n - at {
-            put_2(room, at, self.tos(Width::Single));
-            return self.turn_2().pop_last(n, room, at + 2);
+        if 2 <= p.len() - i {
+            s = s.push(two(p[i], p[i + 1]) as u64, 2);
+            i += 2;
         }
-        self.pop_last(n, room, at)
-    }
-
-    // The last bytes popped, seven at most of n from a place on.
-    fn pop_rest(self, n: usize, room: &mut [u8], at: usize) -> Stack
-        requires { ⌜ (at ≤ n) × (n ≤ length (now room)) × (n ≤ at + 7) ⌝ }
-        ensures { λ r. ⌜ PopsTo (n - at) self r at (now (room .entry)) (now (room .exit)) ⌝ }
-    {
-        if 4 <= n - at {
-            let end = at + 4;
-            put_word(
-                &mut room[at..end],
-                reversed_4(self.tos(Width::Double)) as usize,
-            );
-            return self.turn_4().pop_few(n, room, end);
+        if i < p.len() {
+            return s.push(p[i] as u64, 1);
         }
-        self.pop_few(n, room, at)
+        s
     }
 
-    // n bytes popped, to the front of `room`.
+    // n bytes popped, to the front of `room`: as many at a time.
     pub fn pop_all(self, n: usize, room: &mut [u8]) -> Stack
         requires { ⌜ n ≤ length (now room) ⌝ }
         ensures { λ r. ⌜ bytesIn r ≡ poppedAll n (bytesIn self) ⌝ }
@@ -169,9 +115,25 @@ impl Stack {
         while 8 <= n - i {
             let end = i + 8;
             put_eight(&mut room[i..end], reversed_8(s.top));
-            s = s.turn_8();
+            let rest = s.top;
+            let top = s.rest;
+            s = Stack { top, rest };
             i = end;
         }
-        s.pop_rest(n, room, i)
+        if 4 <= n - i {
+            put_4(room, i, s.tos(Width::Double));
+            s = s.turn(4);
+            i += 4;
+        }
+        if 2 <= n - i {
+            put_2(room, i, s.tos(Width::Single));
+            s = s.turn(2);
+            i += 2;
+        }
+        if i < n {
+            room[i] = s.top_byte();
+            return s.turn(1);
+        }
+        s
     }
 }

@@ -6,7 +6,7 @@ use mathlib.Core.List.{List, _++_}
 use Prim.Native.Nat.{ℕ, _≤_, _<_}
 use native.Mathlib.Omega.{arith}
 use lib.Dec.{eqb}
-use lib.ListN.{length, take}
+use lib.ListN.{length, take, drop, length-append, length-drop}
 use lib.Seq.{length-take-le}
 use borrow.Author.Tests.{lt-ltb, le-ltb, lt-leb, le-leb, leb-true, eq-eqb, ne-eqb, eqb-true}
 use Rattle.terms.specs.declared.Refusal.{Refusal}
@@ -23,11 +23,12 @@ use Rattle.error_memory.specs.declared.Memory.{Memory}
 use Rattle.error_memory.specs.Event.{Event, Recall, Forget}
 use Rattle.error_memory.specs.Memory.{emptyMemory, Card, CardAnswer, cardWith, around, eventIn}
 use Rattle.error_memory.proofs.Good.{recalled, forgotten}
-use Rattle.record_files.specs.Run.{Runs}
+use Rattle.record_files.specs.Run.{Runs, Outcome as Ended}
 use Rattle.record_runs.specs.Record.{kindNamed}
 use Rattle.record_runs.specs.Run.{Outcome, runOf}
 use Rattle.state_bytes.specs.Bytes.{Sized, isState, stateOf, memoryIn, cardIn, memoryBytesOf, withMemory, laid, laidOut, doorOf, reportOf}
-use Rattle.state_bytes.specs.Calls.{settingsOf, ranOf, away, callUnder, signalUnder, callOf, Calls, answeredBy, Signal, joinedOf, signalBy, unsent, signalOf, Signals, Settles}
+use Rattle.state_bytes.specs.Calls.{settingsOf, ranOf, away, callUnder, signalUnder, callOf, Calls, answeredBy, Signal, joinedOf, signalBy, unsent}
+use Rattle.state_bytes.specs.Calls.{signalOf, Signals, Settles}
 use Rattle.state_bytes.proofs.Laid.{other-memory}
 use Rattle.state_bytes.proofs.States.{least, sized-as, state-sized, state-ready, short-memory, long-memory}
 use Rattle.state_bytes.proofs.Cards.{card-returns, laid-length, long-back}
@@ -73,13 +74,21 @@ pub kept-back : (l : List ℕ) (s : State) (f : Memory → Memory) {y left : Lis
     → left ≡ withMemory y (f (memoryIn y)) → left ≡ laid (length l) s (f (memoryIn l))
 kept-back l s f {y} h n e k =
     let len : length y ≡ length l = ap length e ∙ laid-length (cardWith (given Am9511A Cut) s (memoryIn l)) n (length l) h in
-    let mem : memoryIn y ≡ memoryIn l = ⊎-elim (λ a. short-memory y (len ∙ a) ∙ sym (short-memory l a)) (λ b. ap memoryIn e ∙ long-back s (memoryIn l) n (length l) b) h in
+    let mem : memoryIn y ≡ memoryIn l = ⊎-elim (λ a. short-memory y (len ∙ a) ∙ sym (short-memory l a)) (λ b. ap memoryIn e ∙ long-back s (memoryIn l) n
+    (length l) b) h in
     other-memory (length l) s (memoryIn l) (f (memoryIn y)) n e len k ∙ ap (λ (m : Memory). laid (length l) s (f m)) mem
 
 pub laid-sized : (l : List ℕ) (s : State) (m : Memory) {y : List ℕ} → Sized l → length (s .stack) ≡ 16 → y ≡ laid (length l) s m → Sized y
 laid-sized l s m {y} h n e = sized-as l y (ap length e ∙ laid-length (cardWith (given Am9511A Cut) s m) n (length l) h) h
 
 -- ---- the run
+-- the replies have as many bytes after a run as before it
+pub same-room : {S : Type 0} {o : Ended S} {refusal : ℕ} {s : S} {taken written : ℕ} {file room left : List ℕ}
+    → Runs o refusal s taken written file room left → length left ≡ length room
+same-room {o = o} {room = room} r =
+    ap length (r .left-is) ∙ length-append (o .written) (drop (length (o .written)) room)
+    ∙ omega (arith, length-drop (length (o .written)) room, r .written-is, r .fits)
+
 -- a run of the code, with its state and report laid out
 pub called : (size : ℕ) (o : Outcome) (refusal : ℕ) (c : Card) (taken written : ℕ) (input replies left state report : List ℕ)
     → Runs o refusal c taken written input replies left → state ≡ laidOut size c → report ≡ reportOf refusal taken written
@@ -97,7 +106,8 @@ pub turned-away : (r : Refusal) (n : ℕ) (state replies report : List ℕ) → 
 turned-away r n state replies report e h = record { result-is = e; state-is = refl; replies-is = refl; report-is = h }
 
 module _ (mode rule : ℕ) (state input replies report : List ℕ) where
-  pub call-away : length report ≡ 9 → (numberOf (doorOf mode rule state) ≡ 0 → ⊥) → callOf mode rule state input replies report ≡ away (doorOf mode rule state) state replies
+  pub call-away : length report ≡ 9 → (numberOf (doorOf mode rule state) ≡ 0 → ⊥) → callOf mode rule state input replies report ≡ away (doorOf mode rule state)
+      state replies
   unfolding callOf
   call-away a h = rw (eq-eqb (length report) 9 a) (shut (λ r. away r state replies) _ (isMode mode) (isRule rule) (isState state) h)
 
@@ -106,7 +116,8 @@ module _ (mode rule : ℕ) (state input replies report : List ℕ) where
   bad-report a n e = simp ne-eqb record { result-is = e; state-is = refl; replies-is = refl; report-is = refl }
 
   -- under numbers that are not turned away
-  pub run-chosen : mode ≤ 1 → rule ≤ 1 → callOf mode rule state input replies report ≡ cond (eqb (length report) 9) (callUnder (settingsOf mode rule) state input replies) (record { result = 14; state = state; replies = replies; report = report })
+  pub run-chosen : mode ≤ 1 → rule ≤ 1 → callOf mode rule state input replies report ≡ cond (eqb (length report) 9) (callUnder (settingsOf mode rule) state
+      input replies) (record { result = 14; state = state; replies = replies; report = report })
   unfolding callOf
   run-chosen k q = rw (le-leb mode 1 k, le-leb rule 1 q)
 
@@ -122,7 +133,8 @@ module _ (mode rule : ℕ) (state input replies report : List ℕ) where
   unfolding callOf
   bad-state a k q b = rw (eq-eqb (length report) 9 a, le-leb mode 1 k, le-leb rule 1 q, b)
 
-  pub too-long : length report ≡ 9 → mode ≤ 1 → rule ≤ 1 → isState state ≡ true → 12288 < length input → callOf mode rule state input replies report ≡ away InputTooLong state replies
+  pub too-long : length report ≡ 9 → mode ≤ 1 → rule ≤ 1 → isState state ≡ true → 12288 < length input → callOf mode rule state input replies report
+      ≡ away InputTooLong state replies
   unfolding callOf
   too-long a k q b d = rw (eq-eqb (length report) 9 a, le-leb mode 1 k, le-leb rule 1 q, b, lt-ltb 12288 (length input) d)
 
@@ -141,7 +153,8 @@ module _ (state : List ℕ) (on : Settings) (m : Memory) (a : Answer) {n r : ℕ
   an-event g d = rw (← en, eq-eqb n 0 g) record { result-is = er; state-is = d }
 
 -- what is remembered counts where the event was done
-pub signal-as : (state : List ℕ) (on : Settings) (a : Answer) (k m : Memory) → (numberOf (a .refusal) ≡ 0 → k ≡ m) → signalBy state (around on k a) ≡ signalBy state (around on m a)
+pub signal-as : (state : List ℕ) (on : Settings) (a : Answer) (k m : Memory) → (numberOf (a .refusal) ≡ 0 → k ≡ m) → signalBy state (around on k a)
+    ≡ signalBy state (around on m a)
 signal-as state on a k m h = by (eqb (numberOf (a .refusal)) 0) refl
   where
     with-memory : Bool → Memory → Signal
@@ -164,13 +177,18 @@ module _ (on : Settings) (state : List ℕ) (h : isState state ≡ true) {r : �
 
   pub a-recall : (m : Memory) → m ≡ memoryIn state → r ≡ joinedOf 0 (m .bits) → Signals (signalBy state (eventIn (cardIn on state) Recall)) r state
   a-recall m is er =
-      by-card (recalled (cardIn on state) (state-ready state h)) (record { result-is = er ∙ ap (λ (k : Memory). joinedOf 0 (k .bits)) is; state-is = sym (card-returns on state h) })
+      by-card (recalled (cardIn on state) (state-ready state h)) (record {
+        result-is = er ∙ ap (λ (k : Memory). joinedOf 0 (k .bits)) is;
+        state-is = sym (card-returns on state h);
+      })
 
-  pub a-forget : (m : Memory) {left : List ℕ} → m ≡ emptyMemory → r ≡ joinedOf 0 0 → left ≡ take 19 state ++ memoryBytesOf (length state) m → Signals (signalBy state (eventIn (cardIn on state) Forget)) r left
+  pub a-forget : (m : Memory) {left : List ℕ} → m ≡ emptyMemory → r ≡ joinedOf 0 0 → left ≡ take 19 state ++ memoryBytesOf (length state) m
+      → Signals (signalBy state (eventIn (cardIn on state) Forget)) r left
   a-forget m is er e =
       by-card (forgotten (cardIn on state) (state-ready state h)) (record {
         result-is = er;
-        state-is = other-memory (length state) (stateOf state) (memoryIn state) emptyMemory (length-take-le 16 state (omega (arith, least state (state-sized state h)))) (sym (card-returns on state h)) refl
+        state-is = other-memory (length state) (stateOf state) (memoryIn state) emptyMemory
+            (length-take-le 16 state (omega (arith, least state (state-sized state h)))) (sym (card-returns on state h)) refl
             (e ∙ ap (λ (k : Memory). take 19 state ++ memoryBytesOf (length state) k) is);
       })
 
@@ -188,7 +206,8 @@ module _ (mode rule : ℕ) (state : List ℕ) (kind byte : ℕ) where
   unfolding signalOf
   event-chosen k q = rw (le-leb mode 1 k, le-leb rule 1 q)
 
-  pub no-state : mode ≤ 1 → rule ≤ 1 → isState state ≡ false → (n r : ℕ) → n ≡ numberOf BadState → r ≡ joinedOf n 0 → Signals (signalOf mode rule state kind byte) r state
+  pub no-state : mode ≤ 1 → rule ≤ 1 → isState state ≡ false → (n r : ℕ) → n ≡ numberOf BadState → r ≡ joinedOf n 0
+      → Signals (signalOf mode rule state kind byte) r state
   unfolding signalOf
   no-state k q h n r e f = rw (le-leb mode 1 k, le-leb rule 1 q, h) record { result-is = f ∙ rw e; state-is = refl }
 
@@ -196,6 +215,7 @@ module _ (mode rule : ℕ) (state : List ℕ) (kind byte : ℕ) where
   unfolding signalOf
   signal-away h = shut (λ r. unsent r state) _ (isMode mode) (isRule rule) (isState state) h
 
-  pub signalled : Admitted mode rule state → signalOf mode rule state kind byte ≡ signalBy state (answeredBy (cardIn (settingsOf mode rule) state) byte (kindNamed kind))
+  pub signalled : Admitted mode rule state → signalOf mode rule state kind byte ≡ signalBy state (answeredBy (cardIn (settingsOf mode rule) state) byte
+      (kindNamed kind))
   unfolding signalOf
   signalled a = rw (le-leb mode 1 (a .mode-is), le-leb rule 1 (a .rule-is), a .state-is)

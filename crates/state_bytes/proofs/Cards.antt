@@ -1,4 +1,5 @@
--- Bytes and cards: the bytes of a state come back as they were, and the bytes of a card that 13 does not turn away stand for a state, from which the card comes back. Assumes nothing.
+-- Bytes and cards: the bytes of a state come back as they were, and the bytes of a card that 13 does not turn away stand for a state, from which the card comes
+-- back. Assumes nothing.
 use mathlib.Core.Path.{_≡_, refl, sym, ap, ap₂, _∙_}
 use mathlib.Core.Logic.{_⊎_, inl, inr, ⊎-elim}
 use mathlib.Core.Bool.{Bool, true, false, cond}
@@ -62,7 +63,8 @@ abbrev pub behind : ℕ → Card → List ℕ
 behind n c = flagOf (c .chip .pending) ∷ c .chip .status ∷ flagOf (c .chip .service) ∷ cond (eqb n stateBytes) [] (c .memory .bits ∷ c .memory .code ∷ [])
 
 pub laid-is : (n : ℕ) (c : Card) → laidOut n c ≡ c .chip .stack ++ behind n c
-laid-is n c = append-assoc (c .chip .stack) (flagOf (c .chip .pending) ∷ c .chip .status ∷ flagOf (c .chip .service) ∷ []) (cond (eqb n stateBytes) [] (c .memory .bits ∷ c .memory .code ∷ []))
+laid-is n c = append-assoc (c .chip .stack) (flagOf (c .chip .pending) ∷ c .chip .status ∷ flagOf (c .chip .service) ∷ []) (cond (eqb n stateBytes) []
+    (c .memory .bits ∷ c .memory .code ∷ []))
 
 -- the bytes of a state come back as they were
 pub card-returns : (on : Settings) (l : List ℕ) → isState l ≡ true → laidOut (length l) (cardIn on l) ≡ l
@@ -84,8 +86,18 @@ pub card-ready : (on : Settings) (l : List ℕ) → Bytes l → isState l ≡ tr
 card-ready on l bytes h =
     let s = state-stands l h in
     record {
-      chip = record { stack = record { sixteen = ⊎-elim (λ a. length-take-le 16 l (omega arith)) (λ b. length-take-le 16 l (omega arith)) (s .size); bytes = bytes-take 16 l bytes }; ready = s .chip .ready };
-      memory = record { stands = state-memory l h; code-byte = ⊎-elim (λ a. rw (eq-eqb (length l) 19 a) (lit< tt)) (λ b. rw (ne-eqb (length l) 19 (λ a. omega arith)) (byte-at l bytes 20)) (s .size) };
+      chip = record {
+        stack = record {
+          sixteen = ⊎-elim (λ a. length-take-le 16 l (omega arith)) (λ b. length-take-le 16 l (omega arith)) (s .size);
+          bytes = bytes-take 16 l bytes;
+        };
+        ready = s .chip .ready;
+      };
+      memory = record {
+        stands = state-memory l h;
+        code-byte = ⊎-elim (λ a. rw (eq-eqb (length l) 19 a) (lit< tt)) (λ b. rw
+            (ne-eqb (length l) 19 (λ a. omega arith)) (byte-at l bytes 20)) (s .size);
+      };
     }
 
 -- ---- cards, written and read back
@@ -106,7 +118,8 @@ module _ (c : Card) (n : length (c .chip .stack) ≡ 16) where
   pub laid-chip : (size : ℕ) → stateOf (laidOut size c) ≡ c .chip
   laid-chip size =
       rw (laid-at size 0, laid-at size 1, laid-at size 2, flag-read (c .chip .pending), flag-read (c .chip .service), laid-is size c)
-      (ap (λ (s : List ℕ). record { stack = s; pending = c .chip .pending; status = c .chip .status; service = c .chip .service }) (take-at (c .chip .stack) (behind size c) 16 n))
+      (ap (λ (s : List ℕ). record { stack = s; pending = c .chip .pending; status = c .chip .status; service = c .chip .service })
+      (take-at (c .chip .stack) (behind size c) 16 n))
 
   pub card-short : cardIn (c .on) (laidOut stateBytes c) ≡ cardWith (c .on) (c .chip) emptyMemory
   card-short = ap₂ (cardWith (c .on)) (laid-chip 19) (short-memory (laidOut 19 c) (laid-length 19 (inl refl)))
@@ -128,7 +141,11 @@ module _ (c : Card) (r : ReadyCard c) where
       let len = laid-length c n size h in
       stands-state (laidOut size c) (record {
         size = ⊎-elim (λ a. inl (len ∙ a)) (λ b. inr (len ∙ b)) h;
-        chip = record { pending = rw (laid-at c n size 0) (flag-small (c .chip .pending)); ready = rw (laid-at c n size 1) (r .chip .ready); service = rw (laid-at c n size 2) (flag-small (c .chip .service)) };
+        chip = record {
+          pending = rw (laid-at c n size 0) (flag-small (c .chip .pending));
+          ready = rw (laid-at c n size 1) (r .chip .ready);
+          service = rw (laid-at c n size 2) (flag-small (c .chip .service));
+        };
         memory = λ m. rw (laid-at c n size 3, laid-at c n size 4, ne-eqb size 19 (λ a. omega arith)) (r .memory .stands);
       })
 
@@ -136,11 +153,15 @@ module _ (c : Card) (r : ReadyCard c) where
   laid-bytes size =
       let t = r .chip .ready in
       let v = flag-small (c .chip .service) in
-      rw (laid-is size c) (bytes-append (c .chip .stack) (behind size c) (r .chip .stack .bytes) (omega (arith, flag-small (c .chip .pending)), (omega arith, (omega arith, memory-bytes (eqb size stateBytes)))))
+      rw (laid-is size c) (bytes-append (c .chip .stack) (behind size c) (r .chip .stack .bytes) (
+        omega (arith, flag-small (c .chip .pending)),
+        (omega arith, (omega arith, memory-bytes (eqb size stateBytes))),
+      ))
     where
       memory-bytes : (x : Bool) → Bytes (cond x [] (c .memory .bits ∷ c .memory .code ∷ []))
       memory-bytes true = tt
       memory-bytes false = (bits-byte, (r .memory .code-byte, tt))
         where
           bits-byte : c .memory .bits < 256
-          bits-byte = ⊎-elim (λ z. omega (arith, z .0)) (λ m. omega (arith, m .in-places)) (memory-cases (c .memory .bits) (c .memory .code) (r .memory .stands))
+          bits-byte = ⊎-elim (λ z. omega (arith, z .0)) (λ m. omega (arith, m .in-places)) (memory-cases (c .memory .bits) (c .memory .code)
+              (r .memory .stands))

@@ -1,4 +1,5 @@
--- The bytes of a state and of a report as code lays them: three stores behind the stack, two behind them; one store and four bytes for each count. Assumes nothing.
+-- The bytes of a state and of a report as code lays them: three stores behind the stack, two behind them; one store and four bytes for each count. Assumes
+-- nothing.
 use mathlib.Core.Path.{_≡_, refl, sym, ap, ap₂, _∙_}
 use mathlib.Core.Logic.{⊎-elim}
 use mathlib.Core.Bool.{Bool}
@@ -20,7 +21,8 @@ memory-behind : (l : List ℕ) → Sized l → drop 19 l ≡ memoryBytesOf (leng
 memory-behind l h =
     ⊎-elim (λ a. rw (eq-eqb (length l) 19 a) (drop-of-length-le l {i = 19} (omega arith)))
     (λ b. rw (ne-eqb (length l) 19 (λ a. omega arith))
-    (drop-cons l 19 0 (omega arith) ∙ ap (λ (t : List ℕ). getD l 19 0 ∷ t) (drop-cons l 20 0 (omega arith) ∙ ap (λ (t : List ℕ). getD l 20 0 ∷ t) (drop-of-length-le l {i = 21} (omega arith))))) h
+    (drop-cons l 19 0 (omega arith) ∙ ap (λ (t : List ℕ). getD l 19 0 ∷ t) (drop-cons l 20 0 (omega arith)
+    ∙ ap (λ (t : List ℕ). getD l 20 0 ∷ t) (drop-of-length-le l {i = 21} (omega arith))))) h
 
 -- 16 bytes and three behind them stored
 pub chip-laid : (l x : List ℕ) (pending : Bool) (status : ℕ) (service : Bool) {p v : ℕ} → Sized l → length x ≡ 16 → p ≡ flagOf pending → v ≡ flagOf service
@@ -43,7 +45,8 @@ none-laid l m h =
     sym (take-append-drop 19 l) ∙ rw (drop-of-length-le l {i = 19} (omega arith), eq-eqb (length l) 19 h)
 
 -- a chip and a memory laid out, then another memory behind the chip's bytes
-pub other-memory : (n : ℕ) (s : State) (k m : Memory) {l left : List ℕ} → length (s .stack) ≡ 16 → l ≡ laid n s k → length l ≡ n → left ≡ take 19 l ++ memoryBytesOf (length l) m
+pub other-memory : (n : ℕ) (s : State) (k m : Memory) {l left : List ℕ} → length (s .stack) ≡ 16 → l ≡ laid n s k → length l ≡ n → left ≡ take 19 l
+    ++ memoryBytesOf (length l) m
     → left ≡ laid n s m
 other-memory n s k m {l} h is len e =
     let x : length (stateBytesOf s) ≡ 19 = length-append (s .stack) (flagOf (s .pending) ∷ s .status ∷ flagOf (s .service) ∷ []) ∙ omega arith in

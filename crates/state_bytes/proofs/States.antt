@@ -84,7 +84,11 @@ module _ (l : List ℕ) where
       let p = failed (ltb 1 (getD l 16 0)) _ h in
       let t = failed (ltb 127 (getD l 17 0)) _ (p .1) in
       let v = failed (ltb 1 (getD l 18 0)) true (t .1) in
-      record { pending = ltb-false 1 (getD l 16 0) (p .0); ready = omega (arith, ltb-false 127 (getD l 17 0) (t .0)); service = ltb-false 1 (getD l 18 0) (v .0) }
+      record {
+        pending = ltb-false 1 (getD l 16 0) (p .0);
+        ready = omega (arith, ltb-false 127 (getD l 17 0) (t .0));
+        service = ltb-false 1 (getD l 18 0) (v .0);
+      }
 
   bytes-chip : ChipBytes l → isChip l ≡ true
   bytes-chip h = sym (is-chip l (h .pending) (omega (arith, h .ready)) (h .service))

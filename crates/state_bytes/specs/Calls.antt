@@ -18,7 +18,9 @@ use Rattle.chip.specs.Held.{answerIn}
 use Rattle.error_memory.specs.declared.Memory.{Memory}
 use Rattle.error_memory.specs.Memory.{Card, CardAnswer, remembered, around, eventIn}
 use Rattle.record_runs.specs.declared.head.EventKind.{EventKind}
-use Rattle.record_runs.specs.declared.head.EventKind.the-variants.{Push as PushKind, Pop as PopKind, Command as CommandKind, Status as StatusKind, Reset as ResetKind, Acknowledge as AcknowledgeKind, Recall as RecallKind, Forget as ForgetKind, Unknown as UnknownKind}
+use Rattle.record_runs.specs.declared.head.EventKind.the-variants.{Push as PushKind, Pop as PopKind, Command as CommandKind, Status as StatusKind}
+use Rattle.record_runs.specs.declared.head.EventKind.the-variants.{Reset as ResetKind, Acknowledge as AcknowledgeKind, Recall as RecallKind}
+use Rattle.record_runs.specs.declared.head.EventKind.the-variants.{Forget as ForgetKind, Unknown as UnknownKind}
 use Rattle.record_runs.specs.Record.{kindNamed}
 use Rattle.record_runs.specs.Run.{Outcome, runOf}
 use Rattle.state_bytes.specs.Bytes.{isState, memoryIn, cardIn, laidOut, reportOf}

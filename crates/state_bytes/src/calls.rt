@@ -23,9 +23,9 @@ use terms::number;
 use terms::rule_of;
 ghost use mathlib.Core.Path.{_≡_};
 ghost use mathlib.Core.Bool.{true};
-ghost use Prim.Native.Nat.{_+_, _*_, _<_};
+ghost use Prim.Native.Nat.{_+_, _*_, _≤_, _<_};
 ghost use lib.ListN.{length};
-ghost use Rattle.terms.specs.Limits.{reportBytes};
+ghost use Rattle.terms.specs.Limits.{reportBytes, mostInput};
 ghost use Rattle.chip.specs.Step.{given};
 ghost use Rattle.error_memory.specs.Memory.{remembered};
 ghost use Rattle.record_runs.specs.Run.{runOf};
@@ -42,7 +42,8 @@ fn run_good(
     replies: &mut [u8],
     report: &mut [u8],
 ) -> u32
-    requires { ⌜ (isState (now state) ≡ true) × (length (now report) ≡ reportBytes) ⌝ }
+    requires { ⌜ (isState (now state) ≡ true) × (length (now report) ≡ reportBytes) ×
+        (length (now input) ≤ mostInput) ⌝ }
     ensures { λ r. ⌜ Calls (ranOf (length (now (state .entry)))
         (runOf (cardIn (given mode rule) (now (state .entry))) (now (input .entry)) (length (now (replies .entry))))
         (now (replies .entry))) r (now (state .exit)) (now (replies .exit)) (now (report .exit)) ⌝ }
@@ -51,7 +52,12 @@ fn run_good(
     let chip = r.card.chip;
     let memory = r.card.memory;
     put_card(state, chip, memory);
-    fill_report(report, r.refusal as u8, r.taken, r.written);
+    fill_report(
+        report,
+        r.refusal as u8,
+        r.place.taken as usize,
+        r.place.written as usize,
+    );
     r.refusal as u32
 }
 

@@ -24,7 +24,8 @@ fits w v m r e f h = subst (λ (n : ℕ). Below n r) (ap (λ (k : ℕ). 16 ^ (2 
     same Single = refl
     same Double = refl
 
-pub work : {found : Found} {given : Given} {op : Operation} {rule : Rule} (b a : List ℕ) (r : Asked) (x y : Read) (w : Width) (m : ℕ) → found ≡ Named op → given ≡ Under rule → w ≡ widthOf op → m ≡ sizeOf w
+pub work : {found : Found} {given : Given} {op : Operation} {rule : Rule} (b a : List ℕ) (r : Asked) (x y : Read) (w : Width) (m : ℕ) → found ≡ Named op
+    → given ≡ Under rule → w ≡ widthOf op → m ≡ sizeOf w
     → x ≡ readHex (2 * m) b → y ≡ readHex (2 * m) a → r ≡ withNumbers op rule x y → r ≡ askedWith found given b a
 work {op = op} {rule = rule} b a r x y w m f g v e X Y R =
     let k : m ≡ sizeOf (widthOf op) = e ∙ ap sizeOf v in

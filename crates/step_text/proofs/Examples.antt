@@ -20,7 +20,8 @@ abbrev secondStep : List ℕ
 secondStep = 50 ∷ 32 ∷ 48 ∷ 32 ∷ 48 ∷ 48 ∷ 48 ∷ 48 ∷ 48 ∷ 48 ∷ 48 ∷ 48 ∷ 48 ∷ 48 ∷ 48 ∷ 48 ∷ 48 ∷ 48 ∷ 48 ∷ 70 ∷ 10 ∷ []
 
 abbrev answer : List ℕ
-answer = 119 ∷ 111 ∷ 114 ∷ 100 ∷ 32 ∷ 48 ∷ 48 ∷ 48 ∷ 70 ∷ 32 ∷ 101 ∷ 114 ∷ 114 ∷ 111 ∷ 114 ∷ 32 ∷ 48 ∷ 32 ∷ 115 ∷ 116 ∷ 97 ∷ 116 ∷ 117 ∷ 115 ∷ 32 ∷ 48 ∷ 48 ∷ 10 ∷ []
+answer = 119 ∷ 111 ∷ 114 ∷ 100 ∷ 32 ∷ 48 ∷ 48 ∷ 48 ∷ 70 ∷ 32 ∷ 101 ∷ 114 ∷ 114 ∷ 111 ∷ 114 ∷ 32 ∷ 48 ∷ 32 ∷ 115 ∷ 116 ∷ 97 ∷ 116 ∷ 117 ∷ 115 ∷ 32 ∷ 48 ∷ 48 ∷ 10
+    ∷ []
 
 pub five-times-three : toldOf 4 (54 ∷ 69 ∷ []) (48 ∷ 48 ∷ 48 ∷ 53 ∷ []) (48 ∷ 48 ∷ 48 ∷ 51 ∷ []) [] ≡ firstStep ++ (secondStep ++ answer)
 unfolding size low spelled addedUpTo mulAnswer mulTask hexOf productLines digitValue readFrom readHex operationAt ruleFor

@@ -12,7 +12,8 @@ pub no-digits : (n count place : ℕ) (l : List ℕ) → count ≡ 0 → Adds (h
 unfolding hexOf
 no-digits n count place l e = rw e (nothing l place)
 
-pub last-digit : (n count x : ℕ) {a b c : List ℕ} {p q r : ℕ} → (count ≡ 0 → ⊥) → x ≡ digit (n % 16) → Adds (hexOf (count - 1) (n / 16)) a b p q → Adds (x ∷ []) b c q r → Adds (hexOf count n) a c p r
+pub last-digit : (n count x : ℕ) {a b c : List ℕ} {p q r : ℕ} → (count ≡ 0 → ⊥) → x ≡ digit (n % 16) → Adds (hexOf (count - 1) (n / 16)) a b p q
+    → Adds (x ∷ []) b c q r → Adds (hexOf count n) a c p r
 unfolding hexOf
 last-digit n zero x z e h k = absurd (z refl)
 last-digit n (suc count) x {a} {b} {c} {p} {q} {r} z e h k =

@@ -27,7 +27,8 @@ starts text = record { leads = refl; within = omega arith; small = omega arith }
 pub narrow : (text : List ℕ) (value i : ℕ) → Reading text value i → length text ≤ 8 → value < 4294967296
 narrow text value i r l = lt-of-lt-of-le (r .small) (pow-le-pow-right {n = 16} (omega arith) {i = i} {j = 8} (let w = r .within in omega arith))
 
-pub reads-on : (text : List ℕ) (value i d : ℕ) → Reading text value i → i < length text → d ≡ digitValue (getD text i 0) → d < 16 → Reading text (value * 16 + d) (i + 1)
+pub reads-on : (text : List ℕ) (value i d : ℕ) → Reading text value i → i < length text → d ≡ digitValue (getD text i 0)
+    → d < 16 → Reading text (value * 16 + d) (i + 1)
 reads-on text value i d r l e h = record {
   leads = sym on ∙ r .leads;
   within = omega arith;

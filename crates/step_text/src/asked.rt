@@ -6,7 +6,8 @@ ghost use mathlib.Core.Path.{_≡_};
 ghost use Prim.Native.Nat.{_*_, _^_, _≤_};
 ghost use Rattle.terms.specs.Width.{bitsOf};
 ghost use Rattle.bit_serial.specs.Work.{widthOf};
-ghost use Rattle.step_text.specs.Asked.{digitValue, Below, readHex, operationAt, operationIn, ruleFor, Sound, withNumbers, askedWith, askedOf};
+ghost use Rattle.step_text.specs.Asked.{digitValue, Below, readHex, operationAt, operationIn, ruleFor, Sound};
+ghost use Rattle.step_text.specs.Asked.{withNumbers, askedWith, askedOf};
 
 // A number that was read, or none.
 pub enum Read {
@@ -179,7 +180,8 @@ fn asked_with(found: Found, given: Given, b: &[u8], a: &[u8]) -> Asked
 
 // What a call of so many words asks for, its own name among them.
 pub fn asked_of(words: usize, code: &[u8], b: &[u8], a: &[u8], option: &[u8]) -> Asked
-    ensures { λ r. ⌜ (r ≡ askedOf words (now (code .entry)) (now (b .entry)) (now (a .entry)) (now (option .entry))) × Sound r ⌝ }
+    ensures { λ r. ⌜ (r ≡ askedOf words (now (code .entry)) (now (b .entry)) (now (a .entry)) (now (option .entry)))
+        × Sound r ⌝ }
 {
     let found = operation_in(code);
     let given = rule_for(words, option);

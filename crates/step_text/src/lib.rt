@@ -63,7 +63,8 @@ pub fn told(
     text: &mut [u8; TEXT_ROOM],
 ) -> usize
     ensures { λ r. ⌜ Counts r (now (text .exit)) ⌝ }
-    ensures { λ r. ⌜ take r (now (text .exit)) ≡ toldOf words (now (code .entry)) (now (b .entry)) (now (a .entry)) (now (option .entry)) ⌝ }
+    ensures { λ r. ⌜ take r (now (text .exit)) ≡ toldOf words (now (code .entry)) (now (b .entry)) (now (a .entry))
+        (now (option .entry)) ⌝ }
 {
     let asked = asked::asked_of(words, code, b, a, option);
     match asked {

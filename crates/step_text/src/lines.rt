@@ -31,7 +31,8 @@ fn add_hex(out: &mut [u8], place: usize, n: u64, count: usize) -> usize
 // The line of a step: its number, the bits or digits left, the partial result.
 pub fn add_step(out: &mut [u8], place: usize, number: u64, left: u64, partial: u64) -> usize
     requires { ⌜ place + lineRoom ≤ length (now out) ⌝ }
-    ensures { λ r. ⌜ Adds (stepLine number left partial) (now (out .entry)) (now (out .exit)) place r × (r ≤ place + lineRoom) ⌝ }
+    ensures { λ r. ⌜ Adds (stepLine number left partial) (now (out .entry)) (now (out .exit)) place r
+        × (r ≤ place + lineRoom) ⌝ }
 {
     let a = add_decimal(out, place, number);
     let b = add_field(out, a, left);

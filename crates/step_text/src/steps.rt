@@ -16,7 +16,8 @@ ghost use Rattle.step_text.specs.Steps.{productLines, quotientLines, ste
 // The steps of x times y, at most so many.
 fn add_product(out: &mut [u8], x: u64, y: u64, most: u32) -> usize
     requires { ⌜ (x < 2 ^ 32) × (most ≤ 32) × (lineRoom * 32 ≤ length (now out)) ⌝ }
-    ensures { λ r. ⌜ Adds (productLines most x (begunProduct y)) (now (out .entry)) (now (out .exit)) 0 r × (r ≤ lineRoom * 32) ⌝ }
+    ensures { λ r. ⌜ Adds (productLines most x (begunProduct y)) (now (out .entry)) (now (out .exit)) 0 r
+        × (r ≤ lineRoom * 32) ⌝ }
 {
     let mut place = 0;
     let mut p = bit_serial::multiply::begun(y);
@@ -39,7 +40,8 @@ fn add_product(out: &mut [u8], x: u64, y: u64, most: u32) -> usize
 // The steps of v over d, at most so many.
 fn add_quotient(out: &mut [u8], v: u64, d: u64, most: u32) -> usize
     requires { ⌜ (d < 2 ^ 32) × (most ≤ 32) × (lineRoom * 32 ≤ length (now out)) ⌝ }
-    ensures { λ r. ⌜ Adds (quotientLines most most d (begunQuotient v most)) (now (out .entry)) (now (out .exit)) 0 r × (r ≤ lineRoom * 32) ⌝ }
+    ensures { λ r. ⌜ Adds (quotientLines most most d (begunQuotient v most)) (now (out .entry)) (now (out .exit)) 0 r
+        × (r ≤ lineRoom * 32) ⌝ }
 {
     let mut place = 0;
     let mut s = bit_serial::divide::begun(v, most);

@@ -3,7 +3,9 @@ use mathlib.Core.Path.{_≡_, sym, ap}
 use Prim.Native.Nat.{_≤_}
 use lib.Dec.{lit≤}
 use Rattle.terms.specs.declared.Refusal.{Refusal}
-use Rattle.terms.specs.declared.Refusal.the-variants.{Done, UnknownCode, DerivedCode, HalfWord, Improper, NoSuchKind, CutShort, BadLength, NoRoom, InputTooLong, NotFinite, TooLarge, TooSmall, BadState, BadReport, MinusZero, BadMode, BadRule, PartEntry}
+use Rattle.terms.specs.declared.Refusal.the-variants.{Done, UnknownCode, DerivedCode, HalfWord, Improper, NoSuchKind, CutShort, BadLength, NoRoom}
+use Rattle.terms.specs.declared.Refusal.the-variants.{InputTooLong, NotFinite, TooLarge, TooSmall, BadState, BadReport, MinusZero, BadMode, BadRule}
+use Rattle.terms.specs.declared.Refusal.the-variants.{PartEntry}
 use Rattle.terms.specs.Refusal.{numberOf}
 
 small : (r : Refusal) → numberOf r ≤ 18

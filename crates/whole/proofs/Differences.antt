@@ -103,7 +103,8 @@ le-parts (negsuc a) (negsuc b) h = let l = leb→le b a (h .le) in omega arith
 pub le-sum-left : (x y c : ℤ) → x ≤ℤ y → (x +ℤ c) ≤ℤ (y +ℤ c)
 le-sum-left x y c h =
     let l = le-parts x y h in
-    subst₂ (λ (u v : ℤ). u ≤ℤ v) (sym (sum-parts x c)) (sym (sum-parts y c)) (le-differences (above x + above c) (beneath x + beneath c) (above y + above c) (beneath y + beneath c) (omega arith))
+    subst₂ (λ (u v : ℤ). u ≤ℤ v) (sym (sum-parts x c)) (sym (sum-parts y c)) (le-differences (above x + above c) (beneath x + beneath c) (above y + above c)
+    (beneath y + beneath c) (omega arith))
 
 pub le-sum-right : (x y c : ℤ) → x ≤ℤ y → (c +ℤ x) ≤ℤ (c +ℤ y)
 le-sum-right x y c h = subst₂ (λ (u v : ℤ). u ≤ℤ v) (+ℤ-comm x c) (+ℤ-comm y c) (le-sum-left x y c h)

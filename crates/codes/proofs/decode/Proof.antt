@@ -12,7 +12,8 @@ use Rattle.codes.proofs.decode.Tie as tie
 returns : tie.Need-returns
 returns c =
     let b = c .before .before in
-    c .fixed .ensures ∙ ap (λ (w : Width). decoded (fixedCode w (b .before .args .code % 32))) (c .before .width-of .ensures) ∙ ap decoded (with-bit-5 (b .before .args .code) (b .if1 .taken))
+    c .fixed .ensures ∙ ap (λ (w : Width). decoded (fixedCode w (b .before .args .code % 32))) (c .before .width-of .ensures)
+    ∙ ap decoded (with-bit-5 (b .before .args .code) (b .if1 .taken))
 
 returns-2 : tie.Need-returns-2
 returns-2 c = with-bit-6 (c .before .before .args .code) (c .before .if1 .left) (c .if2 .taken)

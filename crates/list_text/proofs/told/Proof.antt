@@ -17,8 +17,11 @@ returns c =
 returns-2 : tie.Need-returns-2
 returns-2 c =
     let e = c .before .before .before in
-    let input = now (e .before .before .before .before .before .before .args .input) in
-    (counted (c .add .ensures), c .add .ensures .reads ∙ ap (λ (a : Asked). textOf a input) (sym (e .enum-told .given .1) ∙ e .before .before .asked-of .ensures))
+    let input = now (e .before .before .before .before .before .before .args .input) in (
+      counted (c .add .ensures),
+      c .add .ensures .reads ∙ ap (λ (a : Asked). textOf a input) (sym (e .enum-told .given .1) ∙ e .before .before .asked-of
+          .ensures),
+    )
 
 pub told-spec : {M : Type 1} → statement M
 told-spec =

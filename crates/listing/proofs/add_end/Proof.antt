@@ -10,10 +10,12 @@ add-field-requires : tie.Need-add-field-requires
 add-field-requires c κs = let a = c .before .before .before .before .before .before .before .args in omega (arith, end-length (a .refusal) (a .taken))
 
 add-field-requires-2 : tie.Need-add-field-requires-2
-add-field-requires-2 c κs = let a = c .before .before .before .before .before .before .before .before .before .before .before .args in omega (arith, end-length (a .refusal) (a .taken))
+add-field-requires-2 c κs = let a = c .before .before .before .before .before .before .before .before .before .before .before .args
+    in omega (arith, end-length (a .refusal) (a .taken))
 
 add-requires-2 : tie.Need-add-requires-2
-add-requires-2 c κs = let a = c .before .before .before .before .before .before .before .before .before .before .before .before .before .before .before .before .args in omega (arith, end-length (a .refusal) (a .taken))
+add-requires-2 c κs = let a = c .before .before .before .before .before .before .before .before .before .before .before .before .before .before .before .before
+    .args in omega (arith, end-length (a .refusal) (a .taken))
 
 returns : tie.Need-returns
 returns c =

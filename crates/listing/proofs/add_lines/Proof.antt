@@ -44,7 +44,8 @@ returns : tie.Need-returns Inv-loop μ-loop
 returns c =
     let l = c .before .before .before .before .loop in
     let a = c .before .before .before .before .before .before .before .args in (
-      stops (now (a .replies)) (now (a .out)) (l .out) (l .place) (l .number) (l .at) (l .inv) (c .before .before .before .before .before .before .before .pre .1)
+      stops (now (a .replies)) (now (a .out)) (l .out) (l .place) (l .number) (l .at) (l .inv) (c .before .before .before .before .before .before .before .pre
+          .1)
           (none (drop (l .at) (now (a .replies))) (sym (size-is (c .before)) ∙ c .if1 .taken)),
       omega (arith, l .inv .room, l .inv .at-most),
     )
@@ -78,7 +79,8 @@ loop-again c =
     let a = c .before .before .before .before .before .before .before .before .before .before .before .before .args in
     let replies = now (a .replies) in
     let f = sized (drop (l .at) replies) (e .before .whole-size .result) (size-is (e .before)) (e .if1 .left) in
-    goes-on replies (now (a .out)) (l .out) (l .place) (l .number) (l .at) (l .inv) (c .before .before .before .before .before .before .before .before .before .before .before .before .pre .1)
+    goes-on replies (now (a .out)) (l .out) (l .place) (l .number) (l .at) (l .inv) (c .before .before .before .before .before .before .before .before .before
+    .before .before .before .pre .1)
     (c .before .before .add-reply .last .0) (c .before .before .add-reply .result) (e .before .whole-size .result)
     (f .0) (f .1) (search needs) (line-fits e) (rw (all-rest replies (l .at)) at (c .before .before .add-reply .ensures))
 
@@ -88,8 +90,11 @@ same-length-2 c = c .before .loop .inv .same
 returns-2 : tie.Need-returns-2 Inv-loop μ-loop
 returns-2 c =
     let l = c .before .loop in
-    let a = c .before .before .before .before .args in
-    (finishes (now (a .replies)) (now (a .out)) (l .out) (l .place) (l .number) (l .at) (l .inv) (c .before .before .before .before .pre .1) (c .loop-test .left), omega (arith, l .inv .room, l .inv .at-most))
+    let a = c .before .before .before .before .args in (
+      finishes (now (a .replies)) (now (a .out)) (l .out) (l .place) (l .number) (l .at) (l .inv) (c .before .before .before .before .pre .1)
+          (c .loop-test .left),
+      omega (arith, l .inv .room, l .inv .at-most),
+    )
 
 pub add-lines-spec : {M : Type 1} → statement M
 add-lines-spec =

@@ -16,8 +16,18 @@ returns : tie.Need-returns
 returns c =
     let a = c .before .before .before .before .before .before .before .before .before .before .args in
     let l = c .before .before .before .before .before .before .add-lines in
-    let e = c .before .before .add-end in
-    (both (l .ensures .0) (e .ensures), omega (arith, l .ensures .1, e .ensures .moved, end-length (a .refusal) (a .taken), at-most 20 (a .refusal), at-most 20 (a .taken)))
+    let e = c .before .before .add-end in (
+      both (l .ensures .0) (e .ensures),
+      omega (
+        arith,
+        l .ensures .1,
+        e .ensures .moved,
+        end-length (a .refusal) (a .taken),
+        at-most 20 (a .refusal),
+        at-most 20
+            (a .taken),
+      ),
+    )
 
 pub add-listing-spec : {M : Type 1} → statement M
 add-listing-spec = tie.close (tie.spec (λ c κs. search needs) add-end-requires (λ c. search needs) returns)

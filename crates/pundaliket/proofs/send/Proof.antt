@@ -6,7 +6,8 @@ use Rattle.pundaliket.proofs.send.Statement.{statement}
 use Rattle.pundaliket.proofs.send.Tie as tie
 
 returns : tie.Need-returns
-returns c = no-slice (c .before .before .before .args .reply) (now (c .before .before .before .args .out)) (c .before .if1 .taken) (c .number .result) (c .number .ensures .0)
+returns c = no-slice (c .before .before .before .args .reply) (now (c .before .before .before .args .out)) (c .before .if1 .taken) (c .number .result)
+    (c .number .ensures .0)
 
 returns-2 : tie.Need-returns-2
 returns-2 c =
@@ -18,7 +19,8 @@ returns-3 : tie.Need-returns-3
 returns-3 c =
     let a = c .before .before .before .before .before .before .before .before .before .args in
     let n = c .before .before .before .before .before .before .number2 in
-    a-value (a .reply) (now (a .out)) (c .before .before .before .before .before .before .before .if1 .left) (n .result) (n .ensures .0) (c .before .before .before .before .before .if2 .left) _ (c .before .before .put-word .ensures)
+    a-value (a .reply) (now (a .out)) (c .before .before .before .before .before .before .before .if1 .left) (n .result) (n .ensures .0)
+    (c .before .before .before .before .before .if2 .left) _ (c .before .before .put-word .ensures)
 
 pub send-spec : {M : Type 1} → statement M
 send-spec =

@@ -14,17 +14,21 @@ returns c = let a = c .before .before .before .before .args in no-room (now (a .
 returns-2 : tie.Need-returns-2
 returns-2 c =
     let a = c .before .before .before .before .before .before .args in
-    no-sheets (now (a .sheets)) (now (a .out)) _ (c .before .before .before .if1 .left) (sym (c .before .before .is-sheets .ensures) ∙ not-true _ (c .before .if2 .taken)) (c .number2 .ensures .0)
+    no-sheets (now (a .sheets)) (now (a .out)) _ (c .before .before .before .if1 .left) (sym (c .before .before .is-sheets .ensures)
+    ∙ not-true _ (c .before .if2 .taken)) (c .number2 .ensures .0)
 
 write-requires : tie.Need-write-requires
 write-requires c κs =
-    let s = sheets-are (now (c .before .before .before .before .before .before .args .sheets)) (sym (c .before .before .is-sheets .ensures) ∙ not-false _ (c .before .if2 .left)) in
+    let s = sheets-are (now (c .before .before .before .before .before .before .args .sheets)) (sym (c .before .before .is-sheets .ensures)
+    ∙ not-false _ (c .before .if2 .left)) in
     (s .0, s .1, c .before .before .before .if1 .left)
 
 returns-3 : tie.Need-returns-3
 returns-3 c =
     let a = c .before .before .before .before .before .before .before .before .before .before .args in
-    told (now (a .sheets)) (now (a .out)) _ _ (c .before .before .before .before .before .before .before .if1 .left) (sym (c .before .before .before .before .before .before .is-sheets .ensures) ∙ not-false _ (c .before .before .before .before .before .if2 .left)) (c .number3 .ensures .0) (c .before .before .before .write .ensures)
+    told (now (a .sheets)) (now (a .out)) _ _ (c .before .before .before .before .before .before .before .if1 .left)
+    (sym (c .before .before .before .before .before .before .is-sheets .ensures) ∙ not-false _ (c .before .before .before .before .before .if2 .left))
+    (c .number3 .ensures .0) (c .before .before .before .write .ensures)
 
 pub put-figures-spec : {M : Type 1} → statement M
 put-figures-spec =

@@ -15,7 +15,9 @@ returns c =
     let s = c .before .before .before .before .before .before .before .before .before .before .before .before .count-serials .ensures in
     let t = c .before .before .before .before .before .before .before .before .before .before .sum-of .ensures in
     let d = c .before .before .before .before .before .before .before .put-digits in
-    written-is (linesOf (now (st .args .sheets))) (now (st .args .out)) (d .last .0) _ _ _ _ _ _ _ (omega (arith, st .pre .2)) (sym (length-lines (now (st .args .sheets)))) (s .0) (s .1) (c .before .before .before .before .before .before .before .before .before .before .before .count-improper .ensures) (t .0) (t .1) (d .ensures) (c .before .before .put-front .ensures)
+    written-is (linesOf (now (st .args .sheets))) (now (st .args .out)) (d .last .0) _ _ _ _ _ _ _ (omega (arith, st .pre .2))
+    (sym (length-lines (now (st .args .sheets)))) (s .0) (s .1) (c .before .before .before .before .before .before .before .before .before .before .before
+    .count-improper .ensures) (t .0) (t .1) (d .ensures) (c .before .before .put-front .ensures)
 
 pub write-spec : {M : Type 1} → statement M
 write-spec =

@@ -8,8 +8,11 @@ use Rattle.sheet_text.proofs.add_figures.Tie as tie
 
 returns : tie.Need-returns
 returns c =
-    let sum = rw (all-rest (now (c .before .before .before .before .before .before .before .before .before .before .before .before .before .before .before .before .before .before .before .before .before .args .figures)) 4) at (c .before .before .before .before .before .before .before .add2 .ensures) in
-    both (c .before .before .before .before .before .before .before .before .before .before .before .before .before .before .before .before .before .add-counts .ensures .0) (both (c .before .before .before .before .before .before .before .before .before .before .before .before .add .ensures) (both sum (c .before .before .add3 .ensures)))
+    let sum = rw (all-rest (now (c .before .before .before .before .before .before .before .before .before .before .before .before .before .before .before
+    .before .before .before .before .before .before .args .figures)) 4) at (c .before .before .before .before .before .before .before .add2 .ensures) in
+    both (c .before .before .before .before .before .before .before .before .before .before .before .before .before .before .before .before .before .add-counts
+    .ensures .0) (both (c .before .before .before .before .before .before .before .before .before .before .before .before .add .ensures)
+    (both sum (c .before .before .add3 .ensures)))
 
 pub add-figures-spec : {M : Type 1} → statement M
 add-figures-spec =

@@ -23,10 +23,12 @@ add-requires-2 c κs = omega (arith, at-most 20 (c .before .before .before .befo
 
 returns-2 : tie.Need-returns-2
 returns-2 c =
-    let a = c .before .before .before .before .before .before .before .before .before .before .before .before .before .before .before .before .before .before .before .args in
+    let a = c .before .before .before .before .before .before .before .before .before .before .before .before .before .before .before .before .before .before
+    .before .args in
     let o = c .before .before .before .before .before .before .before .before .before .before .before .before .before .before .before .before .is-open in
     let x =
-    open-of (now (a .sheets)) (passed (o .result) _ (o .ensures) (c .before .before .before .before .before .before .before .before .before .before .before .before .before .before .before .if1 .left)) (c .before .before .before .before .before .before .before .before .four-at .ensures)
+    open-of (now (a .sheets)) (passed (o .result) _ (o .ensures) (c .before .before .before .before .before .before .before .before .before .before .before
+    .before .before .before .before .if1 .left)) (c .before .before .before .before .before .before .before .before .four-at .ensures)
     (both (c .before .before .before .before .before .before .before .before .before .before .before .before .add .ensures)
     (both (c .before .before .before .before .before .before .before .add-field .ensures) (c .before .before .add2 .ensures))) in
     (x, omega (arith, x .moved, open-short (now (a .sheets))))

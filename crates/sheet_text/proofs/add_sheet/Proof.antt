@@ -19,7 +19,8 @@ add-requires-2 c κs = omega (arith, at-most 20 (c .before .before .before .befo
 
 returns : tie.Need-returns
 returns c =
-    let line = now (c .before .before .before .before .before .before .before .before .before .before .before .before .before .before .before .before .before .before .before .before .before .args .line) in
+    let line = now (c .before .before .before .before .before .before .before .before .before .before .before .before .before .before .before .before .before
+    .before .before .before .before .args .line) in
     let x =
     sheet-of line (c .before .before .before .before .before .before .before .before .before .before .before .before .four-at .ensures)
     (both (c .before .before .before .before .before .before .before .before .before .before .before .before .before .before .before .before .add .ensures)

@@ -1,4 +1,4 @@
--- `sheet_text::print` adds the listing of the run, the closed sheets that it left, which are at most 64, the open one, and the figures. Assumes nothing.
+-- `sheet_text::print` adds the listing of the run, and behind it what the run left of sheets, of which at most 64 are closed. Assumes nothing.
 use mathlib.Core.Path.{sym, subst, _∙_}
 use mathlib.Core.List.{List}
 use Prim.Native.Nat.{ℕ, _≤_}
@@ -13,26 +13,19 @@ use borrow.Author.Needs.{needs}
 use Rattle.sheet_text.proofs.print.Statement.{statement}
 use Rattle.sheet_text.proofs.print.Tie as tie
 
-add-sheets-requires : tie.Need-add-sheets-requires
-add-sheets-requires c κs =
+add-rest-requires : tie.Need-add-rest-requires
+add-rest-requires c κs =
     let a = c .before .before .before .before .before .before .before .before .before .before .before .before .before .before .before .before .args in
     let r = c .before .before .before .before .before .before .before .before .before .before .sheets-run .ensures in
-    (search needs, subst (λ (l : List ℕ). closedIn l ≤ 64) (sym (r .sheets-is)) (call-fair (a .mode) (a .rule) (now (a .input)) .1), omega (arith, c .before .before .add-printed .ensures .1))
-
-add-open-requires : tie.Need-add-open-requires
-add-open-requires c κs =
-    (search needs, omega (arith, c .before .before .add-sheets .ensures .1, c .before .before .before .before .before .add-printed .ensures .1))
-
-add-figures-requires : tie.Need-add-figures-requires
-add-figures-requires c κs =
-    (search needs, omega (arith, c .before .before .before .before .before .before .add-open .ensures .1, c .before .before .before .before .before .before .before .before .before .add-sheets .ensures .1, c .before .before .before .before .before .before .before .before .before .before .before .before .add-printed .ensures .1))
+    let few = call-fair (a .mode) (a .rule) (now (a .input)) .1 in
+    (subst (λ (l : List ℕ). closedIn l ≤ 64) (sym (r .sheets-is)) few, omega (arith, c .before .before .add-printed .ensures .1))
 
 returns : tie.Need-returns
 returns c =
-    let a = c .before .before .before .before .before .before .before .before .before .before .before .before .before .before .before .before .before .before .before .before .before .before .before .before .before .before .before .args in
-    let r = c .before .before .before .before .before .before .before .before .before .before .before .before .before .before .before .before .before .before .before .before .before .sheets-run .ensures in
-    let x = both (c .before .before .before .before .before .before .before .before .before .before .before .before .before .add-printed .ensures .0) (both (c .before .before .before .before .before .before .before .before .before .before .add-sheets .ensures .0) (both (c .before .before .before .before .before .before .before .add-open .ensures .0) (c .add-figures .ensures))) in
-    (counted x, x .reads ∙ of-run (callUnder (a .mode) (a .rule) (now (a .input))) (r .replies-is) (r .report-is) (r .sheets-is) (c .before .before .before .before .sheets-figures .ensures .out-is))
+    let a = c .before .before .before .before .before .before .before .before .before .before .before .before .before .before .before .before .before .args in
+    let r = c .before .before .before .before .before .before .before .before .before .before .before .sheets-run .ensures in
+    let x = both (c .before .before .before .add-printed .ensures .0) (c .add-rest .ensures) in
+    (counted x, x .reads ∙ of-run (callUnder (a .mode) (a .rule) (now (a .input))) (r .replies-is) (r .report-is) (r .sheets-is))
 
 pub print-spec : {M : Type 1} → statement M
 print-spec =
@@ -44,13 +37,5 @@ print-spec =
     (λ c. search needs)
     (λ c κs. search needs)
     (λ c κs. search needs)
-    (λ c. search needs)
-    add-sheets-requires
-    (λ c. search needs)
-    add-open-requires
-    (λ c. search needs)
-    (λ c. search needs)
-    (λ c κs. search needs)
-    (λ c. search needs)
-    add-figures-requires
+    add-rest-requires
     returns)

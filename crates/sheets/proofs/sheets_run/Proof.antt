@@ -17,22 +17,28 @@ use Rattle.sheets.proofs.sheets_run.Tie as tie
 abbrev At-number : Type 0
 At-number = tie.After-number2
 
-door : (k : At-number) → let a = k .before .before .before .before .before .before .before .before .before .args in k .number2 .result ≡ numberOf (doorOf (a .mode) (a .rule) (now (a .state)))
+door : (k : At-number) → let a = k .before .before .before .before .before .before .before .before .before .args
+    in k .number2 .result ≡ numberOf (doorOf (a .mode) (a .rule) (now (a .state)))
 door k = k .number2 .ensures .0 ∙ ap numberOf (k .before .admit .ensures)
 
-goes-in : (k : At-number) → k .number2 .result ≡ 0 → let a = k .before .before .before .before .before .before .before .before .before .args in Admitted (a .mode) (a .rule) (now (a .state))
-goes-in k z = let a = k .before .before .before .before .before .before .before .before .before .args in admitted (a .mode) (a .rule) (now (a .state)) (sym (door k) ∙ z)
+goes-in : (k : At-number) → k .number2 .result ≡ 0 → let a = k .before .before .before .before .before .before .before .before .before .args
+    in Admitted (a .mode) (a .rule) (now (a .state))
+goes-in k z = let a = k .before .before .before .before .before .before .before .before .before .args in admitted (a .mode) (a .rule) (now (a .state))
+    (sym (door k) ∙ z)
 
 returns : tie.Need-returns
-returns c = let a = c .before .before .before .before .before .before .before .args in bad-report (a .mode) (a .rule) (now (a .state)) (now (a .sheets)) (now (a .input)) (now (a .replies)) (now (a .report)) (c .before .if1 .taken) _ (c .number .ensures .0)
+returns c = let a = c .before .before .before .before .before .before .before .args in bad-report (a .mode) (a .rule) (now (a .state)) (now (a .sheets))
+    (now (a .input)) (now (a .replies)) (now (a .report)) (c .before .if1 .taken) _ (c .number .ensures .0)
 
 returns-2 : tie.Need-returns-2
 returns-2 c =
     let k = c .before .before .before .before .before in
     let a = k .before .before .before .before .before .before .before .before .before .args in
     let t = c .before .before .turn-away .ensures in
-    rw (call-away (a .mode) (a .rule) (now (a .state)) (now (a .sheets)) (now (a .input)) (now (a .replies)) (now (a .report)) (k .before .before .before .if1 .left) (λ z. (c .before .before .before .before .if2 .taken) (door k ∙ z)))
-    (turned-away (doorOf (a .mode) (a .rule) (now (a .state))) _ (now (a .state)) (now (a .sheets)) (now (a .replies)) _ (t .0 ∙ door k) (t .1 ∙ ap (λ (n : ℕ). reportOf n 0 0) (door k)))
+    rw (call-away (a .mode) (a .rule) (now (a .state)) (now (a .sheets)) (now (a .input)) (now (a .replies)) (now (a .report)) (k .before .before .before .if1
+    .left) (λ z. (c .before .before .before .before .if2 .taken) (door k ∙ z)))
+    (turned-away (doorOf (a .mode) (a .rule) (now (a .state))) _ (now (a .state)) (now (a .sheets)) (now (a .replies)) _ (t .0 ∙ door k) (t .1
+    ∙ ap (λ (n : ℕ). reportOf n 0 0) (door k)))
 
 returns-3 : tie.Need-returns-3
 returns-3 c =
@@ -41,7 +47,9 @@ returns-3 c =
     let g = goes-in k (c .before .before .before .before .before .before .before .before .if2 .left) in
     let t = c .before .before .turn-away2 .ensures in
     let n = c .before .before .before .number3 .ensures .0 in
-    rw (bad-sheets (a .mode) (a .rule) (now (a .state)) (now (a .sheets)) (now (a .input)) (now (a .replies)) (now (a .report)) (k .before .before .before .if1 .left) (g .mode-is) (g .rule-is) (g .state-is) (sym (c .before .before .before .before .before .before .is-sheets .ensures) ∙ not-true _ (c .before .before .before .before .before .if3 .taken)))
+    rw (bad-sheets (a .mode) (a .rule) (now (a .state)) (now (a .sheets)) (now (a .input)) (now (a .replies)) (now (a .report)) (k .before .before .before .if1
+    .left) (g .mode-is) (g .rule-is) (g .state-is) (sym (c .before .before .before .before .before .before .is-sheets .ensures)
+    ∙ not-true _ (c .before .before .before .before .before .if3 .taken)))
     (turned-away BadState _ (now (a .state)) (now (a .sheets)) (now (a .replies)) _ (t .0 ∙ n) (t .1 ∙ ap (λ (x : ℕ). reportOf x 0 0) n))
 
 returns-4 : tie.Need-returns-4
@@ -51,25 +59,70 @@ returns-4 c =
     let g = goes-in k (c .before .before .before .before .before .before .before .before .before .if2 .left) in
     let t = c .before .before .turn-away3 .ensures in
     let n = c .before .before .before .number4 .ensures .0 in
-    rw (too-long (a .mode) (a .rule) (now (a .state)) (now (a .sheets)) (now (a .input)) (now (a .replies)) (now (a .report)) (k .before .before .before .if1 .left) (g .mode-is) (g .rule-is) (g .state-is) (sym (c .before .before .before .before .before .before .before .is-sheets .ensures) ∙ not-false _ (c .before .before .before .before .before .before .if3 .left)) (c .before .before .before .before .before .if4 .taken))
+    rw (too-long (a .mode) (a .rule) (now (a .state)) (now (a .sheets)) (now (a .input)) (now (a .replies)) (now (a .report)) (k .before .before .before .if1
+    .left) (g .mode-is) (g .rule-is) (g .state-is) (sym (c .before .before .before .before .before .before .before .is-sheets .ensures)
+    ∙ not-false _ (c .before .before .before .before .before .before .if3 .left)) (c .before .before .before .before .before .if4 .taken))
     (turned-away InputTooLong _ (now (a .state)) (now (a .sheets)) (now (a .replies)) _ (t .0 ∙ n) (t .1 ∙ ap (λ (x : ℕ). reportOf x 0 0) n))
 
 run-good-requires : tie.Need-run-good-requires
 run-good-requires c κs =
-    let k = c .before .before .before .before .before .before .before .before .before .before .before in
-    let a = k .before .before .before .before .before .before .before .before .before .args in
-    (goes-in k (c .before .before .before .before .before .before .before .before .before .before .if2 .left) .state-is, is-long (now (a .sheets)) (sym (c .before .before .before .before .before .before .before .before .is-sheets .ensures) ∙ not-false _ (c .before .before .before .before .before .before .before .if3 .left)), k .before .before .before .if1 .left)
+    let k = c .before .before .before .before .before .before .before .before .before .before .before .before in
+    let a = k .before .before .before .before .before .before .before .before .before .args in (
+      goes-in k (c .before .before .before .before .before .before .before .before .before .before .before .if2 .left) .state-is,
+      is-long (now (a .sheets))
+          (sym (c .before .before .before .before .before .before .before .before .before .is-sheets .ensures)
+          ∙ not-false _ (c .before .before .before .before .before .before .before .before .if3 .left)),
+      k .before .before .before .if1 .left,
+      c .before .before
+          .before .before .before .before .before .if4 .left,
+    )
 
 returns-5 : tie.Need-returns-5
 returns-5 c =
-    let k = c .before .before .before .before .before .before .before .before .before .before .before .before .before .before .before .before .before .before .before .before in
+    let k = c .before .before .before .before .before .before .before .before .before .before .before .before .before .before .before .before .before .before
+    .before .before .before in
     let a = k .before .before .before .before .before .before .before .before .before .args in
-    let g = goes-in k (c .before .before .before .before .before .before .before .before .before .before .before .before .before .before .before .before .before .before .before .if2 .left) in
+    let g = goes-in k (c .before .before .before .before .before .before .before .before .before .before .before .before .before .before .before .before .before
+    .before .before .before .if2 .left) in
     rw (
-      good (a .mode) (a .rule) (now (a .state)) (now (a .sheets)) (now (a .input)) (now (a .replies)) (now (a .report)) (k .before .before .before .if1 .left) (g .mode-is) (g .rule-is) (g .state-is) (sym (c .before .before .before .before .before .before .before .before .before .before .before .before .before .before .before .before .before .is-sheets .ensures) ∙ not-false _ (c .before .before .before .before .before .before .before .before .before .before .before .before .before .before .before .before .if3 .left)) (c .before .before .before .before .before .before .before .before .before .before .before .before .before .before .before .if4 .left),
-      ← c .before .before .before .before .before .before .before .before .before .before .before .before .before .before .mode-of .ensures,
-      ← c .before .before .before .before .before .before .before .before .before .before .before .before .before .rule-of .ensures,
+      good (a .mode) (a .rule) (now (a .state)) (now (a .sheets)) (now (a .input)) (now (a .replies)) (now (a .report)) (k .before .before .before .if1 .left)
+          (g .mode-is) (g .rule-is) (g .state-is) (sym (c .before .before .before .before .before .before .before .before .before .before .before .before
+          .before .before .before .before .before .before .is-sheets .ensures) ∙ not-false _ (c .before .before .before .before .before .before .before .before
+          .before .before .before .before .before .before .before .before .before .if3 .left)) (c .before .before .before .before .before .before .before
+          .before .before .before .before .before .before .before .before .before .if4 .left),
+      ← c .before .before .before .before .before .before .before .before .before .before .before .before .before .before .before .mode-of .ensures,
+      ← c .before .before .before .before .before .before .before .before .before .before .before .before .before .before .rule-of .ensures,
     ) (c .before .before .before .before .before .before .before .before .run-good .ensures)
+
+run-good-requires-2 : tie.Need-run-good-requires-2
+run-good-requires-2 c κs =
+    let k = c .before .before .before .before .before .before .before .before .before .before .before .before in
+    let a = k .before .before .before .before .before .before .before .before .before .args in (
+      goes-in k (c .before .before .before .before .before .before .before .before .before .before .before .if2 .left) .state-is,
+      is-long (now (a .sheets))
+          (sym (c .before .before .before .before .before .before .before .before .before .is-sheets .ensures)
+          ∙ not-false _ (c .before .before .before .before .before .before .before .before .if3 .left)),
+      k .before .before .before .if1 .left,
+      c .before .before
+          .before .before .before .before .before .if4 .left,
+    )
+
+returns-6 : tie.Need-returns-6
+returns-6 c =
+    let k = c .before .before .before .before .before .before .before .before .before .before .before .before .before .before .before .before .before .before
+    .before .before .before in
+    let a = k .before .before .before .before .before .before .before .before .before .args in
+    let g = goes-in k (c .before .before .before .before .before .before .before .before .before .before .before .before .before .before .before .before .before
+    .before .before .before .if2 .left) in
+    rw (
+      good (a .mode) (a .rule) (now (a .state)) (now (a .sheets)) (now (a .input)) (now (a .replies)) (now (a .report)) (k .before .before .before .if1 .left)
+          (g .mode-is) (g .rule-is) (g .state-is) (sym (c .before .before .before .before .before .before .before .before .before .before .before .before
+          .before .before .before .before .before .before .is-sheets .ensures) ∙ not-false _ (c .before .before .before .before .before .before .before .before
+          .before .before .before .before .before .before .before .before .before .if3 .left)) (c .before .before .before .before .before .before .before
+          .before .before .before .before .before .before .before .before .before .if4 .left),
+      ← c .before .before .before .before .before .before .before .before .before .before .before .before .before .before .before .mode-of .ensures,
+      ← c .before .before .before .before .before .before .before .before .before .before .before .before .before .before .rule-of .ensures,
+    ) (c .before .before .before .before .before .before .before .before .run-good2 .ensures)
 
 pub sheets-run-spec : {M : Type 1} → statement M
 sheets-run-spec =
@@ -78,4 +131,5 @@ sheets-run-spec =
     (λ c. search needs) (λ c. search needs) returns-2 (λ c κs. search needs) (λ c κs. search needs) (λ c κs. search needs) (λ c. search needs)
     (λ c. search needs) (λ c. search needs) returns-3 (λ c κs. search needs) (λ c κs. search needs) (λ c. search needs) (λ c. search needs)
     (λ c. search needs) returns-4 (λ c κs. search needs) (λ c κs. search needs) run-good-requires (λ c. search needs) (λ c. search needs)
-    (λ c. search needs) (λ c. search needs) returns-5)
+    (λ c. search needs) (λ c. search needs) returns-5 run-good-requires-2 (λ c. search needs) (λ c. search needs) (λ c. search needs)
+    (λ c. search needs) returns-6)

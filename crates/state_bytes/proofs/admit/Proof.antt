@@ -9,7 +9,11 @@ returns : tie.Need-returns
 returns c = rw (sym (c .before .is-mode .ensures) ∙ not-true _ (c .if1 .taken))
 
 returns-2 : tie.Need-returns-2
-returns-2 c = rw (sym (c .before .before .before .is-mode .ensures) ∙ not-false _ (c .before .before .if1 .left), sym (c .before .is-rule .ensures) ∙ not-true _ (c .if2 .taken))
+returns-2 c = rw (
+  sym (c .before .before .before .is-mode .ensures) ∙ not-false _ (c .before .before .if1 .left),
+  sym (c .before .is-rule .ensures)
+      ∙ not-true _ (c .if2 .taken),
+)
 
 returns-3 : tie.Need-returns-3
 returns-3 c =

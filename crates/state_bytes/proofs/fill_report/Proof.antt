@@ -36,7 +36,8 @@ returns : tie.Need-returns
 returns c =
     let s = c .before .before .before .before .before .before .before .before .before in
     let k = c .before .before .before .before .before .before .put-word in
-    reported (now (s .args .report)) (k .last .0) (c .before .before .put-word2 .last .0) (s .args .refusal) (s .args .taken) (s .args .written) (s .pre) (k .ensures) (c .before .before .put-word2 .ensures)
+    reported (now (s .args .report)) (k .last .0) (c .before .before .put-word2 .last .0) (s .args .refusal) (s .args .taken) (s .args .written) (s .pre)
+    (k .ensures) (c .before .before .put-word2 .ensures)
 
 pub fill-report-spec : {M : Type 1} → statement M
 fill-report-spec =

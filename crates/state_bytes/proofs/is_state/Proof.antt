@@ -16,7 +16,8 @@ returns-3 : tie.Need-returns-3
 returns-3 c =
     let l = now (c .before .before .before .before .before .before .before .before .args .state) in
     c .is-memory .ensures
-    ∙ sym (long-state l (c .before .before .before .before .before .if2 .left) (sym (c .before .before .before .before .is-chip2 .ensures) ∙ c .before .before .before .if3 .taken))
+    ∙ sym (long-state l (c .before .before .before .before .before .if2 .left) (sym (c .before .before .before .before .is-chip2 .ensures)
+    ∙ c .before .before .before .if3 .taken))
 
 returns-4 : tie.Need-returns-4
 returns-4 c =

@@ -14,7 +14,11 @@ shared-slice-read-t5 : tie.Need-shared-slice-read-t5
 shared-slice-read-t5 c = omega (arith, is-long (now (c .before .before .before .args .state)) (c .before .before .before .pre) (c .before .if1 .left))
 
 shared-slice-read-t7 : tie.Need-shared-slice-read-t7
-shared-slice-read-t7 c = omega (arith, is-long (now (c .before .before .before .before .args .state)) (c .before .before .before .before .pre) (c .before .before .if1 .left))
+shared-slice-read-t7 c = omega (
+  arith,
+  is-long (now (c .before .before .before .before .args .state)) (c .before .before .before .before .pre)
+      (c .before .before .if1 .left),
+)
 
 returns-2 : tie.Need-returns-2
 returns-2 c =

@@ -21,7 +21,8 @@ returns : tie.Need-returns
 returns c =
     let e = c .before .before .before .before .before .before .before .before .before in
     let s = e .args .chip in
-    kept-back (now (e .args .state)) (stateIn s) (λ m. e .args .memory) (e .pre) (is-stack (s .stack .top) (s .stack .rest) .sixteen) (c .before .before .before .before .before .before .put-chip .ensures) (c .before .before .put-memory .ensures)
+    kept-back (now (e .args .state)) (stateIn s) (λ m. e .args .memory) (e .pre) (is-stack (s .stack .top) (s .stack .rest) .sixteen)
+    (c .before .before .before .before .before .before .put-chip .ensures) (c .before .before .put-memory .ensures)
 
 pub put-card-spec : {M : Type 1} → statement M
 put-card-spec =

@@ -19,7 +19,8 @@ slice-relend-prefix-store : tie.Need-slice-relend-prefix-store
 slice-relend-prefix-store c = let e = c .before .before in omega (arith, least (now (e .args .state)) (e .pre))
 
 slice-aggregate-store : tie.Need-slice-aggregate-store
-slice-aggregate-store c = let e = c .before .before .before in sym (length-take-le 16 (now (e .args .state)) (omega (arith, least (now (e .args .state)) (e .pre))))
+slice-aggregate-store c = let e = c .before .before .before
+    in sym (length-take-le 16 (now (e .args .state)) (omega (arith, least (now (e .args .state)) (e .pre))))
 
 store-requires : tie.Need-store-requires
 store-requires c κs = let e = c .before .before .before in length-take-le 16 (now (e .args .state)) (omega (arith, least (now (e .args .state)) (e .pre)))
@@ -51,7 +52,8 @@ returns c =
     let s = e .args .chip in
     let l = now (e .args .state) in
     let put = c .before .before .before .before .store in
-    chip-laid l (put .last .0) (s .pending) (s .status) (s .service) (e .pre) (ap length (put .ensures) ∙ is-stack (s .stack .top) (s .stack .rest) .sixteen) (c .before .flag .ensures) (c .flag2 .ensures)
+    chip-laid l (put .last .0) (s .pending) (s .status) (s .service) (e .pre) (ap length (put .ensures) ∙ is-stack (s .stack .top) (s .stack .rest) .sixteen)
+    (c .before .flag .ensures) (c .flag2 .ensures)
     ∙ ap (λ (x : List ℕ). laid (length l) (held x (s .pending) (s .status) (s .service)) (memoryIn l)) (put .ensures)
 
 pub put-chip-spec : {M : Type 1} → statement M

@@ -12,7 +12,8 @@ returns : tie.Need-returns
 returns c =
     let w = c .before .before in
     let s = w .before .before in
-    let t = both (told-as (ap stepLines (s .before .task-of .ensures .0)) (s .add-steps .ensures .0)) (told-as (ap₂ answerLine (w .before .width-of .ensures) (w .work .ensures)) (c .add-answer .ensures)) in
+    let t = both (told-as (ap stepLines (s .before .task-of .ensures .0)) (s .add-steps .ensures .0))
+    (told-as (ap₂ answerLine (w .before .width-of .ensures) (w .work .ensures)) (c .add-answer .ensures)) in
     (counted t, t .reads)
 
 pub tell-spec : {M : Type 1} → statement M

@@ -6,10 +6,10 @@ use Rattle.word.proofs.write_arguments.Statement.{statement}
 use Rattle.word.proofs.write_arguments.Tie as tie
 
 abbrev Inv-loop : tie.InvT-loop
-Inv-loop rule exact count i₀ i = Unit
+Inv-loop rule form count i₀ i = Unit
 
 abbrev μ-loop : tie.MeasureT-loop
-μ-loop rule exact count i₀ i = count - i
+μ-loop rule form count i₀ i = count - i
 
 pub write-arguments-spec : {M : Type 1} → statement M
 write-arguments-spec =

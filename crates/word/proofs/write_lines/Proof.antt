@@ -7,10 +7,10 @@ use Rattle.word.proofs.write_lines.Statement.{statement}
 use Rattle.word.proofs.write_lines.Tie as tie
 
 abbrev Inv-loop : tie.InvT-loop
-Inv-loop rule exact text at₀ at = at ≤ length text + 1
+Inv-loop rule form text at₀ at = at ≤ length text + 1
 
 abbrev μ-loop : tie.MeasureT-loop
-μ-loop rule exact text at₀ at = length text + 1 - at
+μ-loop rule form text at₀ at = length text + 1 - at
 
 pub write-lines-spec : {M : Type 1} → statement M
 write-lines-spec =

@@ -29,7 +29,8 @@ bits-again : tie.Need-bits-again Inv-bits μ-bits
 bits-again c =
     let a = c .before .before .before .before .before .before .before .args in
     let l = c .before .before .before .before .before .bits in
-    subst (Subtracting (a .most) (a .v) (a .d)) (sym (c .subtracted .ensures)) (subtracts (a .most) (a .v) (a .d) (l .s) (l .inv) (omega arith) (c .before .if2 .left))
+    subst (Subtracting (a .most) (a .v) (a .d)) (sym (c .subtracted .ensures)) (subtracts (a .most) (a .v) (a .d) (l .s) (l .inv) (omega arith)
+    (c .before .if2 .left))
 
 returns : tie.Need-returns Inv-bits μ-bits
 returns c = let l = c .before .before .bits in ends-whole _ _ _ (l .s) (l .inv) (omega arith)

@@ -16,7 +16,8 @@ add-t11 c =
 returns : tie.Need-returns
 returns c =
     let a = c .before .before in
-    goes (a .args .d) (a .args .s) _ _ (shifts (a .args .d) (a .args .s .left - 1) (a .pre .narrow) (omega arith)) (unit (a .args .s .left - 1) (omega arith)) (c .if1 .taken)
+    goes (a .args .d) (a .args .s) _ _ (shifts (a .args .d) (a .args .s .left - 1) (a .pre .narrow) (omega arith)) (unit (a .args .s .left - 1) (omega arith))
+    (c .if1 .taken)
 
 returns-2 : tie.Need-returns-2
 returns-2 c =

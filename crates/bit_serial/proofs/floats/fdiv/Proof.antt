@@ -23,7 +23,8 @@ returns-2 c =
 
 -- the dividend, which has room for the shift
 raised : (c : tie.After-divided) → c .divided .result ≡ division 26 (c .before .mantissa-of2 .result * 2 ^ 25) (c .before .before .before .mantissa-of .result)
-raised c = c .divided .ensures ∙ ap (λ (v : ℕ). division 26 v (c .before .before .before .mantissa-of .result)) (shl-exact 24 25 64 (c .before .mantissa-of2 .ensures .1) (omega arith))
+raised c = c .divided .ensures ∙ ap (λ (v : ℕ). division 26 v (c .before .before .before .mantissa-of .result))
+    (shl-exact 24 25 64 (c .before .mantissa-of2 .ensures .1) (omega arith))
 
 mark-requires : tie.Need-mark-requires
 mark-requires c κs = rw (raised c) (digits 26 (c .before .mantissa-of2 .result * 2 ^ 25) (c .before .before .before .mantissa-of .result) .1)
@@ -31,7 +32,12 @@ mark-requires c κs = rw (raised c) (digits 26 (c .before .mantissa-of2 .result 
 sub-t14 : tie.Need-sub-t14
 sub-t14 c =
     let m = c .before .before .before .before .before .before .before .before in
-    omega (arith, ap (λ (s : Division). s .left) (raised m), digits 26 (m .before .mantissa-of2 .result * 2 ^ 25) (m .before .before .before .mantissa-of .result) .0)
+    omega (
+      arith,
+      ap (λ (s : Division). s .left) (raised m),
+      digits 26 (m .before .mantissa-of2 .result * 2 ^ 25) (m .before .before .before .mantissa-of
+          .result) .0,
+    )
 
 returns-3 : tie.Need-returns-3
 returns-3 c =

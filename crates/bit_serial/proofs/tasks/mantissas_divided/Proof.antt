@@ -20,8 +20,11 @@ returns-2 c =
 returns-3 : tie.Need-returns-3
 returns-3 c =
     let m = c .before .before in
-    let t = m .before in
-    (fdiv-task _ _ _ (t .before .both-proper .ensures) (not-false _ (t .if1 .left)) _ _ (shl-exact 24 25 64 (c .mantissa-of2 .ensures .1) (omega arith) ∙ ap (λ (x : ℕ). x * 2 ^ 25) (c .mantissa-of2 .ensures .0)) (m .mantissa-of .ensures .0) (c .before .if2 .left), (omega arith, omega arith))
+    let t = m .before in (
+      fdiv-task _ _ _ (t .before .both-proper .ensures) (not-false _ (t .if1 .left)) _ _ (shl-exact 24 25 64 (c .mantissa-of2 .ensures .1) (omega arith)
+          ∙ ap (λ (x : ℕ). x * 2 ^ 25) (c .mantissa-of2 .ensures .0)) (m .mantissa-of .ensures .0) (c .before .if2 .left),
+      (omega arith, omega arith),
+    )
 
 pub mantissas-divided-spec : {M : Type 1} → statement M
 mantissas-divided-spec =

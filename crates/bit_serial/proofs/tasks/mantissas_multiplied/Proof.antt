@@ -11,8 +11,11 @@ returns c = (fmul-nothing _ _ _ (c .before .both-proper .ensures) (not-true _ (c
 
 returns-2 : tie.Need-returns-2
 returns-2 c =
-    let m = c .before in
-    (fmul-task _ _ _ (m .before .before .both-proper .ensures) (not-false _ (m .before .if1 .left)) _ _ (m .mantissa-of .ensures .0) (c .mantissa-of2 .ensures .0), (omega arith, omega arith))
+    let m = c .before in (
+      fmul-task _ _ _ (m .before .before .both-proper .ensures) (not-false _ (m .before .if1 .left)) _ _ (m .mantissa-of .ensures .0)
+          (c .mantissa-of2 .ensures .0),
+      (omega arith, omega arith),
+    )
 
 pub mantissas-multiplied-spec : {M : Type 1} → statement M
 mantissas-multiplied-spec =

@@ -14,8 +14,11 @@ returns-2 c = (div-nothing _ _ _ _ _ (c .before .either-least .ensures) (c .befo
 returns-3 : tie.Need-returns-3
 returns-3 c =
     let m = c .before in
-    let t = m .before in
-    (div-task _ _ _ _ _ (t .before .either-least .ensures) (t .before .before .if1 .left) (t .if2 .left) _ _ (m .magnitude .ensures .0) (c .magnitude2 .ensures .0), (omega arith, omega arith))
+    let t = m .before in (
+      div-task _ _ _ _ _ (t .before .either-least .ensures) (t .before .before .if1 .left) (t .if2 .left) _ _ (m .magnitude .ensures .0)
+          (c .magnitude2 .ensures .0),
+      (omega arith, omega arith),
+    )
 
 pub sizes-divided-spec : {M : Type 1} → statement M
 sizes-divided-spec =

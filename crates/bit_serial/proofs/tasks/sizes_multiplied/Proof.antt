@@ -10,8 +10,10 @@ returns c = (mul-nothing _ _ _ _ _ (c .before .either-least .ensures) (c .if1 .t
 
 returns-2 : tie.Need-returns-2
 returns-2 c =
-    let m = c .before in
-    (mul-task _ _ _ _ _ (m .before .before .either-least .ensures) (m .before .if1 .left) _ _ (m .magnitude .ensures .0) (c .magnitude2 .ensures .0), (omega arith, omega arith))
+    let m = c .before in (
+      mul-task _ _ _ _ _ (m .before .before .either-least .ensures) (m .before .if1 .left) _ _ (m .magnitude .ensures .0) (c .magnitude2 .ensures .0),
+      (omega arith, omega arith),
+    )
 
 pub sizes-multiplied-spec : {M : Type 1} → statement M
 sizes-multiplied-spec =

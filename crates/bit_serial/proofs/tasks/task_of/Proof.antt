@@ -50,10 +50,12 @@ returns-3 c =
     (r .ensures .0 ∙ ap₂ (λ (h n : ℕ). divTask h n (a .b) (a .a)) (c .before .before .half-of3 .ensures) (c .before .bits-of3 .ensures .0), r .ensures .1)
 
 returns-4 : tie.Need-returns-4
-returns-4 c = let a = c .before .before .before .args in tasked (a .b) (a .a) (c .mantissas-multiplied .result) (c .before .enum-told .given .1) (c .mantissas-multiplied .ensures)
+returns-4 c = let a = c .before .before .before .args in tasked (a .b) (a .a) (c .mantissas-multiplied .result) (c .before .enum-told .given .1)
+    (c .mantissas-multiplied .ensures)
 
 returns-5 : tie.Need-returns-5
-returns-5 c = let a = c .before .before .before .args in tasked (a .b) (a .a) (c .mantissas-divided .result) (c .before .enum-told2 .given .1) (c .mantissas-divided .ensures)
+returns-5 c = let a = c .before .before .before .args in tasked (a .b) (a .a) (c .mantissas-divided .result) (c .before .enum-told2 .given .1)
+    (c .mantissas-divided .ensures)
 
 pub task-of-spec : {M : Type 1} → statement M
 task-of-spec =

@@ -18,13 +18,19 @@ returns-2 c = c .least .ensures ∙ div-least _ _ _ _ _ (c .before .before .eith
 sub-t12 : tie.Need-sub-t12
 sub-t12 c =
     let m = c .before .before .before in
-    omega (arith, ap (λ (s : Division). s .left) (m .divided .ensures), digits (m .before .before .before .before .before .before .args .n) (m .before .before .magnitude .result) (m .before .magnitude2 .result) .0)
+    omega (
+      arith,
+      ap (λ (s : Division). s .left) (m .divided .ensures),
+      digits (m .before .before .before .before .before .before .args .n)
+          (m .before .before .magnitude .result) (m .before .magnitude2 .result) .0,
+    )
 
 returns-3 : tie.Need-returns-3
 returns-3 c =
     let m = c .before .before .before in
     let t = m .before .before .before in
-    div-rest _ _ _ _ _ (t .before .either-least .ensures) (t .if2 .left) _ _ _ (c .before .before .unlike-signs .ensures) (m .before .before .magnitude .ensures .0) (m .before .magnitude2 .ensures .0)
+    div-rest _ _ _ _ _ (t .before .either-least .ensures) (t .if2 .left) _ _ _ (c .before .before .unlike-signs .ensures) (m .before .before .magnitude .ensures
+    .0) (m .before .magnitude2 .ensures .0)
     (m .divided .result) _ (t .before .before .if1 .left) (m .divided .ensures) (c .before .low-bits .ensures)
 
 pub div-spec : {M : Type 1} → statement M

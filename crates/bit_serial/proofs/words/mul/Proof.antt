@@ -12,7 +12,8 @@ returns-2 : tie.Need-returns-2
 returns-2 c =
     let m = c .before .before .before .before in
     let t = m .before .before .before in
-    mul-rest _ _ _ _ _ (t .before .either-least .ensures) (t .if1 .left) _ _ _ (c .before .before .before .unlike-signs .ensures) (m .before .before .magnitude .ensures .0) (m .before .magnitude2 .ensures .0)
+    mul-rest _ _ _ _ _ (t .before .either-least .ensures) (t .if1 .left) _ _ _ (c .before .before .before .unlike-signs .ensures) (m .before .before .magnitude
+    .ensures .0) (m .before .magnitude2 .ensures .0)
     (m .multiplied .result) _ _ _ (m .multiplied .ensures) (c .before .before .low-bits .ensures) (c .before .exceeds .ensures) (c .overflow-bit .ensures)
 
 pub mul-spec : {M : Type 1} → statement M

@@ -11,14 +11,19 @@ returns c = c .least .ensures ∙ muu-least _ _ _ _ _ (c .before .before .either
 upper-bits-requires : tie.Need-upper-bits-requires
 upper-bits-requires c κs =
     let m = c .before in
-    let w = m .before .before .before .before .before .pre .0 in
-    (w .some, w .narrow, few _ _ _ _ (m .multiplied .result) (w .some) (m .before .before .magnitude .ensures .1) (m .before .magnitude2 .ensures .1) (m .multiplied .ensures))
+    let w = m .before .before .before .before .before .pre .0 in (
+      w .some,
+      w .narrow,
+      few _ _ _ _ (m .multiplied .result) (w .some) (m .before .before .magnitude .ensures .1) (m .before .magnitude2 .ensures .1)
+          (m .multiplied .ensures),
+    )
 
 returns-2 : tie.Need-returns-2
 returns-2 c =
     let m = c .before .before in
     let t = m .before .before .before in
-    muu-rest _ _ _ _ _ (t .before .either-least .ensures) (t .if1 .left) _ _ _ (c .before .unlike-signs .ensures) (m .before .before .magnitude .ensures .0) (m .before .magnitude2 .ensures .0)
+    muu-rest _ _ _ _ _ (t .before .either-least .ensures) (t .if1 .left) _ _ _ (c .before .unlike-signs .ensures) (m .before .before .magnitude .ensures .0)
+    (m .before .magnitude2 .ensures .0)
     (m .multiplied .result) _ (m .multiplied .ensures) (c .upper-bits .ensures)
 
 pub muu-spec : {M : Type 1} → statement M

@@ -5,6 +5,7 @@ use Rattle.terms.specs.declared.Refusal.{Refusal}
 use Rattle.stack.specs.Words.{bytesIn}
 use Rattle.chip.specs.Step.{done, refused}
 use Rattle.chip.specs.Held.{held, stateIn}
+use Rattle.chip.proofs.Answers.{when-ready}
 use Rattle.chip.proofs.Held.{as-done, as-refused}
 use borrow.Author.Needs.{needs}
 use Rattle.chip.proofs.State.obeyed.Statement.{statement}
@@ -25,10 +26,14 @@ returns-2 c =
     let entry = c .before .before .before .before in
     let a = entry .args in
     let s = stateIn (a .self) in
-    c .done .ensures
-    ∙ ap (λ (v : Bool). done 0 (held (bytesIn (a .o .stack)) (a .self .pending) (a .o .answer) v)) (c .before .service .ensures)
+    let v = c .before .service in
+    c .answer .ensures
+    ∙ sym (when-ready s (done 0 (held (bytesIn (a .o .stack)) (a .self .pending) (a .o .answer) (v .result))) (entry .pre .0) refl)
+    ∙ ap (λ (x : Bool). done 0 (held (bytesIn (a .o .stack)) (a .self .pending) (a .o .answer) x)) (v .ensures)
     ∙ sym (as-done s (a .code) (a .o) (search needs))
     ∙ entry .pre .1 s refl refl (entry .pre .0)
 
 pub obeyed-spec : {M : Type 1} → statement M
-obeyed-spec = tie.close (tie.spec (λ c κs. search needs) (λ c κs. search needs) returns (λ c. search needs) (λ c κs. search needs) (λ c κs. search needs) returns-2)
+obeyed-spec =
+    tie.close
+    (tie.spec (λ c κs. search needs) (λ c κs. search needs) returns (λ c. search needs) (λ c κs. search needs) (λ c κs. search needs) returns-2)

@@ -1,22 +1,19 @@
--- `chip::State::reset` meets its contract: a busy state is handed back, else what a reset leaves. Assumes nothing.
-use mathlib.Core.Path.{sym, ap, _∙_}
-use Rattle.chip.specs.Commands.{baseRule}
-use Rattle.chip.specs.Event.{Reset}
-use Rattle.chip.specs.Step.{given, done}
+-- `chip::State::reset` meets its contract: what a reset leaves, by the answer of its state. Assumes nothing.
+use mathlib.Core.Path.{ap, _∙_}
+use Rattle.chip.specs.State.{State}
+use Rattle.chip.specs.Step.{done, unlessBusy, resetOf}
 use Rattle.chip.specs.Held.{stateIn}
-use Rattle.chip.proofs.Held.{busy-event, reset-held, reset-done}
+use Rattle.chip.proofs.Held.{reset-held}
 use borrow.Author.Needs.{needs}
 use Rattle.chip.proofs.State.reset.Statement.{statement}
 use Rattle.chip.proofs.State.reset.Tie as tie
 
 returns : tie.Need-returns
-returns c = let a = c .before .before .before .args in c .refuse .ensures ∙ busy-event (given (a .mode) baseRule) (stateIn (a .self)) Reset (c .before .if1 .taken)
-
-returns-2 : tie.Need-returns-2
-returns-2 c =
-    let a = c .before .before .before .before .args in
+unfolding resetOf
+returns c =
+    let a = c .before .before .args in
     let s = stateIn (a .self) in
-    c .done .ensures ∙ ap (done 0) (reset-held (a .mode) s (c .before .kept .ensures)) ∙ sym (reset-done s (search needs) (a .mode))
+    c .answer .ensures ∙ ap (λ (t : State). unlessBusy s (done 0 t)) (reset-held (a .mode) s (c .before .kept .ensures))
 
 pub reset-spec : {M : Type 1} → statement M
-reset-spec = tie.close (tie.spec (λ c κs. search needs) returns (λ c κs. search needs) (λ c κs. search needs) returns-2)
+reset-spec = tie.close (tie.spec (λ c κs. search needs) (λ c κs. search needs) returns)

@@ -1,5 +1,5 @@
 -- `chip::commands::fixed_work` meets its contract: either width by its worker. Assumes nothing.
-use mathlib.Core.Path.{sym, ap, subst}
+use mathlib.Core.Path.{sym, subst}
 use Rattle.terms.specs.declared.Width.{Width}
 use Rattle.codes.specs.Command.{fixedIn}
 use Rattle.chip.specs.Held.{SettlesEither}

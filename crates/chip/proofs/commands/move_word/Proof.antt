@@ -19,13 +19,15 @@ returns-2 : tie.Need-returns-2
 returns-2 c =
     let a = c .before .before .before .before .args in
     let row = move-row (a .width) (rotated (sizeOf (a .width)) (bytesIn (a .s))) (c .before .rotate .ensures) refl in
-    moves-as (a .width) (a .s) (c .settled2 .result) (c .before .before .enum-told2 .given .1) (λ rule. (c .settled2 .ensures .0 ∙ row, c .settled2 .ensures .1))
+    moves-as (a .width) (a .s) (c .settled2 .result) (c .before .before .enum-told2 .given .1)
+    (λ rule. (c .settled2 .ensures .0 ∙ row, c .settled2 .ensures .1))
 
 returns-3 : tie.Need-returns-3
 returns-3 c =
     let a = c .before .before .before .before .args in
     let row = move-row (a .width) (exchanged (sizeOf (a .width)) (bytesIn (a .s))) (c .before .exchange .ensures) refl in
-    moves-as (a .width) (a .s) (c .settled3 .result) (c .before .before .enum-told3 .given .1) (λ rule. (c .settled3 .ensures .0 ∙ row, c .settled3 .ensures .1))
+    moves-as (a .width) (a .s) (c .settled3 .result) (c .before .before .enum-told3 .given .1)
+    (λ rule. (c .settled3 .ensures .0 ∙ row, c .settled3 .ensures .1))
 
 pub move-word-spec : {M : Type 1} → statement M
 move-word-spec =

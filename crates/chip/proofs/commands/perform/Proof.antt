@@ -19,7 +19,9 @@ returns-2 : tie.Need-returns-2
 returns-2 c =
     let a = c .before .before .before .before .args in
     let k = c .before .before .kind .given .0 in
-    performs-as (a .rule) (a .s) (c .fixed-work .result) (c .before .before .kind .given .1) (done-by (a .rule) (fixedIn (k .0) (k .1 .0)) (a .s) (c .fixed-work .result) (fixed-proper (k .0) (k .1 .0) (bytesIn (a .s))) (c .fixed-work .ensures (a .rule)))
+    performs-as (a .rule) (a .s) (c .fixed-work .result) (c .before .before .kind .given .1)
+    (done-by (a .rule) (fixedIn (k .0) (k .1 .0)) (a .s) (c .fixed-work .result) (fixed-proper (k .0) (k .1 .0) (bytesIn (a .s)))
+    (c .fixed-work .ensures (a .rule)))
 
 returns-3 : tie.Need-returns-3
 returns-3 c =
@@ -29,12 +31,14 @@ returns-3 c =
 returns-4 : tie.Need-returns-4
 returns-4 c =
     let a = c .before .before .before .args in
-    performs-as (a .rule) (a .s) (c .change-float .result) (c .before .enum-told2 .given .1) (done-by (a .rule) Chsf (a .s) (c .change-float .result) refl (c .change-float .ensures (a .rule)))
+    performs-as (a .rule) (a .s) (c .change-float .result) (c .before .enum-told2 .given .1)
+    (done-by (a .rule) Chsf (a .s) (c .change-float .result) refl (c .change-float .ensures (a .rule)))
 
 returns-5 : tie.Need-returns-5
 returns-5 c =
     let a = c .before .before .before .before .args in
-    performs-as (a .rule) (a .s) (c .to-float .result) (c .before .before .kind3 .given .1) (done-by (a .rule) (Flt (c .before .before .kind3 .given .0 .0)) (a .s) (c .to-float .result) refl (c .to-float .ensures))
+    performs-as (a .rule) (a .s) (c .to-float .result) (c .before .before .kind3 .given .1)
+    (done-by (a .rule) (Flt (c .before .before .kind3 .given .0 .0)) (a .s) (c .to-float .result) refl (c .to-float .ensures))
 
 returns-6 : tie.Need-returns-6
 returns-6 c =
@@ -45,12 +49,15 @@ returns-7 : tie.Need-returns-7
 returns-7 c =
     let a = c .before .before .before .before .args in
     let k = c .before .before .kind5 .given .0 in
-    performs-as (a .rule) (a .s) (c .move-word .result) (c .before .before .kind5 .given .1) (done-by (a .rule) (moveIn (k .0) (k .1 .0)) (a .s) (c .move-word .result) (move-proper (k .0) (k .1 .0) (bytesIn (a .s))) (c .move-word .ensures (a .rule)))
+    performs-as (a .rule) (a .s) (c .move-word .result) (c .before .before .kind5 .given .1)
+    (done-by (a .rule) (moveIn (k .0) (k .1 .0)) (a .s) (c .move-word .result) (move-proper (k .0) (k .1 .0) (bytesIn (a .s)))
+    (c .move-word .ensures (a .rule)))
 
 returns-8 : tie.Need-returns-8
 returns-8 c =
     let a = c .before .before .before .args in
-    performs-as (a .rule) (a .s) (c .push-pi .result) (c .before .enum-told3 .given .1) (done-by (a .rule) Pupi (a .s) (c .push-pi .result) refl (c .push-pi .ensures))
+    performs-as (a .rule) (a .s) (c .push-pi .result) (c .before .enum-told3 .given .1)
+    (done-by (a .rule) Pupi (a .s) (c .push-pi .result) refl (c .push-pi .ensures))
 
 returns-9 : tie.Need-returns-9
 returns-9 c =

@@ -12,8 +12,11 @@ use Rattle.chip.proofs.commands.push_pi.Tie as tie
 returns : tie.Need-returns
 returns c =
     let a = c .before .before .before .args in
-    let s = bytesIn (a .s) in
-    (c .settled .ensures .0 ∙ move-row Double (pushedWord s (piOf (a .rule))) (c .before .push-4 .ensures ∙ ap (pushedWord s) (c .before .before .pi-of .ensures)) refl, c .settled .ensures .1)
+    let s = bytesIn (a .s) in (
+      c .settled .ensures .0 ∙ move-row Double (pushedWord s (piOf (a .rule)))
+          (c .before .push .ensures ∙ ap (pushedWord s) (c .before .before .pi-of .ensures)) refl,
+      c .settled .ensures .1,
+    )
 
 pub push-pi-spec : {M : Type 1} → statement M
-push-pi-spec = tie.close (tie.spec (λ c κs. search needs) (λ c κs. search needs) (λ c κs. search needs) returns)
+push-pi-spec = tie.close (tie.spec (λ c κs. search needs) (λ c. search needs) (λ c κs. search needs) (λ c κs. search needs) returns)

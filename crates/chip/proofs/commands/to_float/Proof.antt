@@ -22,15 +22,21 @@ returns : tie.Need-returns
 returns c =
     let at-word = c .before .before .before in
     let a = at-word .before .before .before .args in
-    let row = flts-row (bytesIn (a .s)) (at-word .tos .ensures .0) (c .before .before .flts .ensures) (c .before .widen .ensures) refl in
-    (c .settled .ensures .0 ∙ row ∙ ap (λ (w : Width). outcomeOf (a .rule) (Flt w) (bytesIn (a .s))) (sym (at-word .before .enum-told .given .1)), c .settled .ensures .1)
+    let row = flts-row (bytesIn (a .s)) (at-word .tos .ensures .0) (c .before .before .flts .ensures) (c .before .widen .ensures) refl in (
+      c .settled .ensures .0 ∙ row ∙ ap (λ (w : Width). outcomeOf (a .rule) (Flt w) (bytesIn (a .s)))
+          (sym (at-word .before .enum-told .given .1)),
+      c .settled .ensures .1,
+    )
 
 returns-2 : tie.Need-returns-2
 returns-2 c =
     let at-word = c .before .before .before in
     let a = at-word .before .before .before .args in
-    let row = fltd-row (bytesIn (a .s)) (a .rule) (at-word .tos2 .ensures .0) (c .before .before .fltd .ensures) (c .before .convert .ensures) refl in
-    (c .settled2 .ensures .0 ∙ row ∙ ap (λ (w : Width). outcomeOf (a .rule) (Flt w) (bytesIn (a .s))) (sym (at-word .before .enum-told2 .given .1)), c .settled2 .ensures .1)
+    let row = fltd-row (bytesIn (a .s)) (a .rule) (at-word .tos2 .ensures .0) (c .before .before .fltd .ensures) (c .before .convert .ensures) refl in (
+      c .settled2 .ensures .0 ∙ row ∙ ap (λ (w : Width). outcomeOf (a .rule) (Flt w) (bytesIn (a .s)))
+          (sym (at-word .before .enum-told2 .given .1)),
+      c .settled2 .ensures .1,
+    )
 
 pub to-float-spec : {M : Type 1} → statement M
 to-float-spec =

@@ -36,42 +36,66 @@ returns c =
     let at-words = c .before .before .before .before in
     let s = at-words .before .before .args .s in
     works-as Double s (c .keep-a .result) (c .before .before .enum-told .given .1)
-    (λ rule. (of-words keepsA add (bytesIn s) {v = Double} {w = Double} refl (at-words .before .nos .ensures .0) (at-words .tos .ensures .0) (c .before .add32 .ensures) (c .keep-a .ensures .0), c .keep-a .ensures .1))
+    (λ rule. (
+      of-words keepsA add (bytesIn s) {v = Double} {w = Double} refl (at-words .before .nos .ensures .0) (at-words .tos .ensures .0)
+          (c .before .add32 .ensures) (c .keep-a .ensures .0),
+      c .keep-a .ensures .1,
+    ))
 
 returns-2 : tie.Need-returns-2
 returns-2 c =
     let at-words = c .before .before .before .before in
     let s = at-words .before .before .args .s in
     works-as Double s (c .keep-a2 .result) (c .before .before .enum-told2 .given .1)
-    (λ rule. (of-words keepsA sub (bytesIn s) {v = Double} {w = Double} refl (at-words .before .nos .ensures .0) (at-words .tos .ensures .0) (c .before .sub32 .ensures) (c .keep-a2 .ensures .0), c .keep-a2 .ensures .1))
+    (λ rule. (
+      of-words keepsA sub (bytesIn s) {v = Double} {w = Double} refl (at-words .before .nos .ensures .0) (at-words .tos .ensures .0)
+          (c .before .sub32 .ensures) (c .keep-a2 .ensures .0),
+      c .keep-a2 .ensures .1,
+    ))
 
 returns-3 : tie.Need-returns-3
 returns-3 c =
     let at-words = c .before .before .before .before in
     let s = at-words .before .before .args .s in
     works-as Double s (c .lose-a .result) (c .before .before .enum-told3 .given .1)
-    (λ rule. (of-words losesA mul (bytesIn s) {v = Double} {w = Double} refl (at-words .before .nos .ensures .0) (at-words .tos .ensures .0) (c .before .mul32 .ensures) (c .lose-a .ensures .0), c .lose-a .ensures .1))
+    (λ rule. (
+      of-words losesA mul (bytesIn s) {v = Double} {w = Double} refl (at-words .before .nos .ensures .0) (at-words .tos .ensures .0)
+          (c .before .mul32 .ensures) (c .lose-a .ensures .0),
+      c .lose-a .ensures .1,
+    ))
 
 returns-4 : tie.Need-returns-4
 returns-4 c =
     let at-words = c .before .before .before .before in
     let s = at-words .before .before .args .s in
     works-as Double s (c .lose-a2 .result) (c .before .before .enum-told4 .given .1)
-    (λ rule. (of-words losesA muu (bytesIn s) {v = Double} {w = Double} refl (at-words .before .nos .ensures .0) (at-words .tos .ensures .0) (c .before .muu32 .ensures) (c .lose-a2 .ensures .0), c .lose-a2 .ensures .1))
+    (λ rule. (
+      of-words losesA muu (bytesIn s) {v = Double} {w = Double} refl (at-words .before .nos .ensures .0) (at-words .tos .ensures .0)
+          (c .before .muu32 .ensures) (c .lose-a2 .ensures .0),
+      c .lose-a2 .ensures .1,
+    ))
 
 returns-5 : tie.Need-returns-5
 returns-5 c =
     let at-words = c .before .before .before .before in
     let s = at-words .before .before .args .s in
     works-as Double s (c .lose-a3 .result) (c .before .before .enum-told5 .given .1)
-    (λ rule. (of-words losesA div (bytesIn s) {v = Double} {w = Double} refl (at-words .before .nos .ensures .0) (at-words .tos .ensures .0) (c .before .div32 .ensures) (c .lose-a3 .ensures .0), c .lose-a3 .ensures .1))
+    (λ rule. (
+      of-words losesA div (bytesIn s) {v = Double} {w = Double} refl (at-words .before .nos .ensures .0) (at-words .tos .ensures .0)
+          (c .before .div32 .ensures) (c .lose-a3 .ensures .0),
+      c .lose-a3 .ensures .1,
+    ))
 
 returns-6 : tie.Need-returns-6
 returns-6 c =
     let at-words = c .before .before .before .before in
     let s = at-words .before .before .args .s in
     works-as Double s (c .change-a .result) (c .before .before .enum-told6 .given .1)
-    (λ rule. (of-word changesA chs (bytesIn s) {v = Double} {w = Double} refl (at-words .tos .ensures .0) (c .before .chs32 .ensures) (c .change-a .ensures .0), c .change-a .ensures .1))
+    (λ rule. (
+      of-word changesA chs (bytesIn s) {v = Double} {w = Double} refl (at-words .tos .ensures .0) (c .before .chs32 .ensures)
+          (c .change-a .ensures .0),
+      c .change-a .ensures .1,
+    ))
 
 pub work-32-spec : {M : Type 1} → statement M
 work-32-spec =

@@ -9,11 +9,11 @@ use Rattle.decimals.proofs.Lines.{told-as}
 use Rattle.decimals.proofs.line.add_read_line.Statement.{statement}
 use Rattle.decimals.proofs.line.add_read_line.Tie as tie
 
-add-exact-line-requires : tie.Need-add-exact-line-requires
-add-exact-line-requires c κs = (c .before .before .before .before .before .before .pre .1, c .before .before .before .before .before .before .pre .2)
+add-brought-line-requires : tie.Need-add-brought-line-requires
+add-brought-line-requires c κs = (c .before .before .before .before .before .before .pre .1, c .before .before .before .before .before .before .pre .2)
 
-add-rounded-line-requires : tie.Need-add-rounded-line-requires
-add-rounded-line-requires c κs =
+add-brought-line-requires-2 : tie.Need-add-brought-line-requires-2
+add-brought-line-requires-2 c κs =
     let start = c .before .before .before .before .before .before in
     (start .pre .1, start .pre .2)
 
@@ -29,14 +29,14 @@ returns : tie.Need-returns
 returns c =
     let at-reading = c .before .before .before .before .before in
     let start = at-reading .before .before .before .before in
-    told-as (ap (readLine (start .args .rule) (now (start .args .text))) (sym (at-reading .reading .given .1))) (c .before .before .add-exact-line .ensures)
+    told-as (ap (readLine (start .args .rule) (now (start .args .text))) (sym (at-reading .reading .given .1))) (c .before .before .add-brought-line .ensures)
 
 returns-2 : tie.Need-returns-2
 returns-2 c =
     let at-reading2 = c .before .before .before .before .before in
     let start = at-reading2 .before .before .before .before in
     told-as (ap (readLine (start .args .rule) (now (start .args .text))) (sym (at-reading2 .reading2 .given .1)))
-    (c .before .before .add-rounded-line .ensures)
+    (c .before .before .add-brought-line2 .ensures)
 
 returns-3 : tie.Need-returns-3
 returns-3 c =
@@ -55,9 +55,9 @@ add-read-line-spec =
     tie.close
     (tie.spec
     (λ c. search needs)
-    add-exact-line-requires
+    add-brought-line-requires
     (λ c. search needs)
-    add-rounded-line-requires
+    add-brought-line-requires-2
     (λ c. search needs)
     add-refused-requires
     (λ c. search needs)

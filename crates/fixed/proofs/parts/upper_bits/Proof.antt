@@ -11,13 +11,19 @@ returns : tie.Need-returns
 returns c = upper-none _ _ (c .before .args .neg) (c .if1 .taken) (c .before .pre .0)
 
 sub-result-3 : tie.Need-sub-result-3
-sub-result-3 c = omega (arith, upper-lt _ (c .before .before .args .m - 1) (c .before .before .pre .0) (lt-of-le-of-lt (sub-le (c .before .before .args .m) 1) (c .before .before .pre .2)))
+sub-result-3 c = omega (
+  arith,
+  upper-lt _ (c .before .before .args .m - 1) (c .before .before .pre .0) (lt-of-le-of-lt (sub-le (c .before .before .args .m) 1)
+      (c .before .before .pre .2)),
+)
 
 returns-2 : tie.Need-returns-2
 returns-2 c = upper-neg _ _ _ (c .if2 .taken) (c .before .before .pre .0) (c .before .before .pre .2) (c .before .if1 .left)
 
 cast-result-2 : tie.Need-cast-result-2
-cast-result-2 c = record { fits = lt-of-lt-of-le (upper-lt _ (c .before .before .args .m) (c .before .before .pre .0) (c .before .before .pre .2)) (omega arith) }
+cast-result-2 c = record {
+  fits = lt-of-lt-of-le (upper-lt _ (c .before .before .args .m) (c .before .before .pre .0) (c .before .before .pre .2)) (omega arith);
+}
 
 returns-3 : tie.Need-returns-3
 returns-3 c = upper-pos _ _ _ (c .if2 .left) (c .before .before .pre .0) (c .before .before .pre .2)

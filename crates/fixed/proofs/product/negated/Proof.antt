@@ -5,7 +5,8 @@ use Rattle.fixed.proofs.product.negated.Statement.{statement}
 use Rattle.fixed.proofs.product.negated.Tie as tie
 
 returns : tie.Need-returns
-returns c = chs-all _ _ _ _ _ _ (c .before .before .before .before .pre .2) (c .before .before .before .is-negative .ensures) (c .before .before .magnitude .ensures .0) (c .before .low-bits .ensures) (c .overflow-bit .ensures)
+returns c = chs-all _ _ _ _ _ _ (c .before .before .before .before .pre .2) (c .before .before .before .is-negative .ensures) (c .before .before .magnitude
+    .ensures .0) (c .before .low-bits .ensures) (c .overflow-bit .ensures)
 
 pub negated-spec : {M : Type 1} → statement M
 negated-spec =

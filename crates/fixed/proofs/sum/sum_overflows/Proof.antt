@@ -1,4 +1,5 @@
--- `fixed::sum::sum_overflows` meets its contract: by cases of the signs: of like ones the wrapped result has the other sign exactly where the exact one does not fit. Assumes nothing.
+-- `fixed::sum::sum_overflows` meets its contract: by cases of the signs: of like ones the wrapped result has the other sign exactly where the exact one does
+-- not fit. Assumes nothing.
 use Rattle.fixed.proofs.Sums.{sum-pp, sum-pn, sum-np, sum-nn}
 use Rattle.fixed.proofs.sum.sum_overflows.Statement.{statement}
 use Rattle.fixed.proofs.sum.sum_overflows.Tie as tie

@@ -27,12 +27,14 @@ cast-t10 c =
 returns-2 : tie.Need-returns-2
 returns-2 c =
     let s = c .before .before .before .before in
-    fix-within (s .args .half) (s .args .a) _ true (c .before .before .before .whole-part .ensures) (c .before .before .if1 .left) (sym (c .if2 .taken) ∙ c .before .is-negative .ensures)
+    fix-within (s .args .half) (s .args .a) _ true (c .before .before .before .whole-part .ensures) (c .before .before .if1 .left) (sym (c .if2 .taken)
+    ∙ c .before .is-negative .ensures)
 
 returns-3 : tie.Need-returns-3
 returns-3 c =
     let s = c .before .before .before .before in
-    fix-within (s .args .half) (s .args .a) _ false (c .before .before .before .whole-part .ensures) (c .before .before .if1 .left) (sym (c .if2 .left) ∙ c .before .is-negative .ensures)
+    fix-within (s .args .half) (s .args .a) _ false (c .before .before .before .whole-part .ensures) (c .before .before .if1 .left) (sym (c .if2 .left)
+    ∙ c .before .is-negative .ensures)
 
 pub fix-below-spec : {M : Type 1} → statement M
 fix-below-spec =

@@ -1,4 +1,5 @@
--- `float::convert::fltd` meets its contract: a word below 2^31 is its own value, any other that of 2^32 less it below zero, and the value is cut. Assumes nothing.
+-- `float::convert::fltd` meets its contract: a word below 2^31 is its own value, any other that of 2^32 less it below zero, and the value is cut. Assumes
+-- nothing.
 use mathlib.Core.Path.{refl, _∙_}
 use Rattle.float.specs.Convert.{fltd}
 use Rattle.float.proofs.Fix.{integer-below, integer-above}

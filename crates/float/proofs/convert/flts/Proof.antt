@@ -1,4 +1,5 @@
--- `float::convert::flts` meets its contract: a word below 2^15 is its own value, any other that of 2^16 less it below zero, and the value is cut. Assumes nothing.
+-- `float::convert::flts` meets its contract: a word below 2^15 is its own value, any other that of 2^16 less it below zero, and the value is cut. Assumes
+-- nothing.
 use mathlib.Core.Path.{refl, _∙_}
 use Rattle.terms.specs.declared.Rule.the-variants.{Cut}
 use Rattle.float.specs.Convert.{flts}

@@ -5,13 +5,16 @@ use Rattle.float.proofs.convert.whole_part.Statement.{statement}
 use Rattle.float.proofs.convert.whole_part.Tie as tie
 
 returns : tie.Need-returns
-returns c = part-up (c .before .before .before .args .w) _ _ (c .before .before .mantissa-of .ensures .0) (c .before .biased-of .ensures .0) (c .before .before .mantissa-of .ensures .1) (c .before .biased-of .ensures .1) (c .if1 .taken)
+returns c = part-up (c .before .before .before .args .w) _ _ (c .before .before .mantissa-of .ensures .0) (c .before .biased-of .ensures .0)
+    (c .before .before .mantissa-of .ensures .1) (c .before .biased-of .ensures .1) (c .if1 .taken)
 
 returns-2 : tie.Need-returns-2
-returns-2 c = part-down (c .before .before .before .before .args .w) _ _ (c .before .before .before .mantissa-of .ensures .0) (c .before .before .biased-of .ensures .0) (c .before .before .before .mantissa-of .ensures .1) (c .before .before .biased-of .ensures .1) (c .before .if1 .left)
+returns-2 c = part-down (c .before .before .before .before .args .w) _ _ (c .before .before .before .mantissa-of .ensures .0) (c .before .before .biased-of
+    .ensures .0) (c .before .before .before .mantissa-of .ensures .1) (c .before .before .biased-of .ensures .1) (c .before .if1 .left)
 
 returns-3 : tie.Need-returns-3
-returns-3 c = part-none (c .before .before .before .before .args .w) _ _ (c .before .before .before .mantissa-of .ensures .0) (c .before .before .biased-of .ensures .0) (c .before .before .before .mantissa-of .ensures .1) (c .before .before .biased-of .ensures .1) (c .if2 .left)
+returns-3 c = part-none (c .before .before .before .before .args .w) _ _ (c .before .before .before .mantissa-of .ensures .0) (c .before .before .biased-of
+    .ensures .0) (c .before .before .before .mantissa-of .ensures .1) (c .before .before .biased-of .ensures .1) (c .if2 .left)
 
 pub whole-part-spec : {M : Type 1} → statement M
 whole-part-spec =

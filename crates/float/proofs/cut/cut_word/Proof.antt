@@ -29,7 +29,8 @@ returns-2 c =
     let a = s .args in
     let n = c .before .before .before .norm-shift in
     c .store .ensures ∙ sym (settled-same (a .neg) _ _ (omega arith))
-    ∙ top-cut Cut (a .mag) (a .x) (n .result) (s .pre .0) (n .ensures .2) (n .ensures .0) (n .ensures .1) (a .neg) _ (c .before .before .before .before .if1 .left) refl
+    ∙ top-cut Cut (a .mag) (a .x) (n .result) (s .pre .0) (n .ensures .2) (n .ensures .0) (n .ensures .1) (a .neg) _ (c .before .before .before .before .if1
+    .left) refl
     ∙ sym (ap (λ (r : Rule). cutSize r (a .neg) (a .mag * 2 ^ a .x) 1) (c .before .enum-told .given .1))
 
 returns-3 : tie.Need-returns-3
@@ -38,7 +39,8 @@ returns-3 c =
     let a = s .args in
     let n = c .before .before .before .before .norm-shift in
     c .settle .ensures
-    ∙ top-cut Nearest (a .mag) (a .x) (n .result) (s .pre .0) (n .ensures .2) (n .ensures .0) (n .ensures .1) (a .neg) _ (c .before .before .before .before .before .if1 .left) (c .before .nearest .ensures)
+    ∙ top-cut Nearest (a .mag) (a .x) (n .result) (s .pre .0) (n .ensures .2) (n .ensures .0) (n .ensures .1) (a .neg) _ (c .before .before .before .before
+    .before .if1 .left) (c .before .nearest .ensures)
     ∙ sym (ap (λ (r : Rule). cutSize r (a .neg) (a .mag * 2 ^ a .x) 1) (c .before .before .enum-told2 .given .1))
 
 pub cut-word-spec : {M : Type 1} → statement M

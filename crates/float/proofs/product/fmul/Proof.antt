@@ -18,7 +18,8 @@ returns c =
     let s = c .before .before .before .before .before .before .before .before in
     c .cut-word .ensures
     ∙ mul-law (s .args .rule) (s .args .b) (s .args .a) _ _ _ _ _
-    (c .before .before .before .before .before .unlike-signs .ensures ∙ ap₂ unlike (c .before .before .before .before .before .before .before .is-negative .ensures) (c .before .before .before .before .before .before .is-negative2 .ensures))
+    (c .before .before .before .before .before .unlike-signs .ensures ∙ ap₂ unlike (c .before .before .before .before .before .before .before .is-negative
+    .ensures) (c .before .before .before .before .before .before .is-negative2 .ensures))
     (c .before .before .before .before .mantissa-of .ensures .0)
     (c .before .before .before .mantissa-of2 .ensures .0)
     (c .before .before .biased-of .ensures .0)

@@ -21,13 +21,15 @@ returns c = let a = c .before .before .args in root-negative (a .rule) (a .a) (s
 returns-2 : tie.Need-returns-2
 returns-2 c =
     let s = c .before .before .before .before in
-    root-zero (s .args .rule) (s .args .a) _ (sym (c .before .before .before .is-negative .ensures) ∙ c .before .before .if1 .left) (c .before .mantissa-of .ensures .0) (c .if2 .taken)
+    root-zero (s .args .rule) (s .args .a) _ (sym (c .before .before .before .is-negative .ensures) ∙ c .before .before .if1 .left)
+    (c .before .mantissa-of .ensures .0) (c .if2 .taken)
 
 whole-root-requires : tie.Need-whole-root-requires
 whole-root-requires c κs =
     let s = c .before .before .before .before .before in
     let m = c .before .before .mantissa-of in
-    let b = raised (s .args .a) (m .result) (c .biased-of .result) _ (s .pre) (m .ensures .0) (m .ensures .1) (c .before .if2 .left) (up (m .result) (c .biased-of .result) (m .ensures .1)) in
+    let b = raised (s .args .a) (m .result) (c .biased-of .result) _ (s .pre) (m .ensures .0) (m .ensures .1) (c .before .if2 .left)
+    (up (m .result) (c .biased-of .result) (m .ensures .1)) in
     (lt-of-lt-of-le (lit< tt) (b .0), b .1)
 
 traced-requires : tie.Need-traced-requires

@@ -29,7 +29,12 @@ loop-less : tie.Need-loop-less Inv-loop μ-loop
 loop-less c = c .before .loop-test .taken
 
 loop-again : tie.Need-loop-again Inv-loop μ-loop
-loop-again c = record { above = c .before .before .loop .inv .next .above; next = c .mean3 .ensures .0; some = c .mean3 .ensures .1; few = c .mean3 .ensures .2 }
+loop-again c = record {
+  above = c .before .before .loop .inv .next .above;
+  next = c .mean3 .ensures .0;
+  some = c .mean3 .ensures .1;
+  few = c .mean3 .ensures .2;
+}
 
 returns : tie.Need-returns Inv-loop μ-loop
 returns c = let l = c .before .loop .inv in (l .next .last (c .loop-test .left), l .above)

@@ -8,11 +8,15 @@ use Rattle.float.proofs.sum.add_lower.Tie as tie
 sub-cut-word : tie.Need-sub-cut-word
 sub-cut-word c =
     let s = c .before .before .before .before .before in
-    under (s .args .rule) (s .args .neg) (s .args .other) (s .args .hi) (s .args .lo) _ _ _ (s .pre .0) (s .pre .2) (c .before .before .before .before .mantissa-of .ensures .0) (c .before .before .before .mantissa-of2 .ensures .0) (c .before .before .shifted .ensures)
+    under (s .args .rule) (s .args .neg) (s .args .other) (s .args .hi) (s .args .lo) _ _ _ (s .pre .0) (s .pre .2) (c .before .before .before .before
+    .mantissa-of .ensures .0) (c .before .before .before .mantissa-of2 .ensures .0) (c .before .before .shifted .ensures)
 
 add-cut-word-2 : tie.Need-add-cut-word-2
 add-cut-word-2 c =
-    record { fits = sum-fits _ _ _ _ _ (c .before .before .before .before .mantissa-of .ensures .1) (c .before .before .before .mantissa-of2 .ensures .1) (c .before .before .shifted .ensures) }
+    record {
+      fits = sum-fits _ _ _ _ _ (c .before .before .before .before .mantissa-of .ensures .1) (c .before .before .before .mantissa-of2 .ensures .1)
+          (c .before .before .shifted .ensures);
+    }
 
 returns : tie.Need-returns
 returns c =

@@ -9,7 +9,8 @@ returns : tie.Need-returns
 returns c =
     let s = c .before .before .before .before .before in
     c .add-signed .ensures
-    ∙ add-law (s .args .rule) (s .args .b) (s .args .a) _ _ _ _ (c .before .before .before .before .is-negative .ensures) (c .before .before .is-negative2 .ensures) (c .before .before .before .addend-of .ensures) (c .before .addend-of2 .ensures)
+    ∙ add-law (s .args .rule) (s .args .b) (s .args .a) _ _ _ _ (c .before .before .before .before .is-negative .ensures) (c .before .before .is-negative2
+    .ensures) (c .before .before .before .addend-of .ensures) (c .before .addend-of2 .ensures)
 
 pub fadd-spec : {M : Type 1} → statement M
 fadd-spec =

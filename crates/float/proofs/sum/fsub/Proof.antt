@@ -10,7 +10,8 @@ returns : tie.Need-returns
 returns c =
     let s = c .before .before .before .before .before in
     c .add-signed .ensures
-    ∙ sub-law (s .args .rule) (s .args .b) (s .args .a) _ _ _ _ (c .before .before .before .before .is-negative .ensures) (ap not (c .before .before .is-negative2 .ensures)) (c .before .before .before .addend-of .ensures) (c .before .addend-of2 .ensures)
+    ∙ sub-law (s .args .rule) (s .args .b) (s .args .a) _ _ _ _ (c .before .before .before .before .is-negative .ensures)
+    (ap not (c .before .before .is-negative2 .ensures)) (c .before .before .before .addend-of .ensures) (c .before .addend-of2 .ensures)
 
 pub fsub-spec : {M : Type 1} → statement M
 fsub-spec =

@@ -15,7 +15,8 @@ use Rattle.formula.specs.Told.{atOf, endOf}
 use Rattle.formula.proofs.Measure.{leftOver, same-place, later-place}
 use Rattle.formula.proofs.Places.{next-at, next-end}
 use Rattle.formula.proofs.Reading.{stands, next-asks, reads-as, no-level, at-minus, at-bracket, at-leaf, minus-reads, brackets-read}
-use Rattle.formula.proofs.Going.{Going, ends-code, joins-code, going-starts, going-ends, going-on, going-asks, going-later, going-less, reads-small, asks-small}
+use Rattle.formula.proofs.Going.{Going, ends-code, joins-code, going-starts, going-ends, going-on, going-asks, going-later, going-less, reads-small}
+use Rattle.formula.proofs.Going.{asks-small}
 use Rattle.formula.proofs.parts.factor.Reads as factor
 use Rattle.formula.proofs.parts.factor.Kinds as factor-kinds
 use Rattle.formula.proofs.parts.+factor+product+sum.Lts-factor as factor-lts
@@ -84,12 +85,27 @@ pub +factor+product+sum-spec : {M : Type 1} → statement M
 +factor+product+sum-spec =
     close μ-factor μ-product μ-sum
     -- ---- factor
-    (λ t. factor-lts.spec
-    (leaf-reads.Asked, leaf-reads.Learnt, at-of-reads.Asked, at-of-reads.Learnt, byte-at-reads.Asked, byte-at-reads.Learnt, factor-below t, factor.Post, joined-reads.Asked, joined-reads.Learnt, sum-below t, sum.Post, bracketed-reads.Asked, bracketed-reads.Learnt)
+    (λ t. factor-lts.spec (
+      leaf-reads.Asked,
+      leaf-reads.Learnt,
+      at-of-reads.Asked,
+      at-of-reads.Learnt,
+      byte-at-reads.Asked,
+      byte-at-reads.Learnt,
+      factor-below t,
+      factor.Post,
+      joined-reads.Asked,
+      joined-reads.Learnt,
+      sum-below t,
+      sum.Post,
+      bracketed-reads.Asked,
+      bracketed-reads.Learnt,
+    )
     (factor-at t) factor.Post
     -- no level is left
     (λ c κs. c .before .before .before .pre .1)
-    (λ c. let a = c .before .before .before .before .args in reads-as _ _ _ _ (no-level (now (a .text)) (atOf (a .place)) (a .depth) (c .before .before .if1 .taken)) (c .leaf .ensures))
+    (λ c. let a = c .before .before .before .before .args in reads-as _ _ _ _ (no-level (now (a .text)) (atOf (a .place)) (a .depth)
+    (c .before .before .if1 .taken)) (c .leaf .ensures))
     (λ c κs. search needs)
     (λ c κs. search needs)
     -- a minus
@@ -98,13 +114,15 @@ pub +factor+product+sum-spec : {M : Type 1} → statement M
     (λ c κs.
     let s = c .before .before .before .before .before .before in
     let text = now (s .args .text) in
-    let i = begins text (atOf (s .args .place)) _ 0x2D (c .before .before .byte-at .ensures ∙ ap (λ (k : ℕ). getD text k 0) (c .before .before .before .at-of .ensures)) (c .before .if2 .taken) (omega arith) in
+    let i = begins text (atOf (s .args .place)) _ 0x2D (c .before .before .byte-at .ensures ∙ ap (λ (k : ℕ). getD text k 0) (c .before .before .before .at-of
+    .ensures)) (c .before .if2 .taken) (omega arith) in
     let n = next-at (s .args .place) (omega (arith, s .pre .1 .short)) in
     (later-place 0 0 text (atOf (s .args .place)) _ (s .args .depth) _ t (s .pre .0) (omega arith) i (omega arith) (omega arith), next-asks (s .pre .1) i))
     (λ c κs.
     let s = c .before .before .before .before .before .before .before .before in
     let text = now (s .args .text) in
-    let i = begins text (atOf (s .args .place)) _ 0x2D (c .before .before .before .before .byte-at .ensures ∙ ap (λ (k : ℕ). getD text k 0) (c .before .before .before .before .before .at-of .ensures)) (c .before .before .before .if2 .taken) (omega arith) in
+    let i = begins text (atOf (s .args .place)) _ 0x2D (c .before .before .before .before .byte-at .ensures ∙ ap (λ (k : ℕ). getD text k 0)
+    (c .before .before .before .before .before .at-of .ensures)) (c .before .before .before .if2 .taken) (omega arith) in
     let n = next-at (s .args .place) (omega (arith, s .pre .1 .short)) in
     let m = next-end (s .args .place) (omega (arith, s .pre .1 .short)) in
     reads-small _ (s .pre .1 .short) (omega (arith, s .pre .1 .few)) (c .before .factor .ensures))
@@ -112,25 +130,30 @@ pub +factor+product+sum-spec : {M : Type 1} → statement M
     let s = c .before .before .before .before .before .before .before .before .before in
     let a = s .args in
     let text = now (a .text) in
-    let b = c .before .before .before .before .before .byte-at .ensures ∙ ap (λ (k : ℕ). getD text k 0) (c .before .before .before .before .before .before .at-of .ensures) in
+    let b = c .before .before .before .before .before .byte-at .ensures ∙ ap (λ (k : ℕ). getD text k 0) (c .before .before .before .before .before .before
+    .at-of .ensures) in
     let i = begins text (atOf (a .place)) _ 0x2D b (c .before .before .before .before .if2 .taken) (omega arith) in
     let n = next-at (a .place) (omega (arith, s .pre .1 .short)) in
-    reads-as _ _ _ _ (at-minus text (atOf (a .place)) (a .depth) _ (c .before .before .before .before .before .before .before .if1 .left) b (c .before .before .before .before .if2 .taken))
+    reads-as _ _ _ _ (at-minus text (atOf (a .place)) (a .depth) _ (c .before .before .before .before .before .before .before .if1 .left) b
+    (c .before .before .before .before .if2 .taken))
     (minus-reads text (a .place) (s .pre .1 .short) i (now (a .out)) (c .before .before .factor .last .1 .0) (c .joined .last .0) _
-    (reads-as _ _ _ _ (ap (λ (k : ℕ). factorOf (a .depth - 1) (drop k text)) (sym n)) (c .before .before .factor .ensures)) (c .joined .ensures .0) (c .joined .ensures .1)))
+    (reads-as _ _ _ _ (ap (λ (k : ℕ). factorOf (a .depth - 1) (drop k text)) (sym n)) (c .before .before .factor .ensures)) (c .joined .ensures .0)
+    (c .joined .ensures .1)))
     -- a bracket
     (λ c. let z = asks-small (c .before .before .before .before .before .before .before .pre .1) in omega arith)
     (λ c. pos-of-ne-zero (c .before .before .before .before .before .if1 .left))
     (λ c κs.
     let s = c .before .before .before .before .before .before .before in
     let text = now (s .args .text) in
-    let i = begins text (atOf (s .args .place)) _ 0x28 (c .before .before .before .byte-at .ensures ∙ ap (λ (k : ℕ). getD text k 0) (c .before .before .before .before .at-of .ensures)) (c .before .if3 .taken) (omega arith) in
+    let i = begins text (atOf (s .args .place)) _ 0x28 (c .before .before .before .byte-at .ensures ∙ ap (λ (k : ℕ). getD text k 0)
+    (c .before .before .before .before .at-of .ensures)) (c .before .if3 .taken) (omega arith) in
     let n = next-at (s .args .place) (omega (arith, s .pre .1 .short)) in
     (later-place 0 2 text (atOf (s .args .place)) _ (s .args .depth) _ t (s .pre .0) (omega arith) i (omega arith) (omega arith), next-asks (s .pre .1) i))
     (λ c κs.
     let s = c .before .before .before .before .before .before .before .before in
     let text = now (s .args .text) in
-    let i = begins text (atOf (s .args .place)) _ 0x28 (c .before .before .before .before .byte-at .ensures ∙ ap (λ (k : ℕ). getD text k 0) (c .before .before .before .before .before .at-of .ensures)) (c .before .before .if3 .taken) (omega arith) in
+    let i = begins text (atOf (s .args .place)) _ 0x28 (c .before .before .before .before .byte-at .ensures ∙ ap (λ (k : ℕ). getD text k 0)
+    (c .before .before .before .before .before .at-of .ensures)) (c .before .before .if3 .taken) (omega arith) in
     let n = next-at (s .args .place) (omega (arith, s .pre .1 .short)) in
     let m = next-end (s .args .place) (omega (arith, s .pre .1 .short)) in
     (s .pre .1 .short, reads-small _ (s .pre .1 .short) (omega (arith, s .pre .1 .few)) (c .sum .ensures)))
@@ -138,10 +161,12 @@ pub +factor+product+sum-spec : {M : Type 1} → statement M
     let s = c .before .before .before .before .before .before .before .before .before in
     let a = s .args in
     let text = now (a .text) in
-    let b = c .before .before .before .before .before .byte-at .ensures ∙ ap (λ (k : ℕ). getD text k 0) (c .before .before .before .before .before .before .at-of .ensures) in
+    let b = c .before .before .before .before .before .byte-at .ensures ∙ ap (λ (k : ℕ). getD text k 0) (c .before .before .before .before .before .before
+    .at-of .ensures) in
     let i = begins text (atOf (a .place)) _ 0x28 b (c .before .before .before .if3 .taken) (omega arith) in
     let n = next-at (a .place) (omega (arith, s .pre .1 .short)) in
-    reads-as _ _ _ _ (at-bracket text (atOf (a .place)) (a .depth) _ (c .before .before .before .before .before .before .before .if1 .left) b (c .before .before .before .before .if2 .left) (c .before .before .before .if3 .taken))
+    reads-as _ _ _ _ (at-bracket text (atOf (a .place)) (a .depth) _ (c .before .before .before .before .before .before .before .if1 .left) b
+    (c .before .before .before .before .if2 .left) (c .before .before .before .if3 .taken))
     (brackets-read text (a .place) (s .pre .1 .short) i (now (a .out)) (c .before .sum .last .1 .0) _
     (reads-as _ _ _ _ (ap (λ (k : ℕ). sumOf (a .depth - 1) (drop k text)) (sym n)) (c .before .sum .ensures)) (c .bracketed .ensures)))
     -- a leaf
@@ -149,10 +174,22 @@ pub +factor+product+sum-spec : {M : Type 1} → statement M
     (λ c.
     let a = c .before .before .before .before .before .before .before .before .args in
     let text = now (a .text) in
-    reads-as _ _ _ _ (at-leaf text (atOf (a .place)) (a .depth) _ (c .before .before .before .before .before .before .if1 .left) (c .before .before .before .before .byte-at .ensures ∙ ap (λ (k : ℕ). getD text k 0) (c .before .before .before .before .before .at-of .ensures)) (c .before .before .before .if2 .left) (c .before .before .if3 .left)) (c .leaf2 .ensures)))
+    reads-as _ _ _ _ (at-leaf text (atOf (a .place)) (a .depth) _ (c .before .before .before .before .before .before .if1 .left)
+    (c .before .before .before .before .byte-at .ensures ∙ ap (λ (k : ℕ). getD text k 0) (c .before .before .before .before .before .at-of .ensures))
+    (c .before .before .before .if2 .left) (c .before .before .if3 .left)) (c .leaf2 .ensures)))
     -- ---- product
-    (λ t. product-lts.spec
-    (factor-below t, factor.Post, at-of-reads.Asked, at-of-reads.Learnt, byte-at-reads.Asked, byte-at-reads.Learnt, product-code-reads.Asked, product-code-reads.Learnt, joined-reads.Asked, joined-reads.Learnt)
+    (λ t. product-lts.spec (
+      factor-below t,
+      factor.Post,
+      at-of-reads.Asked,
+      at-of-reads.Learnt,
+      byte-at-reads.Asked,
+      byte-at-reads.Learnt,
+      product-code-reads.Asked,
+      product-code-reads.Learnt,
+      joined-reads.Asked,
+      joined-reads.Learnt,
+    )
     (product-at t) product.Post product-Inv-loop product-μ-loop
     -- the first operand
     (λ c κs. let s = c .before .before in (same-place 0 (now (s .args .text)) (atOf (s .args .place)) (s .args .depth) t (s .pre .0), s .pre .1))
@@ -164,44 +201,67 @@ pub +factor+product+sum-spec : {M : Type 1} → statement M
     (λ c.
     let l = c .before .before .before .before .loop in
     let text = now (c .before .before .before .before .before .before .before .before .args .text) in
-    going-ends (c .before .before .before .before .before .before .before .before .pre .1 .short) (c .before .before .before .before .before .factor .ensures) (l .inv)
-    (ends-code productSign text (atOf (l .left)) _ _ (c .before .before .byte-at .ensures ∙ ap (λ (i : ℕ). getD text i 0) (c .before .before .before .at-of .ensures)) (c .before .product-code .ensures) (c .if1 .taken)))
+    going-ends (c .before .before .before .before .before .before .before .before .pre .1 .short) (c .before .before .before .before .before .factor .ensures)
+    (l .inv)
+    (ends-code productSign text (atOf (l .left)) _ _ (c .before .before .byte-at .ensures ∙ ap (λ (i : ℕ). getD text i 0) (c .before .before .before .at-of
+    .ensures)) (c .before .product-code .ensures) (c .if1 .taken)))
     -- a sign and its right operand
     (λ c.
     let s = c .before .before .before .before .before .before .before .before .before in
     let l = c .before .before .before .before .before .loop in
     let text = now (s .args .text) in
-    let J = joins-code productSign text (atOf (l .left)) _ _ refl (c .before .before .before .byte-at .ensures ∙ ap (λ (i : ℕ). getD text i 0) (c .before .before .before .before .at-of .ensures)) (c .before .before .product-code .ensures) (c .before .if1 .left) in
+    let J = joins-code productSign text (atOf (l .left)) _ _ refl (c .before .before .before .byte-at .ensures ∙ ap (λ (i : ℕ). getD text i 0)
+    (c .before .before .before .before .at-of .ensures)) (c .before .before .product-code .ensures) (c .before .if1 .left) in
     let z = asks-small (going-asks (s .pre .1 .short) (s .pre .1) (l .inv) J) in
     omega arith)
     (λ c κs.
     let s = c .before .before .before .before .before .before .before .before .before in
     let l = c .before .before .before .before .before .loop in
     let text = now (s .args .text) in
-    let J = joins-code productSign text (atOf (l .left)) _ _ refl (c .before .before .before .byte-at .ensures ∙ ap (λ (i : ℕ). getD text i 0) (c .before .before .before .before .at-of .ensures)) (c .before .before .product-code .ensures) (c .before .if1 .left) in
-    let L = going-later (s .pre .1 .short) (s .pre .1) (l .inv) J in
-    (later-place 1 0 text (atOf (s .args .place)) _ (s .args .depth) _ t (s .pre .0) (omega arith) (L .0) (L .1) (omega arith), going-asks (s .pre .1 .short) (s .pre .1) (l .inv) J))
+    let J = joins-code productSign text (atOf (l .left)) _ _ refl (c .before .before .before .byte-at .ensures ∙ ap (λ (i : ℕ). getD text i 0)
+    (c .before .before .before .before .at-of .ensures)) (c .before .before .product-code .ensures) (c .before .if1 .left) in
+    let L = going-later (s .pre .1 .short) (s .pre .1) (l .inv) J in (
+      later-place 1 0 text (atOf (s .args .place)) _ (s .args .depth) _ t (s .pre .0) (omega arith) (L .0) (L .1) (omega arith),
+      going-asks (s .pre .1 .short)
+          (s .pre .1) (l .inv) J,
+    ))
     (λ c κs.
     let s = c .before .before .before .before .before .before .before .before .before .before .before in
     let l = c .before .before .before .before .before .before .before .loop in
     let text = now (s .args .text) in
-    let J = joins-code productSign text (atOf (l .left)) _ _ refl (c .before .before .before .before .before .byte-at .ensures ∙ ap (λ (i : ℕ). getD text i 0) (c .before .before .before .before .before .before .at-of .ensures)) (c .before .before .before .before .product-code .ensures) (c .before .before .before .if1 .left) in
+    let J = joins-code productSign text (atOf (l .left)) _ _ refl (c .before .before .before .before .before .byte-at .ensures ∙ ap (λ (i : ℕ). getD text i 0)
+    (c .before .before .before .before .before .before .at-of .ensures)) (c .before .before .before .before .product-code .ensures)
+    (c .before .before .before .if1 .left) in
     reads-small _ (s .pre .1 .short) (going-later (s .pre .1 .short) (s .pre .1) (l .inv) J .2) (c .before .factor2 .ensures))
     (λ c.
     let s = c .before .before .before .before .before .before .before .before .before .before .before .before in
     let l = c .before .before .before .before .before .before .before .before .loop in
     let text = now (s .args .text) in
-    let J = joins-code productSign text (atOf (l .left)) _ _ refl (c .before .before .before .before .before .before .byte-at .ensures ∙ ap (λ (i : ℕ). getD text i 0) (c .before .before .before .before .before .before .before .at-of .ensures)) (c .before .before .before .before .before .product-code .ensures) (c .before .before .before .before .if1 .left) in
+    let J = joins-code productSign text (atOf (l .left)) _ _ refl (c .before .before .before .before .before .before .byte-at .ensures
+    ∙ ap (λ (i : ℕ). getD text i 0) (c .before .before .before .before .before .before .before .at-of .ensures)) (c .before .before .before .before .before
+    .product-code .ensures) (c .before .before .before .before .if1 .left) in
     going-less (l .left) (s .pre .1 .short) J (c .before .before .factor2 .ensures) (c .joined .ensures .0))
     (λ c.
     let s = c .before .before .before .before .before .before .before .before .before .before .before .before in
     let l = c .before .before .before .before .before .before .before .before .loop in
     let text = now (s .args .text) in
-    let J = joins-code productSign text (atOf (l .left)) _ _ refl (c .before .before .before .before .before .before .byte-at .ensures ∙ ap (λ (i : ℕ). getD text i 0) (c .before .before .before .before .before .before .before .at-of .ensures)) (c .before .before .before .before .before .product-code .ensures) (c .before .before .before .before .if1 .left) in
+    let J = joins-code productSign text (atOf (l .left)) _ _ refl (c .before .before .before .before .before .before .byte-at .ensures
+    ∙ ap (λ (i : ℕ). getD text i 0) (c .before .before .before .before .before .before .before .at-of .ensures)) (c .before .before .before .before .before
+    .product-code .ensures) (c .before .before .before .before .if1 .left) in
     going-on (s .pre .1 .short) (l .inv) J (c .before .before .factor2 .ensures) (c .joined .ensures .1) (c .joined .ensures .0)))
     -- ---- sum
-    (λ t. sum-lts.spec
-    (product-below t, product.Post, at-of-reads.Asked, at-of-reads.Learnt, byte-at-reads.Asked, byte-at-reads.Learnt, sum-code-reads.Asked, sum-code-reads.Learnt, joined-reads.Asked, joined-reads.Learnt)
+    (λ t. sum-lts.spec (
+      product-below t,
+      product.Post,
+      at-of-reads.Asked,
+      at-of-reads.Learnt,
+      byte-at-reads.Asked,
+      byte-at-reads.Learnt,
+      sum-code-reads.Asked,
+      sum-code-reads.Learnt,
+      joined-reads.Asked,
+      joined-reads.Learnt,
+    )
     (sum-at t) sum.Post sum-Inv-loop sum-μ-loop
     -- the first operand
     (λ c κs. let s = c .before .before in (same-place 1 (now (s .args .text)) (atOf (s .args .place)) (s .args .depth) t (s .pre .0), s .pre .1))
@@ -213,38 +273,51 @@ pub +factor+product+sum-spec : {M : Type 1} → statement M
     (λ c.
     let l = c .before .before .before .before .loop in
     let text = now (c .before .before .before .before .before .before .before .before .args .text) in
-    going-ends (c .before .before .before .before .before .before .before .before .pre .1 .short) (c .before .before .before .before .before .product .ensures) (l .inv)
-    (ends-code sumSign text (atOf (l .left)) _ _ (c .before .before .byte-at .ensures ∙ ap (λ (i : ℕ). getD text i 0) (c .before .before .before .at-of .ensures)) (c .before .sum-code .ensures) (c .if1 .taken)))
+    going-ends (c .before .before .before .before .before .before .before .before .pre .1 .short) (c .before .before .before .before .before .product .ensures)
+    (l .inv)
+    (ends-code sumSign text (atOf (l .left)) _ _ (c .before .before .byte-at .ensures ∙ ap (λ (i : ℕ). getD text i 0) (c .before .before .before .at-of
+    .ensures)) (c .before .sum-code .ensures) (c .if1 .taken)))
     -- a sign and its right operand
     (λ c.
     let s = c .before .before .before .before .before .before .before .before .before in
     let l = c .before .before .before .before .before .loop in
     let text = now (s .args .text) in
-    let J = joins-code sumSign text (atOf (l .left)) _ _ refl (c .before .before .before .byte-at .ensures ∙ ap (λ (i : ℕ). getD text i 0) (c .before .before .before .before .at-of .ensures)) (c .before .before .sum-code .ensures) (c .before .if1 .left) in
+    let J = joins-code sumSign text (atOf (l .left)) _ _ refl (c .before .before .before .byte-at .ensures ∙ ap (λ (i : ℕ). getD text i 0)
+    (c .before .before .before .before .at-of .ensures)) (c .before .before .sum-code .ensures) (c .before .if1 .left) in
     let z = asks-small (going-asks (s .pre .1 .short) (s .pre .1) (l .inv) J) in
     omega arith)
     (λ c κs.
     let s = c .before .before .before .before .before .before .before .before .before in
     let l = c .before .before .before .before .before .loop in
     let text = now (s .args .text) in
-    let J = joins-code sumSign text (atOf (l .left)) _ _ refl (c .before .before .before .byte-at .ensures ∙ ap (λ (i : ℕ). getD text i 0) (c .before .before .before .before .at-of .ensures)) (c .before .before .sum-code .ensures) (c .before .if1 .left) in
-    let L = going-later (s .pre .1 .short) (s .pre .1) (l .inv) J in
-    (later-place 2 1 text (atOf (s .args .place)) _ (s .args .depth) _ t (s .pre .0) (omega arith) (L .0) (L .1) (omega arith), going-asks (s .pre .1 .short) (s .pre .1) (l .inv) J))
+    let J = joins-code sumSign text (atOf (l .left)) _ _ refl (c .before .before .before .byte-at .ensures ∙ ap (λ (i : ℕ). getD text i 0)
+    (c .before .before .before .before .at-of .ensures)) (c .before .before .sum-code .ensures) (c .before .if1 .left) in
+    let L = going-later (s .pre .1 .short) (s .pre .1) (l .inv) J in (
+      later-place 2 1 text (atOf (s .args .place)) _ (s .args .depth) _ t (s .pre .0) (omega arith) (L .0) (L .1) (omega arith),
+      going-asks (s .pre .1 .short)
+          (s .pre .1) (l .inv) J,
+    ))
     (λ c κs.
     let s = c .before .before .before .before .before .before .before .before .before .before .before in
     let l = c .before .before .before .before .before .before .before .loop in
     let text = now (s .args .text) in
-    let J = joins-code sumSign text (atOf (l .left)) _ _ refl (c .before .before .before .before .before .byte-at .ensures ∙ ap (λ (i : ℕ). getD text i 0) (c .before .before .before .before .before .before .at-of .ensures)) (c .before .before .before .before .sum-code .ensures) (c .before .before .before .if1 .left) in
+    let J = joins-code sumSign text (atOf (l .left)) _ _ refl (c .before .before .before .before .before .byte-at .ensures ∙ ap (λ (i : ℕ). getD text i 0)
+    (c .before .before .before .before .before .before .at-of .ensures)) (c .before .before .before .before .sum-code .ensures)
+    (c .before .before .before .if1 .left) in
     reads-small _ (s .pre .1 .short) (going-later (s .pre .1 .short) (s .pre .1) (l .inv) J .2) (c .before .product2 .ensures))
     (λ c.
     let s = c .before .before .before .before .before .before .before .before .before .before .before .before in
     let l = c .before .before .before .before .before .before .before .before .loop in
     let text = now (s .args .text) in
-    let J = joins-code sumSign text (atOf (l .left)) _ _ refl (c .before .before .before .before .before .before .byte-at .ensures ∙ ap (λ (i : ℕ). getD text i 0) (c .before .before .before .before .before .before .before .at-of .ensures)) (c .before .before .before .before .before .sum-code .ensures) (c .before .before .before .before .if1 .left) in
+    let J = joins-code sumSign text (atOf (l .left)) _ _ refl (c .before .before .before .before .before .before .byte-at .ensures
+    ∙ ap (λ (i : ℕ). getD text i 0) (c .before .before .before .before .before .before .before .at-of .ensures)) (c .before .before .before .before .before
+    .sum-code .ensures) (c .before .before .before .before .if1 .left) in
     going-less (l .left) (s .pre .1 .short) J (c .before .before .product2 .ensures) (c .joined .ensures .0))
     (λ c.
     let s = c .before .before .before .before .before .before .before .before .before .before .before .before in
     let l = c .before .before .before .before .before .before .before .before .loop in
     let text = now (s .args .text) in
-    let J = joins-code sumSign text (atOf (l .left)) _ _ refl (c .before .before .before .before .before .before .byte-at .ensures ∙ ap (λ (i : ℕ). getD text i 0) (c .before .before .before .before .before .before .before .at-of .ensures)) (c .before .before .before .before .before .sum-code .ensures) (c .before .before .before .before .if1 .left) in
+    let J = joins-code sumSign text (atOf (l .left)) _ _ refl (c .before .before .before .before .before .before .byte-at .ensures
+    ∙ ap (λ (i : ℕ). getD text i 0) (c .before .before .before .before .before .before .before .at-of .ensures)) (c .before .before .before .before .before
+    .sum-code .ensures) (c .before .before .before .before .if1 .left) in
     going-on (s .pre .1 .short) (l .inv) J (c .before .before .product2 .ensures) (c .joined .ensures .1) (c .joined .ensures .0)))

@@ -26,10 +26,12 @@ returns-2 c =
     let at = c .before .before .before .before .at-of in
     let d = c .before .are-digits in
     none-reads t (s .args .place) (now (s .args .out)) (now (s .args .out)) refl
-    (no-digits t (atOf (s .args .place)) (omega (arith, s .pre .0 .inside, c .before .before .before .if1 .left, at .ensures)) (digits-told t (at .result) (atOf (s .args .place)) (d .ensures) (at .ensures) ∙ not-true (d .result) (c .if2 .taken)))
+    (no-digits t (atOf (s .args .place)) (omega (arith, s .pre .0 .inside, c .before .before .before .if1 .left, at .ensures))
+    (digits-told t (at .result) (atOf (s .args .place)) (d .ensures) (at .ensures) ∙ not-true (d .result) (c .if2 .taken)))
 
 add-result : tie.Need-add-result
-add-result c = let s = c .before .before .before .before .before .before .before .before .before in let A = s .pre .0 in omega (arith, place-is (s .args .place), A .few, A .inside, A .short)
+add-result c = let s = c .before .before .before .before .before .before .before .before .before in let A = s .pre .0
+    in omega (arith, place-is (s .args .place), A .few, A .inside, A .short)
 
 returns-3 : tie.Need-returns-3
 returns-3 c =
@@ -40,9 +42,16 @@ returns-3 c =
     let at = c .before .before .before .before .before .before .before .at-of in
     let end = c .before .end-of in
     let d = c .before .before .before .before .are-digits in
-    constant-reads t p o (c .copy .last .1 .0) (s .pre .0 .short) (s .pre .1) (omega (arith, s .pre .0 .inside, c .before .before .before .before .before .before .if1 .left, at .ensures))
+    constant-reads t p o (c .copy .last .1 .0) (s .pre .0 .short) (s .pre .1) (omega (
+      arith,
+      s .pre .0 .inside,
+      c .before .before .before .before .before
+          .before .if1 .left,
+      at .ensures,
+    ))
     (digits-told t (at .result) (atOf p) (d .ensures) (at .ensures) ∙ not-false (d .result) (c .before .before .before .if2 .left)) refl
-    (c .copy .ensures ∙ ap (λ (i : ℕ). sets o i (take 9 (drop (at .result) t))) (end .ensures) ∙ ap (λ (i : ℕ). sets o (endOf p) (take 9 (drop i t))) (at .ensures))
+    (c .copy .ensures ∙ ap (λ (i : ℕ). sets o i (take 9 (drop (at .result) t))) (end .ensures) ∙ ap (λ (i : ℕ). sets o (endOf p) (take 9 (drop i t)))
+    (at .ensures))
 
 pub constant-spec : {M : Type 1} → statement M
 constant-spec =

@@ -13,4 +13,5 @@ returns : tie.Need-returns
 returns c = let a = c .before .args in (refl, ap (λ (i : ℕ). set (now (a .out)) i (a .b)) (c .end-of .ensures))
 
 pub letter-spec : {M : Type 1} → statement M
-letter-spec = tie.close (tie.spec (λ c κs. search needs) (λ c. omega (arith, c .end-of .ensures, end-small (c .before .args .place) (c .before .pre))) (λ c. search needs) returns)
+letter-spec = tie.close (tie.spec (λ c κs. search needs) (λ c. omega (arith, c .end-of .ensures, end-small (c .before .args .place) (c .before .pre)))
+    (λ c. search needs) returns)

@@ -9,8 +9,10 @@ use Rattle.formula.proofs.postfix.pushed.Tie as tie
 returns : tie.Need-returns
 returns c =
     let w = c .before .before .before .before .before .before .before .before .before .before .before .args .w in (
-      ap (λ (n : ℕ). record { end = w .end + 8; height = w .height + 1; need = n; proper = w .proper && c .before .is-proper .result }) (c .before .before .greater .ensures)
-          ∙ ap (λ (t : Bool). record { end = w .end + 8; height = w .height + 1; need = max (w .need) (w .height + 1); proper = w .proper && t }) (c .before .is-proper .ensures),
+      ap (λ (n : ℕ). record { end = w .end + 8; height = w .height + 1; need = n; proper = w .proper && c .before .is-proper .result })
+          (c .before .before .greater .ensures)
+          ∙ ap (λ (t : Bool). record { end = w .end + 8; height = w .height + 1; need = max (w .need) (w .height + 1); proper = w .proper && t })
+          (c .before .is-proper .ensures),
       c .before .before .before .before .before .before .before .before .push-record .ensures,
     )
 

@@ -34,8 +34,11 @@ loop-again c =
     let l = c .before .before .before .before in
     let s = now (l .before .before .args .s) in
     let i = l .loop .i in
-    let d : isDigit (getD s i 0) ≡ true = sym (c .before .is-digit .ensures) ∙ not-false _ (c .if1 .left) in
-    (omega arith, l .loop .inv .1 ∙ digits-from s i (omega arith) ∙ ap (λ (x : Bool). x && areDigits (drop (suc i) s)) d ∙ ap (λ (n : ℕ). areDigits (drop n s)) (sym (add-one i)))
+    let d : isDigit (getD s i 0) ≡ true = sym (c .before .is-digit .ensures) ∙ not-false _ (c .if1 .left) in (
+      omega arith,
+      l .loop .inv .1 ∙ digits-from s i (omega arith) ∙ ap (λ (x : Bool). x && areDigits (drop (suc i) s)) d ∙ ap (λ (n : ℕ). areDigits (drop n s))
+          (sym (add-one i)),
+    )
 
 returns-2 : tie.Need-returns-2 Inv-loop μ-loop
 returns-2 c = sym (c .before .loop .inv .1 ∙ ap areDigits (drop-of-length-le (now (c .before .before .before .args .s)) (c .loop-test .left)))

@@ -11,7 +11,11 @@ use Rattle.formula.proofs.words.hex_word.Statement.{statement}
 use Rattle.formula.proofs.words.hex_word.Tie as tie
 
 pair-requires : tie.Need-pair-requires
-pair-requires c κs = let p = c .before .before .before in let s = now (p .args .s) in (digits-at s 0 (p .pre .1) (omega arith), digits-at s 1 (p .pre .1) (omega arith))
+pair-requires c κs = let p = c .before .before .before in let s = now (p .args .s) in (
+  digits-at s 0 (p .pre .1) (omega arith),
+  digits-at s 1 (p .pre .1)
+      (omega arith),
+)
 
 pair-requires-2 : tie.Need-pair-requires-2
 pair-requires-2 c κs =
@@ -35,7 +39,8 @@ returns : tie.Need-returns
 returns c =
     let p = c .before .before .before .before .before .before .before .before .before .before .before .before .before .before in
     let e : c .word .result
-    ≡ ((c .before .before .before .before .before .before .before .before .before .before .pair .result * 256 + c .before .before .before .before .before .before .before .pair2 .result) * 256
+    ≡ ((c .before .before .before .before .before .before .before .before .before .before .pair .result * 256 + c .before .before .before .before .before
+    .before .before .pair2 .result) * 256
     + c .before .before .before .before .pair3 .result) * 256
     + c .before .pair4 .result =
     c .word .ensures in

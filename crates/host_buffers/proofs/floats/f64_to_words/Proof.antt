@@ -1,4 +1,5 @@
--- `host_buffers::floats::f64_to_words` meets its contract: its tests are the definition's, in the same order, and nothing is written before all are passed. Assumes nothing.
+-- `host_buffers::floats::f64_to_words` meets its contract: its tests are the definition's, in the same order, and nothing is written before all are passed.
+-- Assumes nothing.
 use mathlib.Core.Path.{sym, ap, _∙_}
 use mathlib.Core.List.{_++_}
 use Prim.Native.Nat.{_*_, _/_}
@@ -23,13 +24,15 @@ returns-2 : tie.Need-returns-2
 returns-2 c =
     let b = c .before .before in
     let a = b .before .before .before .before .args in
-    part-floats (a .rule) (now (a .floats)) (now (a .out)) (sym (b .before .is-rule .ensures) ∙ not-false _ (b .if1 .left)) _ (c .before .if2 .taken) (c .away2 .ensures)
+    part-floats (a .rule) (now (a .floats)) (now (a .out)) (sym (b .before .is-rule .ensures) ∙ not-false _ (b .if1 .left)) _ (c .before .if2 .taken)
+    (c .away2 .ensures)
 
 returns-3 : tie.Need-returns-3
 returns-3 c =
     let b = c .before .before .before in
     let a = b .before .before .before .before .args in
-    no-room-floats (a .rule) (now (a .floats)) (now (a .out)) (sym (b .before .is-rule .ensures) ∙ not-false _ (b .if1 .left)) _ (c .before .before .if2 .left) (c .before .if3 .taken)
+    no-room-floats (a .rule) (now (a .floats)) (now (a .out)) (sym (b .before .is-rule .ensures) ∙ not-false _ (b .if1 .left)) _ (c .before .before .if2 .left)
+    (c .before .if3 .taken)
     (c .away3 .ensures)
 
 returns-4 : tie.Need-returns-4
@@ -41,7 +44,8 @@ returns-4 c =
     let a = b .before .before .before .before .args in
     let f = now (a .floats) in
     let out = now (a .out) in
-    floats-written (a .rule) f out (sym (b .before .is-rule .ensures) ∙ not-false _ (b .if1 .left)) (l .before .look .result) (l .before .before .before .before .if2 .left)
+    floats-written (a .rule) f out (sym (b .before .is-rule .ensures) ∙ not-false _ (b .if1 .left)) (l .before .look .result) (l .before .before .before .before
+    .if2 .left)
     (l .before .before .before .if3 .left)
     (l .before .look .ensures ∙ ap (λ (r : Rule). replyTo (floatEntries r f)) how)
     _
@@ -53,7 +57,8 @@ returns-5 c =
     let b = c .before .before .before .before .before in
     let a = b .before .before .before .before .args in
     let f = now (a .floats) in
-    bad-float (a .rule) f (now (a .out)) (sym (b .before .is-rule .ensures) ∙ not-false _ (b .if1 .left)) (c .before .look .result) (c .before .before .before .before .if2 .left)
+    bad-float (a .rule) f (now (a .out)) (sym (b .before .is-rule .ensures) ∙ not-false _ (b .if1 .left)) (c .before .look .result)
+    (c .before .before .before .before .if2 .left)
     (c .before .before .before .if3 .left)
     (c .before .look .ensures ∙ ap (λ (r : Rule). replyTo (floatEntries r f)) (c .before .before .rule-of .ensures))
     (c .if4 .left)

@@ -20,7 +20,8 @@ returns : tie.Need-returns Inv-loop μ-loop
 returns c =
     let l = c .before .before .before in
     let a = l .before .before .args in
-    looks-bad (floatEntry (a .rule) (now (a .floats))) _ _ _ (l .loop .inv .0) (c .before .before .loop-test .taken) (c .before .entry-at .result) (c .before .entry-at .ensures .0)
+    looks-bad (floatEntry (a .rule) (now (a .floats))) _ _ _ (l .loop .inv .0) (c .before .before .loop-test .taken) (c .before .entry-at .result)
+    (c .before .entry-at .ensures .0)
     (c .if1 .taken)
 
 loop-again : tie.Need-loop-again Inv-loop μ-loop
@@ -28,7 +29,8 @@ loop-again c =
     let l = c .before .before .before .before in
     let a = l .before .before .args in
     let e = c .before .before .entry-at in (
-      looks-on (floatEntry (a .rule) (now (a .floats))) _ _ _ (l .loop .inv .0) (c .before .before .before .loop-test .taken) (e .result) (e .ensures .0) (c .before .if1 .left),
+      looks-on (floatEntry (a .rule) (now (a .floats))) _ _ _ (l .loop .inv .0) (c .before .before .before .loop-test .taken) (e .result) (e .ensures .0)
+          (c .before .if1 .left),
       omega arith,
     )
 

@@ -27,7 +27,8 @@ loop-again : tie.Need-loop-again Inv-loop μ-loop
 loop-again c =
     let l = c .before .before .before .before .before .before in
     let s = l .before .before .before in
-    write-on 4 le4 (λ x. refl) (floatEntry (s .args .rule) (now (s .args .floats))) (now (s .args .out)) (l .loop .out) _ _ (l .loop .i) (s .pre) (c .before .before .before .before .before .loop-test .taken) (l .loop .inv .0)
+    write-on 4 le4 (λ x. refl) (floatEntry (s .args .rule) (now (s .args .floats))) (now (s .args .out)) (l .loop .out) _ _ (l .loop .i) (s .pre)
+    (c .before .before .before .before .before .loop-test .taken) (l .loop .inv .0)
     (c .before .before .put-word .ensures ∙ ap (λ (e : Entry). le4 (e .bits)) (c .before .before .before .before .entry-at .ensures .0))
 
 returns : tie.Need-returns Inv-loop μ-loop

@@ -26,7 +26,8 @@ returns : tie.Need-returns Inv-loop μ-loop
 returns c =
     let l = c .before .before .before in
     let words = now (l .before .before .args .words) in
-    looks-bad (wordEntry words) _ _ 0 (l .loop .inv) (c .before .before .loop-test .taken) (c .before .entry-at .result) (c .before .entry-at .ensures) (c .if1 .taken)
+    looks-bad (wordEntry words) _ _ 0 (l .loop .inv) (c .before .before .loop-test .taken) (c .before .entry-at .result) (c .before .entry-at .ensures)
+    (c .if1 .taken)
 
 never-rounded : (a : Outward) → outwardEntry a .rounded ≡ 0
 never-rounded (Float x) = refl

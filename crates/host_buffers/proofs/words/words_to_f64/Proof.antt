@@ -1,4 +1,5 @@
--- `host_buffers::words::words_to_f64` meets its contract: its tests are the definition's, in the same order, and nothing is written before all are passed. Assumes nothing.
+-- `host_buffers::words::words_to_f64` meets its contract: its tests are the definition's, in the same order, and nothing is written before all are passed.
+-- Assumes nothing.
 use denote.Ref.{now}
 use borrow.Author.Needs.{needs}
 use Rattle.host_buffers.proofs.Answers.{part-words, no-room-words, bad-word, words-written}
@@ -22,7 +23,8 @@ returns-3 c =
     let l = c .before .before .before .before in
     let b = l .before .before .before in
     let a = b .before .before .before .args in
-    words-written (now (a .words)) (now (a .out)) (l .before .look .result) (b .if1 .left) (l .before .before .if2 .left) (l .before .look .ensures) _ (l .if3 .taken) (w .ensures)
+    words-written (now (a .words)) (now (a .out)) (l .before .look .result) (b .if1 .left) (l .before .before .if2 .left) (l .before .look .ensures) _
+    (l .if3 .taken) (w .ensures)
 
 returns-4 : tie.Need-returns-4
 returns-4 c =

@@ -27,7 +27,8 @@ loop-again : tie.Need-loop-again Inv-loop μ-loop
 loop-again c =
     let l = c .before .before .before .before .before .before in
     let s = l .before .before .before in
-    write-on 8 le8 (λ x. refl) (wordEntry (now (s .args .words))) (now (s .args .out)) (l .loop .out) _ _ (l .loop .i) (s .pre) (c .before .before .before .before .before .loop-test .taken) (l .loop .inv .0)
+    write-on 8 le8 (λ x. refl) (wordEntry (now (s .args .words))) (now (s .args .out)) (l .loop .out) _ _ (l .loop .i) (s .pre)
+    (c .before .before .before .before .before .loop-test .taken) (l .loop .inv .0)
     (c .before .before .put-eight .ensures ∙ ap (λ (e : Entry). le8 (e .bits)) (c .before .before .before .before .entry-at .ensures))
 
 returns : tie.Need-returns Inv-loop μ-loop

@@ -1,4 +1,5 @@
--- `host_floats::entry::f64_to_word` meets its contract: its steps are those of the cut, from 2^63 on it overflows, and each refusal is the definition's. Assumes nothing.
+-- `host_floats::entry::f64_to_word` meets its contract: its steps are those of the cut, from 2^63 on it overflows, and each refusal is the definition's.
+-- Assumes nothing.
 use mathlib.Core.Path.{sym, ap, _∙_}
 use borrow.Author.Needs.{needs}
 use borrow.Author.Tests.{eq-eqb}
@@ -32,7 +33,8 @@ judge-requires c κs =
     let b = c .before .before in
     let s = b .before .before in
     let a = s .args in
-    own-bits-at (a .bits) _ _ (s .fits .bits .fits) (at-least (a .rule) (a .bits) (b .before .if1 .left) _ (b .steps .ensures)) (c .before .if2 .left) (c .word-at .ensures)
+    own-bits-at (a .bits) _ _ (s .fits .bits .fits) (at-least (a .rule) (a .bits) (b .before .if1 .left) _ (b .steps .ensures)) (c .before .if2 .left)
+    (c .word-at .ensures)
 
 returns-4 : tie.Need-returns-4
 returns-4 c =
@@ -43,7 +45,8 @@ returns-4 c =
     let low = c .before .before .if2 .left in
     c .judge .ensures
     ∙ ap (judgedOf (a .bits)) (judged-in (a .rule) (a .bits) some _ is low _ (c .before .word-at .ensures))
-    ∙ sym (judged-at (a .rule) (a .bits) some (not-endless (a .rule) (a .bits) some _ is low) (not-minus (a .rule) (a .bits) some _ is) (not-plus (a .rule) (a .bits) some _ is))
+    ∙ sym (judged-at (a .rule) (a .bits) some (not-endless (a .rule) (a .bits) some _ is low) (not-minus (a .rule) (a .bits) some _ is)
+    (not-plus (a .rule) (a .bits) some _ is))
 
 pub f64-to-word-spec : {M : Type 1} → statement M
 f64-to-word-spec =

@@ -15,7 +15,8 @@ float-from-bits c = no-nan binary64 _ (c .double-bits .ensures .1)
 returns : tie.Need-returns
 returns c =
     let b = c .before .before in
-    ap (λ (p : ℕ). Float (ofBits binary64 p)) (c .double-bits .ensures .0) ∙ sym (goes-out (b .before .args .word) (sym (b .is-proper .ensures) ∙ c .before .if1 .taken))
+    ap (λ (p : ℕ). Float (ofBits binary64 p)) (c .double-bits .ensures .0) ∙ sym (goes-out (b .before .args .word) (sym (b .is-proper .ensures)
+    ∙ c .before .if1 .taken))
 
 returns-2 : tie.Need-returns-2
 returns-2 c = sym (stays-in (c .before .before .args .word) (sym (c .before .is-proper .ensures) ∙ c .if1 .left))

@@ -7,7 +7,8 @@ use Rattle.listing.proofs.text.add_hex.Tie as tie
 returns : tie.Need-returns
 returns c =
     let k = c .before .before .before .before .before in
-    hexed (c .before .before .before .before .before .before .before .before .args .b) (k .before .digit .result) (k .digit2 .result) (k .before .digit .ensures) (k .digit2 .ensures) (c .before .before .add .ensures)
+    hexed (c .before .before .before .before .before .before .before .before .args .b) (k .before .digit .result) (k .digit2 .result)
+    (k .before .digit .ensures) (k .digit2 .ensures) (c .before .before .add .ensures)
 
 pub add-hex-spec : {M : Type 1} → statement M
 add-hex-spec =

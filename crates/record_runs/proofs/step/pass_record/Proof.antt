@@ -20,7 +20,8 @@ use Rattle.record_runs.proofs.step.pass_record.Tie as tie
 abbrev At-frame : Type 0
 At-frame = tie.After-known-told
 
-frame : (k : At-frame) → let l = now (k .before .before .before .before .before .before .args .rest) in frameUnder mostPayload l ≡ Framed (k .before .n .given .0 .0)
+frame : (k : At-frame) → let l = now (k .before .before .before .before .before .before .args .rest) in frameUnder mostPayload l ≡ Framed (k .before .n .given
+    .0 .0)
 frame k = sym (k .before .before .before .read-frame .ensures) ∙ k .before .n .given .1
 
 fit : (k : At-frame) → Fits mostPayload (now (k .before .before .before .before .before .before .args .rest)) (k .before .n .given .0 .0)
@@ -46,7 +47,7 @@ pass-kind-requires c κs =
     let f = fit k in
     let l = now (entry .args .rest) in
     let e = length-take-le (4 + n - 4) (drop 4 l) (omega (arith, f .there, length-drop 4 l)) in
-    (entry .pre, omega (arith, e, f .small))
+    (entry .pre .0, omega (arith, e, f .small), entry .pre .2)
 
 returns : tie.Need-returns
 returns c =
@@ -57,17 +58,18 @@ returns c =
     let on = given (a .mode) (a .rule) in
     let w = c .before .before .pass-kind in
     let kind = c .before .before .before .before .before .kind-of .ensures ∙ ap kindNamed (c .before .before .before .before .before .before .word .ensures) in
-    framed on (a .card) l (now (a .room)) _ n _ (w .result) (fit k .there) kind (frame k) (rw (add-sub-cancel-left 4 n) at (w .ensures))
+    framed on (a .place) (a .card) l (now (a .room)) _ n _ (w .result) (fit k .there) kind (frame k) (rw (add-sub-cancel-left 4 n) at (w .ensures))
 
 returns-2 : tie.Need-returns-2
 returns-2 c =
     let at-frame = c .before .before .before .before in
     let a = at-frame .before .before .before .args in
-    broken (given (a .mode) (a .rule)) (a .card) (now (a .rest)) (now (a .room)) _ (sym (at-frame .read-frame .ensures) ∙ c .before .before .refusal .given .1) (c .stop .ensures)
+    broken (given (a .mode) (a .rule)) (a .place) (a .card) (now (a .rest)) (now (a .room)) _
+    (sym (at-frame .read-frame .ensures) ∙ c .before .before .refusal .given .1) (c .stop .ensures)
 
 pub pass-record-spec : {M : Type 1} → statement M
 pass-record-spec =
     tie.close
-    (tie.spec (λ c κs. search needs) (λ c. search needs) add-end shared-slice-read-word shared-slice-read-word-2 (λ c κs. search needs)
-    (λ c. search needs) (λ c κs. search needs) (λ c. search needs) (λ c. search needs) part-pass-kind-end pass-kind-requires (λ c. search needs)
-    (λ c κs. search needs) (λ c. search needs) returns returns-2)
+    (tie.spec (λ c κs. c .before .before .pre .1) (λ c. search needs) (λ c. search needs) add-end shared-slice-read-word shared-slice-read-word-2
+    (λ c κs. search needs) (λ c. search needs) (λ c κs. search needs) (λ c. search needs) (λ c. search needs) part-pass-kind-end pass-kind-requires
+    (λ c. search needs) (λ c κs. search needs) (λ c. search needs) returns returns-2)

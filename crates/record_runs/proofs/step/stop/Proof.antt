@@ -8,8 +8,8 @@ use Rattle.record_runs.proofs.step.stop.Tie as tie
 
 returns : tie.Need-returns
 returns c =
-    let card = c .before .args .card in
-    ap (λ (n : ℕ). record { card = card; refusal = n; taken = 0; written = 0 }) (c .number .ensures .0)
+    let a = c .before .args in
+    ap (λ (n : ℕ). record { card = a .card; refusal = n; place = a .place }) (c .number .ensures .0)
 
 pub stop-spec : {M : Type 1} → statement M
 stop-spec = tie.close (tie.spec (λ c κs. search needs) (λ c. search needs) returns)

@@ -14,13 +14,15 @@ drop-open-requires : tie.Need-drop-open-requires
 drop-open-requires c κs =
     let st = c .before .before .before .before .before .before .before .before .before .before in
     let l = now (st .args .sheets) in
-    let e = c .before .before .before .lay .ensures ∙ ap (laidAt l (placeAt (closedIn l))) (c .before .before .before .before .before .before .open-line .ensures) in
+    let e = c .before .before .before .lay .ensures ∙ ap (laidAt l (placeAt (closedIn l))) (c .before .before .before .before .before .before .open-line
+    .ensures) in
     length-set (c .before .before .before .lay .last .0) 0 (closedIn l + 1) ∙ ap length e ∙ length-placed l (st .pre .0) (st .pre .1)
 
 returns : tie.Need-returns
 returns c =
     let l = now (c .before .before .before .before .before .before .before .before .before .before .before .before .before .args .sheets) in
-    let e = c .before .before .before .before .before .before .lay .ensures ∙ ap (laidAt l (placeAt (closedIn l))) (c .before .before .before .before .before .before .before .before .before .open-line .ensures) in
+    let e = c .before .before .before .before .before .before .lay .ensures ∙ ap (laidAt l (placeAt (closedIn l))) (c .before .before .before .before .before
+    .before .before .before .before .open-line .ensures) in
     c .before .before .drop-open .ensures ∙ ap (λ (v : List ℕ). dropped (set v 0 (closedIn l + 1))) e
 
 same-length : tie.Need-same-length

@@ -13,7 +13,8 @@ use Rattle.sheet_bytes.proofs.bytes.keep.Tie as tie
 returns : tie.Need-returns
 returns c =
     let a = c .before .before .before .before .before .before .before .before .before .before .before .args in
-    let e = c .before .before .before .lay .ensures ∙ ap (laidAt (now (a .sheets)) (wordsAt + 4 * a .slot)) (c .before .before .before .before .before .before .before .put-word .ensures) in
+    let e = c .before .before .before .lay .ensures ∙ ap (laidAt (now (a .sheets)) (wordsAt + 4 * a .slot)) (c .before .before .before .before .before .before
+    .before .put-word .ensures) in
     ap (λ (l : List ℕ). set l keptAt (c .with-bit .result)) e
     ∙ ap (set (laidAt (now (a .sheets)) (wordsAt + 4 * a .slot) (le4 (a .word))) keptAt) (c .with-bit .ensures)
 

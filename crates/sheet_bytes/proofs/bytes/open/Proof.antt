@@ -10,7 +10,8 @@ use Rattle.sheet_bytes.proofs.bytes.open.Tie as tie
 returns : tie.Need-returns
 returns c =
     let st = c .before .before .before .before .before .before .before .before .before .before in
-    c .before .before .lay2 .ensures ∙ ap (laidAt (now (st .args .sheets)) openAt) (fresh (now (st .args .serial)) _ (st .pre .1) (c .before .before .before .before .before .before .lay .ensures))
+    c .before .before .lay2 .ensures ∙ ap (laidAt (now (st .args .sheets)) openAt) (fresh (now (st .args .serial)) _ (st .pre .1)
+    (c .before .before .before .before .before .before .lay .ensures))
 
 pub open-spec : {M : Type 1} → statement M
 open-spec =

@@ -10,7 +10,8 @@ returns : tie.Need-returns
 returns c =
     let st = c .before .before .before .before .before .before .before .before .before in
     let l = now (st .args .sheets) in
-    two-parts (openSerial l) (openWords l) _ _ (length-serial l (st .pre)) (length-words l (st .pre)) (c .before .before .before .before .before .lay .ensures) (c .before .lay2 .ensures)
+    two-parts (openSerial l) (openWords l) _ _ (length-serial l (st .pre)) (length-words l (st .pre)) (c .before .before .before .before .before .lay .ensures)
+    (c .before .lay2 .ensures)
 
 pub open-line-spec : {M : Type 1} → statement M
 open-line-spec =

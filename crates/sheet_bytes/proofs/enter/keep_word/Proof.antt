@@ -20,13 +20,15 @@ returns-2 c =
 returns-3 : tie.Need-returns-3
 returns-3 c =
     let a = c .before .before .before .before .before .before .args in
-    keep-half (now (a .sheets)) (a .slot) (a .pending) (a .top) (passed _ _ (c .before .before .before .is-open .ensures) (c .before .before .if1 .left)) (omega arith) (c .if3 .taken)
+    keep-half (now (a .sheets)) (a .slot) (a .pending) (a .top) (passed _ _ (c .before .before .before .is-open .ensures) (c .before .before .if1 .left))
+    (omega arith) (c .if3 .taken)
 
 returns-4 : tie.Need-returns-4
 returns-4 c =
     let a = c .before .before .before .before .before .before .before .before .before .before .args in
     keep-done (now (a .sheets)) (a .slot) (a .pending) (a .top) _
-    (passed _ _ (c .before .before .before .before .before .before .before .is-open .ensures) (c .before .before .before .before .before .before .if1 .left)) (omega arith) (c .before .before .before .before .if3 .left) (c .before .before .keep .ensures)
+    (passed _ _ (c .before .before .before .before .before .before .before .is-open .ensures) (c .before .before .before .before .before .before .if1 .left))
+    (omega arith) (c .before .before .before .before .if3 .left) (c .before .before .keep .ensures)
 
 pub keep-word-spec : {M : Type 1} → statement M
 keep-word-spec =

@@ -14,7 +14,8 @@ returns c =
 returns-2 : tie.Need-returns-2
 returns-2 c =
     let a = c .before .before .before .before .before .before .before .before .before .args in
-    open-done (now (a .sheets)) (now (a .payload)) _ (sym (c .before .before .before .before .before .is-open .ensures) ∙ c .before .before .before .before .if1 .left) (c .before .before .«open» .ensures)
+    open-done (now (a .sheets)) (now (a .payload)) _ (sym (c .before .before .before .before .before .is-open .ensures) ∙ c .before .before .before .before .if1
+    .left) (c .before .before .«open» .ensures)
 
 pub open-sheet-spec : {M : Type 1} → statement M
 open-sheet-spec =

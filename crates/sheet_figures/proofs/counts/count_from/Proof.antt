@@ -22,13 +22,24 @@ loop-holds : tie.Need-loop-holds Inv-loop μ-loop
 loop-holds c = (c .before .before .pre .2, zero-le, none-yet _)
 
 add-found : tie.Need-add-found Inv-loop μ-loop
-add-found c = omega (arith, c .one .ensures .1, c .before .before .before .loop .inv .0, c .before .before .before .loop .inv .1, c .before .before .before .before .before .before .pre .1)
+add-found c = omega (
+  arith,
+  c .one .ensures .1,
+  c .before .before .before .loop .inv .0,
+  c .before .before .before .loop .inv .1,
+  c .before .before .before
+      .before .before .before .pre .1,
+)
 
 loop-again : tie.Need-loop-again Inv-loop μ-loop
 loop-again c =
     let st = c .before .before .before .before .before .before in
-    let l = c .before .before .before .loop in
-    (omega arith, omega (arith, c .one .ensures .1, l .inv .1), count-on (now (st .args .sheets)) (l .found) (l .at) _ _ (c .before .before .loop-test .taken) (st .args .serial) _ (c .before .serial-at .ensures) (c .one .ensures .0) (l .inv .2))
+    let l = c .before .before .before .loop in (
+      omega arith,
+      omega (arith, c .one .ensures .1, l .inv .1),
+      count-on (now (st .args .sheets)) (l .found) (l .at) _ _ (c .before .before .loop-test .taken)
+          (st .args .serial) _ (c .before .serial-at .ensures) (c .one .ensures .0) (l .inv .2),
+    )
 
 returns : tie.Need-returns Inv-loop μ-loop
 returns c =

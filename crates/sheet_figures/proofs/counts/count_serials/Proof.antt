@@ -29,7 +29,14 @@ loop-holds : tie.Need-loop-holds Inv-loop μ-loop
 loop-holds c = (zero-le, zero-le, zero-le, none-yet _, none-yet _)
 
 add-different : tie.Need-add-different Inv-loop μ-loop
-add-different c = let l = c .before .before .before .before .before .before .loop in omega (arith, c .before .before .one .ensures .1, l .inv .0, l .inv .1, c .before .before .before .before .before .before .before .before .before .pre .1)
+add-different c = let l = c .before .before .before .before .before .before .loop in omega (
+  arith,
+  c .before .before .one .ensures .1,
+  l .inv .0,
+  l .inv .1,
+  c
+      .before .before .before .before .before .before .before .before .before .pre .1,
+)
 
 mul-repeated : tie.Need-mul-repeated Inv-loop μ-loop
 mul-repeated c = let y = mul-le-mul-right (c .one2 .result) (c .before .before .one .ensures .1) in omega (arith, c .one2 .ensures .1)
@@ -54,7 +61,8 @@ loop-again c =
       omega (arith, last .1, l .inv .1),
       omega (arith, c .one2 .ensures .1, l .inv .2),
       different-on sheets (l .different) (l .i) _ _ more _ _ is ahead (last .0) (l .inv .3),
-      tested-on sheets (l .repeated) (l .i) _ _ more (λ x. leb 2 (count x (serials (linesOf sheets)))) _ _ _ is ahead (last .0) (c .one2 .ensures .0 ∙ ap (λ (n : ℕ). cond (leb 2 n) 1 0) (c .before .count-from2 .ensures)) (l .inv .4),
+      tested-on sheets (l .repeated) (l .i) _ _ more (λ x. leb 2 (count x (serials (linesOf sheets)))) _ _ _ is ahead (last .0) (c .one2 .ensures .0
+          ∙ ap (λ (n : ℕ). cond (leb 2 n) 1 0) (c .before .count-from2 .ensures)) (l .inv .4),
     )
 
 returns : tie.Need-returns Inv-loop μ-loop
@@ -63,7 +71,8 @@ returns c =
     let l = c .before .loop in
     let sheets = now (st .args .sheets) in (
       counted-all different sheets (l .different) (l .i) _ refl (c .loop-test .left) (l .inv .3),
-      counted-all (λ m. many (λ x. leb 2 (count x (serials (linesOf sheets)))) (once (serials m))) sheets (l .repeated) (l .i) _ refl (c .loop-test .left) (l .inv .4),
+      counted-all (λ m. many (λ x. leb 2 (count x (serials (linesOf sheets)))) (once (serials m))) sheets (l .repeated) (l .i) _ refl (c .loop-test .left)
+          (l .inv .4),
     )
 
 pub count-serials-spec : {M : Type 1} → statement M

@@ -48,7 +48,8 @@ returns c =
     let l = c .before .loop in
     let e : l .i ≡ 24 = omega (arith, l .inv .0) in
     let st = c .before .before in
-    le-whole (l .acc) (l .left) _ (subst (λ (n : ℕ). le (l .acc) + l .left * 256 ^ n ≡ le (st .args .sum) + st .args .x * 256 ^ st .args .at) e (l .inv .4)) (st .pre .1)
+    le-whole (l .acc) (l .left) _ (subst (λ (n : ℕ). le (l .acc) + l .left * 256 ^ n ≡ le (st .args .sum) + st .args .x * 256 ^ st .args .at) e (l .inv .4))
+    (st .pre .1)
 
 pub add-at-spec : {M : Type 1} → statement M
 add-at-spec =

@@ -29,7 +29,8 @@ add-at-requires c κs =
 
 returns : tie.Need-returns
 returns c =
-    c .add-at .ensures ∙ ap (λ (n : ℕ). le (c .before .before .args .sum) + n) (placed (c .before .before .args .word) (c .before .weight .result) (c .before .weight .ensures .0))
+    c .add-at .ensures ∙ ap (λ (n : ℕ). le (c .before .before .args .sum) + n) (placed (c .before .before .args .word) (c .before .weight .result)
+    (c .before .weight .ensures .0))
 
 pub add-size-spec : {M : Type 1} → statement M
 add-size-spec =

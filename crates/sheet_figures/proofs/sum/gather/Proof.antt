@@ -9,19 +9,28 @@ use Rattle.sheet_figures.proofs.sum.gather.Statement.{statement}
 use Rattle.sheet_figures.proofs.sum.gather.Tie as tie
 
 returns : tie.Need-returns
-returns c = let a = c .before .before .args in gather-none (le (a .s .plus)) (le (a .s .minus)) (a .word) (sym (c .before .is-proper .ensures) ∙ not-true _ (c .if1 .taken))
+returns c = let a = c .before .before .args in gather-none (le (a .s .plus)) (le (a .s .minus)) (a .word) (sym (c .before .is-proper .ensures)
+    ∙ not-true _ (c .if1 .taken))
 
 add-size-requires : tie.Need-add-size-requires
-add-size-requires c κs = let a = c .before .before .before .before .before .args in room-below (le (a .s .plus)) (le (a .s .minus)) (a .word) (sym (c .before .before .before .before .is-proper .ensures) ∙ not-false _ (c .before .before .before .if1 .left)) (omega arith) (c .before .before .before .before .before .pre .1)
+add-size-requires c κs = let a = c .before .before .before .before .before .args in room-below (le (a .s .plus)) (le (a .s .minus)) (a .word)
+    (sym (c .before .before .before .before .is-proper .ensures) ∙ not-false _ (c .before .before .before .if1 .left)) (omega arith)
+    (c .before .before .before .before .before .pre .1)
 
 returns-2 : tie.Need-returns-2
-returns-2 c = let a = c .before .before .before .before .before .before .args in gather-below (le (a .s .plus)) (le (a .s .minus)) (a .word) _ (sym (c .before .before .before .before .before .is-proper .ensures) ∙ not-false _ (c .before .before .before .before .if1 .left)) (omega arith) (c .add-size .ensures)
+returns-2 c = let a = c .before .before .before .before .before .before .args in gather-below (le (a .s .plus)) (le (a .s .minus)) (a .word) _
+    (sym (c .before .before .before .before .before .is-proper .ensures) ∙ not-false _ (c .before .before .before .before .if1 .left)) (omega arith)
+    (c .add-size .ensures)
 
 add-size-requires-2 : tie.Need-add-size-requires-2
-add-size-requires-2 c κs = let a = c .before .before .before .before .before .args in room-above (le (a .s .plus)) (le (a .s .minus)) (a .word) (sym (c .before .before .before .before .is-proper .ensures) ∙ not-false _ (c .before .before .before .if1 .left)) (omega arith) (c .before .before .before .before .before .pre .0)
+add-size-requires-2 c κs = let a = c .before .before .before .before .before .args in room-above (le (a .s .plus)) (le (a .s .minus)) (a .word)
+    (sym (c .before .before .before .before .is-proper .ensures) ∙ not-false _ (c .before .before .before .if1 .left)) (omega arith)
+    (c .before .before .before .before .before .pre .0)
 
 returns-3 : tie.Need-returns-3
-returns-3 c = let a = c .before .before .before .before .before .before .args in gather-above (le (a .s .plus)) (le (a .s .minus)) (a .word) _ (sym (c .before .before .before .before .before .is-proper .ensures) ∙ not-false _ (c .before .before .before .before .if1 .left)) (omega arith) (c .add-size2 .ensures)
+returns-3 c = let a = c .before .before .before .before .before .before .args in gather-above (le (a .s .plus)) (le (a .s .minus)) (a .word) _
+    (sym (c .before .before .before .before .before .is-proper .ensures) ∙ not-false _ (c .before .before .before .before .if1 .left)) (omega arith)
+    (c .add-size2 .ensures)
 
 pub gather-spec : {M : Type 1} → statement M
 gather-spec =

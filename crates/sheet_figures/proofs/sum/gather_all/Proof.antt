@@ -27,7 +27,8 @@ loop-again : tie.Need-loop-again Inv-loop μ-loop
 loop-again c =
     let st = c .before .before .before .before .before .before in
     let l = c .before .before .before .loop in
-    gather-on (now (st .args .sheets)) _ _ (l .i) (c .before .word-at .result) (c .before .before .loop-test .taken) (c .before .word-at .ensures) (l .inv) _ _ (c .gather .ensures .0) (c .gather .ensures .1)
+    gather-on (now (st .args .sheets)) _ _ (l .i) (c .before .word-at .result) (c .before .before .loop-test .taken) (c .before .word-at .ensures) (l .inv) _ _
+    (c .gather .ensures .0) (c .gather .ensures .1)
 
 returns : tie.Need-returns Inv-loop μ-loop
 returns c = let l = c .before .loop in gather-ends (now (c .before .before .before .before .args .sheets)) _ _ (l .i) (c .loop-test .left) (l .inv)

@@ -12,13 +12,22 @@ use Rattle.sheet_figures.proofs.sum.less.Statement.{statement}
 use Rattle.sheet_figures.proofs.sum.less.Tie as tie
 
 abbrev Inv-loop : tie.InvT-loop
-Inv-loop b bytes₀ borrowed₀ i₀ bytes borrowed i = (i ≤ 24) × (length bytes ≡ 24) × (length b ≡ 24) × (borrowed ≤ 1) × Small bytes × Small b × (le bytes + le (take i b) ≡ le bytes₀ + borrowed * 256 ^ i)
+Inv-loop b bytes₀ borrowed₀ i₀ bytes borrowed i = (i ≤ 24) × (length bytes ≡ 24) × (length b ≡ 24) × (borrowed ≤ 1) × Small bytes × Small b
+    × (le bytes + le (take i b) ≡ le bytes₀ + borrowed * 256 ^ i)
 
 abbrev μ-loop : tie.MeasureT-loop
 μ-loop b bytes₀ borrowed₀ i₀ bytes borrowed i = 24 - i
 
 loop-holds : tie.Need-loop-holds Inv-loop μ-loop
-loop-holds c = (search needs, search needs, search needs, zero-le, (λ k. let f : Fits w8 (getD (c .args .a) k 0) = search needs in f .fits), (λ k. let f : Fits w8 (getD (c .args .t2) k 0) = search needs in f .fits), less-start (le (c .args .a)))
+loop-holds c = (
+  search needs,
+  search needs,
+  search needs,
+  zero-le,
+  (λ k. let f : Fits w8 (getD (c .args .a) k 0) = search needs in f .fits),
+  (λ k. let f : Fits w8 (getD (c .args .t2) k 0) = search needs in f .fits),
+  less-start (le (c .args .a)),
+)
 
 cast-here : tie.Need-cast-here Inv-loop μ-loop
 cast-here c = let l = c .before .loop in omega (arith, l .inv .4 (l .i), l .inv .5 (l .i), l .inv .3)

@@ -12,7 +12,8 @@ returns c =
     let st = c .before .before .before .before .before .before .before .before in
     let g = c .before .before .before .before .before .before .gather-all in
     let d = c .before .before .before .less in
-    sum-above (linesOf (now (st .args .sheets))) (le (g .result .plus)) (le (g .result .minus)) (le (d .result .bytes)) sumLimit (g .ensures .0) (g .ensures .1) (d .result .borrowed) (c .before .if1 .taken) (d .ensures .0)
+    sum-above (linesOf (now (st .args .sheets))) (le (g .result .plus)) (le (g .result .minus)) (le (d .result .bytes)) sumLimit (g .ensures .0) (g .ensures .1)
+    (d .result .borrowed) (c .before .if1 .taken) (d .ensures .0)
 
 returns-2 : tie.Need-returns-2
 returns-2 c =
@@ -20,7 +21,9 @@ returns-2 c =
     let g = c .before .before .before .before .before .before .before .gather-all in
     let d = c .before .before .before .before .less in
     let e = c .before .less2 in
-    sum-below (linesOf (now (st .args .sheets))) (le (g .result .plus)) (le (g .result .minus)) (le (e .result .bytes)) sumLimit (g .ensures .0) (g .ensures .1) (le (d .result .bytes)) (d .result .borrowed) (e .result .borrowed) (c .before .before .if1 .left) (d .ensures .2) (e .ensures .2) (d .ensures .1) (e .ensures .1) (d .ensures .0) (e .ensures .0)
+    sum-below (linesOf (now (st .args .sheets))) (le (g .result .plus)) (le (g .result .minus)) (le (e .result .bytes)) sumLimit (g .ensures .0) (g .ensures .1)
+    (le (d .result .bytes)) (d .result .borrowed) (e .result .borrowed) (c .before .before .if1 .left) (d .ensures .2) (e .ensures .2) (d .ensures .1)
+    (e .ensures .1) (d .ensures .0) (e .ensures .0)
 
 pub sum-of-spec : {M : Type 1} → statement M
 sum-of-spec =

@@ -33,8 +33,15 @@ loop-again : tie.Need-loop-again Inv-loop μ-loop
 loop-again c =
     let st = c .before .before .before .before .before in
     let l = c .before .before .before .loop in
-    let h = c .before .before .loop-test .taken in
-    (omega arith, length-set (set (l .out) (2 * l .i) (c .before .hex .result)) (2 * l .i + 1) (c .hex2 .result) ∙ length-set (l .out) (2 * l .i) (c .before .hex .result) ∙ l .inv .1, l .inv .2, l .inv .3, digits-on (l .out) (st .args .t2) (l .i) _ _ (l .inv .1) (l .inv .2) h (l .inv .3 (23 - l .i)) (c .before .hex .ensures) (c .hex2 .ensures) (l .inv .4))
+    let h = c .before .before .loop-test .taken in (
+      omega arith,
+      length-set (set (l .out) (2 * l .i) (c .before .hex .result)) (2 * l .i + 1) (c .hex2 .result) ∙ length-set (l .out) (2 * l .i)
+          (c .before .hex .result) ∙ l .inv .1,
+      l .inv .2,
+      l .inv .3,
+      digits-on (l .out) (st .args .t2) (l .i) _ _ (l .inv .1) (l .inv .2) h
+          (l .inv .3 (23 - l .i)) (c .before .hex .ensures) (c .hex2 .ensures) (l .inv .4),
+    )
 
 returns : tie.Need-returns Inv-loop μ-loop
 returns c =

@@ -7,20 +7,25 @@ use Rattle.sheets.proofs.step.pass_line.Statement.{statement}
 use Rattle.sheets.proofs.step.pass_line.Tie as tie
 
 pass-own-requires : tie.Need-pass-own-requires
-pass-own-requires c κs = (c .before .before .before .before .before .before .before .pre .1, sym (c .before .before .before .is-own .ensures) ∙ c .before .before .if1 .taken)
+pass-own-requires c κs =
+    let h = c .before .before .before .before .before .before .before .pre in
+    (h .1, sym (c .before .before .before .is-own .ensures) ∙ c .before .before .if1 .taken, h .3)
 
 returns : tie.Need-returns
 unfolding lineOf
 returns c =
     let a = c .before .before .before .before .before .before .before .before .before .before .before .before .args in
-    rw (sym (c .before .before .before .before .before .before .before .before .is-own .ensures) ∙ c .before .before .before .before .before .before .before .if1 .taken) (c .before .before .before .before .pass-own .ensures (given (a .mode) (a .rule)))
+    rw (sym (c .before .before .before .before .before .before .before .before .is-own .ensures) ∙ c .before .before .before .before .before .before .before
+    .if1 .taken) (c .before .before .before .before .pass-own .ensures (given (a .mode) (a .rule)))
 
 returns-2 : tie.Need-returns-2
 unfolding lineOf
-returns-2 c = rw (sym (c .before .before .before .before .before .before .before .before .is-own .ensures) ∙ c .before .before .before .before .before .before .before .if1 .left) (c .before .before .before .before .pass-core .ensures)
+returns-2 c = rw (sym (c .before .before .before .before .before .before .before .before .is-own .ensures) ∙ c .before .before .before .before .before .before
+    .before .if1 .left) (c .before .before .before .before .pass-core .ensures)
 
 pub pass-line-spec : {M : Type 1} → statement M
 pass-line-spec =
     tie.close
-    (tie.spec (λ c κs. search needs) pass-own-requires (λ c. search needs) (λ c. search needs) returns (λ c κs. search needs) (λ c. search needs)
+    (tie.spec (λ c κs. c .before .before .before .pre .2) pass-own-requires (λ c. search needs) (λ c. search needs) returns (λ c κs. c .before .before .before
+    .before .before .before .before .pre) (λ c. search needs)
     (λ c. search needs) returns-2)

@@ -1,21 +1,25 @@
--- `stack::Stack::copy` meets its contract: A twice, and the windows a word up. Assumes nothing.
-use mathlib.Core.Path.{refl, _∙_}
-use Rattle.stack.proofs.TwoWords.{joined, within, copy-2, copy-4}
+-- `stack::Stack::copy` meets its contract: the bytes of A pushed. Assumes nothing.
+use mathlib.Core.Path.{ap, _∙_}
+use mathlib.Core.List.{_++_}
+use Prim.Native.Nat.{ℕ, _-_}
+use lib.ListN.{take}
+use Rattle.terms.specs.Width.{sizeOf}
+use Rattle.stack.specs.Stack.{bytesOf}
+use Rattle.stack.specs.Words.{bytesIn}
+use Rattle.stack.proofs.Layouts.{two-fit}
+use Rattle.stack.proofs.TwoWords.{copy-law, is-stack}
 use borrow.Author.Needs.{needs}
 use Rattle.stack.proofs.Stack.copy.Statement.{statement}
 use Rattle.stack.proofs.Stack.copy.Tie as tie
 
 returns : tie.Need-returns
 returns c =
-    let s = c .before .before .before .before .before .args .self in
-    rw (c .before .before .before .enum-told .given .1)
-    (joined (c .before .window-6 .ensures ∙ within 6 (c .before .before .window-2 .ensures) refl) (c .window-62 .ensures) ∙ copy-2 (s .top) (s .rest))
-
-returns-2 : tie.Need-returns-2
-returns-2 c =
-    let s = c .before .before .before .before .before .args .self in
-    rw (c .before .before .before .enum-told2 .given .1)
-    (joined (c .before .window-42 .ensures ∙ within 4 (c .before .before .window-4 .ensures) refl) (c .window-43 .ensures) ∙ copy-4 (s .top) (s .rest))
+    let a = c .before .before .args in
+    let s = a .self in
+    let n = sizeOf (a .width) in
+    c .push-word .ensures
+    ∙ ap (λ (r : ℕ). bytesOf n r ++ take (16 - n) (bytesIn s)) (c .before .tos .ensures .0)
+    ∙ copy-law n (bytesIn s) (is-stack (s .top) (s .rest)) (two-fit (a .width))
 
 pub copy-spec : {M : Type 1} → statement M
-copy-spec = tie.close (tie.spec (λ c. search needs) (λ c κs. search needs) (λ c κs. search needs) (λ c κs. search needs) (λ c. search needs) (λ c κs. search needs) (λ c κs. search needs) (λ c κs. search needs) returns returns-2)
+copy-spec = tie.close (tie.spec (λ c κs. search needs) (λ c κs. search needs) returns)

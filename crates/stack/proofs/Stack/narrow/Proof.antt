@@ -1,15 +1,20 @@
--- `stack::Stack::narrow` meets its contract: R over windows of the two words. Assumes nothing.
-use mathlib.Core.Path.{refl, _∙_}
-use Rattle.stack.proofs.TwoWords.{joined, under, within, narrow-law}
+-- `stack::Stack::narrow` meets its contract: R pushed over eight bytes and zeros. Assumes nothing.
+use mathlib.Core.Path.{ap, _∙_}
+use mathlib.Core.List.{List, _++_}
+use Prim.Native.Nat.{ℕ}
+use lib.ListN.{take}
+use Rattle.stack.specs.Stack.{bytesOf}
+use Rattle.stack.proofs.TwoWords.{narrow-law}
 use borrow.Author.Needs.{needs}
 use Rattle.stack.proofs.Stack.narrow.Statement.{statement}
 use Rattle.stack.proofs.Stack.narrow.Tie as tie
 
 returns : tie.Need-returns
 returns c =
-    let a = c .before .before .before .before .args in
-    joined (c .before .before .window-6 .ensures ∙ under 6 (a .r) (c .before .before .before .window-4 .ensures)) (c .window-62 .ensures ∙ within 6 (c .before .window-42 .ensures) refl)
+    let a = c .before .before .args in
+    c .push .ensures
+    ∙ ap (λ (l : List ℕ). bytesOf 2 (a .r) ++ take 14 l) (c .before .eight-from .ensures)
     ∙ narrow-law (a .self .top) (a .self .rest) (a .r)
 
 pub narrow-spec : {M : Type 1} → statement M
-narrow-spec = tie.close (tie.spec (λ c κs. search needs) (λ c κs. search needs) (λ c κs. search needs) (λ c κs. search needs) returns)
+narrow-spec = tie.close (tie.spec (λ c κs. search needs) (λ c κs. search needs) returns)

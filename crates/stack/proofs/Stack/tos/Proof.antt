@@ -1,6 +1,5 @@
 -- `stack::Stack::tos` meets its contract: the upper part of the upper word. Assumes nothing.
 use mathlib.Core.Path.{refl}
-use native.Mathlib.Omega.{arith}
 use Rattle.stack.proofs.TwoWords.{word-law}
 use borrow.Author.Needs.{needs}
 use Rattle.stack.proofs.Stack.tos.Statement.{statement}

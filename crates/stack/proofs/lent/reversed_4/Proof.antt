@@ -8,4 +8,6 @@ returns : tie.Need-returns
 returns c = four (c .args .w) (search needs)
 
 pub reversed-4-spec : {M : Type 1} → statement M
-reversed-4-spec = tie.close (tie.spec (λ c. search needs) (λ c. search needs) (λ c. search needs) (λ c. search needs) (λ c. search needs) (λ c. search needs) returns)
+reversed-4-spec =
+    tie.close
+    (tie.spec (λ c. search needs) (λ c. search needs) (λ c. search needs) (λ c. search needs) (λ c. search needs) (λ c. search needs) returns)

@@ -8,8 +8,13 @@ returns : tie.Need-returns
 returns c =
     let w = c .before .before .args .w in
     let x = c .before .reversed-4 in
-    let y = c .reversed-42 in
-    (eight-bytes w (x .result) (y .result) (search needs) (x .ensures .0) (y .ensures .0), eight-back w (x .result) (y .result) (search needs) (x .ensures .1) (y .ensures .1))
+    let y = c .reversed-42 in (
+      eight-bytes w (x .result) (y .result) (search needs) (x .ensures .0) (y .ensures .0),
+      eight-back w (x .result) (y .result) (search needs) (x .ensures .1) (y .ensures .1),
+    )
 
 pub reversed-8-spec : {M : Type 1} → statement M
-reversed-8-spec = tie.close (tie.spec (λ c. search needs) (λ c κs. search needs) (λ c. search needs) (λ c κs. search needs) (λ c. search needs) (λ c. search needs) (λ c. search needs) (λ c. search needs) returns)
+reversed-8-spec =
+    tie.close
+    (tie.spec (λ c. search needs) (λ c κs. search needs) (λ c. search needs) (λ c κs. search needs) (λ c. search needs) (λ c. search needs)
+    (λ c. search needs) (λ c. search needs) returns)

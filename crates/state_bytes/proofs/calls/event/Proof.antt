@@ -36,7 +36,12 @@ returns-2 c =
     let a = k .before .before .before .before .args in
     let open-door = admitted (a .mode) (a .rule) (now (a .state)) (sym (door k) ∙ c .before .before .before .before .before .before .before .if1 .left) in
     rw (signalled (a .mode) (a .rule) (now (a .state)) (a .kind) (a .byte) open-door)
-    (rw (c .before .before .before .before .before .before .mode-of .ensures, c .before .before .before .before .before .rule-of .ensures, c .before .before .before .kind-of .ensures) at (c .before .before .event-on .ensures))
+    (rw (
+      c .before .before .before .before .before .before .mode-of .ensures,
+      c .before .before .before .before .before .rule-of .ensures,
+      c .before .before
+          .before .kind-of .ensures,
+    ) at (c .before .before .event-on .ensures))
 
 pub event-spec : {M : Type 1} → statement M
 event-spec =

@@ -64,7 +64,8 @@ returns c =
     let l = now (a .state) in
     let r = c .before .before .before .before .push in
     rw (c .before .before .before .before .before .before .before .enum-told .given .1)
-    (settled l (r .result) (memoryIn l) (memoryIn l) (given (a .mode) (a .rule)) (c .before .before .keep .ensures) (r .ensures ∙ ap (λ (s : State). pushOf s (a .byte)) (c .before .before .before .before .before .chip-in .ensures)) (λ z. refl))
+    (settled l (r .result) (memoryIn l) (memoryIn l) (given (a .mode) (a .rule)) (c .before .before .keep .ensures) (r .ensures
+    ∙ ap (λ (s : State). pushOf s (a .byte)) (c .before .before .before .before .before .chip-in .ensures)) (λ z. refl))
 
 returns-2 : tie.Need-returns-2
 returns-2 c =
@@ -72,7 +73,8 @@ returns-2 c =
     let l = now (a .state) in
     let r = c .before .before .before .before .pop in
     rw (c .before .before .before .before .before .before .before .enum-told2 .given .1)
-    (settled l (r .result) (memoryIn l) (memoryIn l) (given (a .mode) (a .rule)) (c .before .before .keep2 .ensures) (r .ensures ∙ ap popOf (c .before .before .before .before .before .chip-in2 .ensures)) (λ z. refl))
+    (settled l (r .result) (memoryIn l) (memoryIn l) (given (a .mode) (a .rule)) (c .before .before .keep2 .ensures) (r .ensures
+    ∙ ap popOf (c .before .before .before .before .before .chip-in2 .ensures)) (λ z. refl))
 
 returns-3 : tie.Need-returns-3
 returns-3 c =
@@ -83,8 +85,10 @@ returns-3 c =
     let e = r .ensures ∙ ap (λ (s : State). commandUnder (a .rule) s (a .byte)) (c .before .before .before .before .before .chip-in3 .ensures) in
     let b = commandUnder (a .rule) (stateOf l) (a .byte) in
     let m = remembered (memoryIn l) (a .byte) (r .result .state .status) in
-    let kept : (numberOf (b .refusal) ≡ 0) → m ≡ keptAfter (memoryIn l) (Command (a .byte)) b = λ z. rw (eq-eqb (numberOf (b .refusal)) 0 z) (ap (λ (x : Answer). remembered (memoryIn l) (a .byte) (x .state .status)) e) in
-    rw (c .before .before .before .before .before .before .before .enum-told3 .given .1) (settled l (r .result) m (keptAfter (memoryIn l) (Command (a .byte)) b) on (c .before .before .keep-command .ensures) e kept)
+    let kept : (numberOf (b .refusal) ≡ 0) → m ≡ keptAfter (memoryIn l) (Command (a .byte)) b = λ z. rw (eq-eqb (numberOf (b .refusal)) 0 z)
+    (ap (λ (x : Answer). remembered (memoryIn l) (a .byte) (x .state .status)) e) in
+    rw (c .before .before .before .before .before .before .before .enum-told3 .given .1) (settled l (r .result) m (keptAfter (memoryIn l) (Command (a .byte)) b)
+    on (c .before .before .keep-command .ensures) e kept)
 
 returns-4 : tie.Need-returns-4
 returns-4 c =
@@ -92,7 +96,8 @@ returns-4 c =
     let l = now (a .state) in
     let r = c .before .before .before .before .read in
     rw (c .before .before .before .before .before .before .before .enum-told4 .given .1)
-    (settled l (r .result) (memoryIn l) (memoryIn l) (given (a .mode) (a .rule)) (c .before .before .keep3 .ensures) (r .ensures ∙ ap readOf (c .before .before .before .before .before .chip-in4 .ensures)) (λ z. refl))
+    (settled l (r .result) (memoryIn l) (memoryIn l) (given (a .mode) (a .rule)) (c .before .before .keep3 .ensures) (r .ensures
+    ∙ ap readOf (c .before .before .before .before .before .chip-in4 .ensures)) (λ z. refl))
 
 returns-5 : tie.Need-returns-5
 returns-5 c =
@@ -100,9 +105,11 @@ returns-5 c =
     let l = now (a .state) in
     let r = c .before .before .before .before .before .reset in
     let b = resetOf (a .mode) (stateOf l) in
-    let kept : (numberOf (b .refusal) ≡ 0) → c .before .before .before .empty .result ≡ keptAfter (memoryIn l) Reset b = λ z. c .before .before .before .empty .ensures ∙ rw (eq-eqb (numberOf (b .refusal)) 0 z) in
+    let kept : (numberOf (b .refusal) ≡ 0) → c .before .before .before .empty .result ≡ keptAfter (memoryIn l) Reset b = λ z. c .before .before .before .empty
+    .ensures ∙ rw (eq-eqb (numberOf (b .refusal)) 0 z) in
     rw (c .before .before .before .before .before .before .before .before .enum-told5 .given .1)
-    (settled l (r .result) (c .before .before .before .empty .result) (keptAfter (memoryIn l) Reset b) (given (a .mode) (a .rule)) (c .before .before .settle .ensures) (r .ensures ∙ ap (resetOf (a .mode)) (c .before .before .before .before .before .before .chip-in5 .ensures)) kept)
+    (settled l (r .result) (c .before .before .before .empty .result) (keptAfter (memoryIn l) Reset b) (given (a .mode) (a .rule))
+    (c .before .before .settle .ensures) (r .ensures ∙ ap (resetOf (a .mode)) (c .before .before .before .before .before .before .chip-in5 .ensures)) kept)
 
 returns-6 : tie.Need-returns-6
 returns-6 c =
@@ -110,24 +117,31 @@ returns-6 c =
     let l = now (a .state) in
     let r = c .before .before .before .before .acknowledge in
     rw (c .before .before .before .before .before .before .before .enum-told6 .given .1)
-    (settled l (r .result) (memoryIn l) (memoryIn l) (given (a .mode) (a .rule)) (c .before .before .keep4 .ensures) (r .ensures ∙ ap acknowledgeOf (c .before .before .before .before .before .chip-in6 .ensures)) (λ z. refl))
+    (settled l (r .result) (memoryIn l) (memoryIn l) (given (a .mode) (a .rule)) (c .before .before .keep4 .ensures) (r .ensures
+    ∙ ap acknowledgeOf (c .before .before .before .before .before .chip-in6 .ensures)) (λ z. refl))
 
 returns-7 : tie.Need-returns-7
 returns-7 c =
     let e = c .before .before .before .before .before .before in
     let a = e .args in
     let m = c .before .memory-in in
-    rw (c .before .before .before .enum-told7 .given .1) (a-recall (given (a .mode) (a .rule)) (now (a .state)) (e .pre) (m .result) (m .ensures) (c .joined .ensures))
+    rw (c .before .before .before .enum-told7 .given .1) (a-recall (given (a .mode) (a .rule)) (now (a .state)) (e .pre) (m .result) (m .ensures)
+    (c .joined .ensures))
 
 returns-8 : tie.Need-returns-8
 returns-8 c =
     let e = c .before .before .before .before .before .before .before .before .before in
     let a = e .args in
     let m = c .before .before .before .before .empty2 in
-    rw (c .before .before .before .before .before .before .enum-told8 .given .1) (a-forget (given (a .mode) (a .rule)) (now (a .state)) (e .pre) (m .result) (m .ensures) (c .joined2 .ensures) (c .before .before .before .put-memory .ensures))
+    rw (c .before .before .before .before .before .before .enum-told8 .given .1) (a-forget (given (a .mode) (a .rule)) (now (a .state)) (e .pre) (m .result)
+    (m .ensures) (c .joined2 .ensures) (c .before .before .before .put-memory .ensures))
 
 returns-9 : tie.Need-returns-9
-returns-9 c = rw (c .before .before .enum-told9 .given .1) record { result-is = c .joined3 .ensures ∙ ap (λ (n : ℕ). joinedOf n 0) (c .before .number .ensures .0); state-is = refl }
+returns-9 c = rw (c .before .before .enum-told9 .given .1) record {
+  result-is = c .joined3 .ensures ∙ ap (λ (n : ℕ). joinedOf n 0)
+      (c .before .number .ensures .0);
+  state-is = refl;
+}
 
 pub event-on-spec : {M : Type 1} → statement M
 event-on-spec =

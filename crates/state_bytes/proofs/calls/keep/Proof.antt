@@ -11,12 +11,14 @@ use Rattle.state_bytes.proofs.calls.keep.Tie as tie
 returns : tie.Need-returns
 returns c =
     let a = c .before .before .before .before .args in
-    λ on. no-event (now (a .state)) on (memoryIn (now (a .state))) (answerIn (a .a)) (c .before .before .number .ensures .0) (c .joined .ensures) (c .before .if1 .taken)
+    λ on. no-event (now (a .state)) on (memoryIn (now (a .state))) (answerIn (a .a)) (c .before .before .number .ensures .0) (c .joined .ensures)
+    (c .before .if1 .taken)
 
 returns-2 : tie.Need-returns-2
 returns-2 c =
     let a = c .before .before .before .before .before .before .before .before .before .args in
-    λ on. an-event (now (a .state)) on (memoryIn (now (a .state))) (answerIn (a .a)) (c .before .before .before .before .before .before .before .number .ensures .0) (c .joined2 .ensures) (c .before .before .before .before .before .before .if1 .left) (c .before .before .before .put-chip .ensures)
+    λ on. an-event (now (a .state)) on (memoryIn (now (a .state))) (answerIn (a .a)) (c .before .before .before .before .before .before .before .number .ensures
+    .0) (c .joined2 .ensures) (c .before .before .before .before .before .before .if1 .left) (c .before .before .before .put-chip .ensures)
 
 pub keep-spec : {M : Type 1} → statement M
 keep-spec =

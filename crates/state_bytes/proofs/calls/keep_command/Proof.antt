@@ -30,8 +30,10 @@ returns-2 c =
     let l = now (a .state) in
     let s = a .a .state in
     let f : Memory → Memory = λ m. remembered m (a .code) (s .status) in
-    let left = kept-back l (stateIn s) f (e .pre) (is-stack (s .stack .top) (s .stack .rest) .sixteen) (c .before .before .before .before .before .before .before .put-chip .ensures) (c .before .before .before .keep-errors .ensures) in
-    λ on. an-event l on (f (memoryIn l)) (answerIn (a .a)) (c .before .before .before .before .before .before .before .before .before .before .before .number .ensures .0) (c .joined2 .ensures) (c .before .before .before .before .before .before .before .before .before .before .if1 .left) left
+    let left = kept-back l (stateIn s) f (e .pre) (is-stack (s .stack .top) (s .stack .rest) .sixteen) (c .before .before .before .before .before .before
+    .before .put-chip .ensures) (c .before .before .before .keep-errors .ensures) in
+    λ on. an-event l on (f (memoryIn l)) (answerIn (a .a)) (c .before .before .before .before .before .before .before .before .before .before .before .number
+    .ensures .0) (c .joined2 .ensures) (c .before .before .before .before .before .before .before .before .before .before .if1 .left) left
 
 pub keep-command-spec : {M : Type 1} → statement M
 keep-command-spec =

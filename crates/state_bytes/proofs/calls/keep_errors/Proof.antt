@@ -17,7 +17,8 @@ returns c =
     let a = c .before .before .before .before .before .before .before .before .before .args in
     let l = now (a .state) in
     c .before .before .put-memory .ensures
-    ∙ ap (λ (m : Memory). take 19 l ++ memoryBytesOf (length l) m) (c .before .before .before .remember .ensures ∙ ap (λ (m : Memory). remembered m (a .code) (a .status)) (c .before .before .before .before .before .memory-in .ensures))
+    ∙ ap (λ (m : Memory). take 19 l ++ memoryBytesOf (length l) m) (c .before .before .before .remember .ensures
+    ∙ ap (λ (m : Memory). remembered m (a .code) (a .status)) (c .before .before .before .before .before .memory-in .ensures))
 
 returns-2 : tie.Need-returns-2
 returns-2 c =

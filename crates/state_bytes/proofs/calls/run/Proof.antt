@@ -14,11 +14,14 @@ use Rattle.state_bytes.proofs.calls.run.Tie as tie
 abbrev At-number : Type 0
 At-number = tie.After-number2
 
-door : (k : At-number) → let a = k .before .before .before .before .before .before .before .before .args in k .number2 .result ≡ numberOf (doorOf (a .mode) (a .rule) (now (a .state)))
+door : (k : At-number) → let a = k .before .before .before .before .before .before .before .before .args
+    in k .number2 .result ≡ numberOf (doorOf (a .mode) (a .rule) (now (a .state)))
 door k = k .number2 .ensures .0 ∙ ap numberOf (k .before .admit .ensures)
 
-goes-in : (k : At-number) → k .number2 .result ≡ 0 → let a = k .before .before .before .before .before .before .before .before .args in Admitted (a .mode) (a .rule) (now (a .state))
-goes-in k z = let a = k .before .before .before .before .before .before .before .before .args in admitted (a .mode) (a .rule) (now (a .state)) (sym (door k) ∙ z)
+goes-in : (k : At-number) → k .number2 .result ≡ 0 → let a = k .before .before .before .before .before .before .before .before .args
+    in Admitted (a .mode) (a .rule) (now (a .state))
+goes-in k z = let a = k .before .before .before .before .before .before .before .before .args in admitted (a .mode) (a .rule) (now (a .state)) (sym (door k)
+    ∙ z)
 
 returns : tie.Need-returns
 returns c =
@@ -30,8 +33,10 @@ returns-2 c =
     let k = c .before .before .before .before .before in
     let a = k .before .before .before .before .before .before .before .before .args in
     let t = c .before .before .turn-away .ensures in
-    rw (call-away (a .mode) (a .rule) (now (a .state)) (now (a .input)) (now (a .replies)) (now (a .report)) (k .before .before .before .if1 .left) (λ z. (c .before .before .before .before .if2 .taken) (door k ∙ z)))
-    (turned-away (doorOf (a .mode) (a .rule) (now (a .state))) _ (now (a .state)) (now (a .replies)) _ (t .0 ∙ door k) (t .1 ∙ ap (λ (n : ℕ). reportOf n 0 0) (door k)))
+    rw (call-away (a .mode) (a .rule) (now (a .state)) (now (a .input)) (now (a .replies)) (now (a .report)) (k .before .before .before .if1 .left)
+    (λ z. (c .before .before .before .before .if2 .taken) (door k ∙ z)))
+    (turned-away (doorOf (a .mode) (a .rule) (now (a .state))) _ (now (a .state)) (now (a .replies)) _ (t .0 ∙ door k) (t .1 ∙ ap (λ (n : ℕ). reportOf n 0 0)
+    (door k)))
 
 returns-3 : tie.Need-returns-3
 returns-3 c =
@@ -40,11 +45,18 @@ returns-3 c =
     let g = goes-in k (c .before .before .before .before .before .before .if2 .left) in
     let t = c .before .before .turn-away2 .ensures in
     let n = c .before .before .before .number3 .ensures .0 in
-    rw (too-long (a .mode) (a .rule) (now (a .state)) (now (a .input)) (now (a .replies)) (now (a .report)) (k .before .before .before .if1 .left) (g .mode-is) (g .rule-is) (g .state-is) (c .before .before .before .before .before .if3 .taken))
+    rw (too-long (a .mode) (a .rule) (now (a .state)) (now (a .input)) (now (a .replies)) (now (a .report)) (k .before .before .before .if1 .left) (g .mode-is)
+    (g .rule-is) (g .state-is) (c .before .before .before .before .before .if3 .taken))
     (turned-away InputTooLong _ (now (a .state)) (now (a .replies)) _ (t .0 ∙ n) (t .1 ∙ ap (λ (x : ℕ). reportOf x 0 0) n))
 
 run-good-requires : tie.Need-run-good-requires
-run-good-requires c κs = let k = c .before .before .before .before .before .before .before .before in (goes-in k (c .before .before .before .before .before .before .before .if2 .left) .state-is, k .before .before .before .if1 .left)
+run-good-requires c κs =
+    let k = c .before .before .before .before .before .before .before .before in (
+      goes-in k (c .before .before .before .before .before .before .before .if2 .left) .state-is,
+      k .before .before .before .if1 .left,
+      c .before .before .before
+          .before .before .before .if3 .left,
+    )
 
 returns-4 : tie.Need-returns-4
 returns-4 c =
@@ -52,13 +64,20 @@ returns-4 c =
     let a = k .before .before .before .before .before .before .before .before .args in
     let g = goes-in k (c .before .before .before .before .before .before .before .before .before .before .before .before .before .before .if2 .left) in
     rw (
-      good (a .mode) (a .rule) (now (a .state)) (now (a .input)) (now (a .replies)) (now (a .report)) (k .before .before .before .if1 .left) (g .mode-is) (g .rule-is) (g .state-is) (c .before .before .before .before .before .before .before .before .before .before .before .before .before .if3 .left),
+      good (a .mode) (a .rule) (now (a .state)) (now (a .input)) (now (a .replies)) (now (a .report)) (k .before .before .before .if1 .left) (g .mode-is)
+          (g .rule-is) (g .state-is) (c .before .before .before .before .before .before .before .before .before .before .before .before .before .if3 .left),
       ← c .before .before .before .before .before .before .before .before .before .before .before .before .mode-of .ensures,
       ← c .before .before .before .before .before .before .before .before .before .before .before .rule-of .ensures,
     ) (c .before .before .before .before .before .before .run-good .ensures)
 
 run-good-requires-2 : tie.Need-run-good-requires-2
-run-good-requires-2 c κs = let k = c .before .before .before .before .before .before .before .before in (goes-in k (c .before .before .before .before .before .before .before .if2 .left) .state-is, k .before .before .before .if1 .left)
+run-good-requires-2 c κs =
+    let k = c .before .before .before .before .before .before .before .before in (
+      goes-in k (c .before .before .before .before .before .before .before .if2 .left) .state-is,
+      k .before .before .before .if1 .left,
+      c .before .before .before
+          .before .before .before .if3 .left,
+    )
 
 returns-5 : tie.Need-returns-5
 returns-5 c =
@@ -66,7 +85,8 @@ returns-5 c =
     let a = k .before .before .before .before .before .before .before .before .args in
     let g = goes-in k (c .before .before .before .before .before .before .before .before .before .before .before .before .before .before .if2 .left) in
     rw (
-      good (a .mode) (a .rule) (now (a .state)) (now (a .input)) (now (a .replies)) (now (a .report)) (k .before .before .before .if1 .left) (g .mode-is) (g .rule-is) (g .state-is) (c .before .before .before .before .before .before .before .before .before .before .before .before .before .if3 .left),
+      good (a .mode) (a .rule) (now (a .state)) (now (a .input)) (now (a .replies)) (now (a .report)) (k .before .before .before .if1 .left) (g .mode-is)
+          (g .rule-is) (g .state-is) (c .before .before .before .before .before .before .before .before .before .before .before .before .before .if3 .left),
       ← c .before .before .before .before .before .before .before .before .before .before .before .before .mode-of .ensures,
       ← c .before .before .before .before .before .before .before .before .before .before .before .rule-of .ensures,
     ) (c .before .before .before .before .before .before .run-good2 .ensures)

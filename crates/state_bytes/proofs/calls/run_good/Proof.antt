@@ -1,5 +1,5 @@
 -- `state_bytes::calls::run_good` meets its contract: the run on the card that was read, the state and the report written. Assumes nothing.
-use mathlib.Core.Path.{sym, ap₂, subst}
+use mathlib.Core.Path.{sym, ap, ap₂, subst, _∙_}
 use Prim.Native.Nat.{_<_}
 use native.Mathlib.Omega.{arith}
 use lib.ListN.{length}
@@ -13,7 +13,7 @@ use Rattle.record_runs.specs.Pass.{Ran}
 use Rattle.record_runs.proofs.Ready.{run-small}
 use Rattle.state_bytes.specs.Bytes.{cardIn}
 use Rattle.state_bytes.proofs.States.{state-sized, state-ready}
-use Rattle.state_bytes.proofs.Calling.{called}
+use Rattle.state_bytes.proofs.Calling.{called, same-room}
 use borrow.Author.Needs.{needs}
 use Rattle.state_bytes.proofs.calls.run_good.Statement.{statement}
 use Rattle.state_bytes.proofs.calls.run_good.Tie as tie
@@ -24,10 +24,12 @@ card-in-requires c κs = let e = c .before .before .before .before .before in st
 run-all-requires : tie.Need-run-all-requires
 run-all-requires c κs =
     let e = c .before .before .before .before .before .before .before in
-    subst (λ (s : State). s .status < 128) (sym (c .before .card-in .ensures .0)) (state-ready (now (e .args .state)) (e .pre .0))
+    (subst (λ (s : State). s .status < 128) (sym (c .before .card-in .ensures .0)) (state-ready (now (e .args .state)) (e .pre .0)), e .pre .2)
 
 put-card-requires : tie.Need-put-card-requires
-put-card-requires c κs = let e = c .before .before .before .before .before .before .before .before .before .before .before .before .before in state-sized (now (e .args .state)) (e .pre .0)
+put-card-requires c κs =
+    let e = c .before .before .before .before .before .before .before .before .before .before .before .before .before in
+    state-sized (now (e .args .state)) (e .pre .0)
 
 cast-fill-report : tie.Need-cast-fill-report
 cast-fill-report c =
@@ -36,9 +38,24 @@ cast-fill-report c =
     let start = cardUnder (given (a .mode) (a .rule)) (r .before .before .card-in .result) in
     omega (arith, r .run-all .ensures .refusal-is, run-small start (now (a .input)) (length (now (a .replies))))
 
+fill-report-requires : tie.Need-fill-report-requires
+fill-report-requires c κs =
+    let at-run = c .before .before .before .before .before .before .before .before .before .before .before .before in
+    at-run .before .before .before .before .before .before .before .before .pre .1
+
+same-length-2 : tie.Need-same-length-2
+same-length-2 c =
+    let at-run = c .before .before .before .before .before .before .before .before .before .before .before .before .before .before .before .before in
+    same-room (at-run .run-all .ensures)
+
+same-length-3 : tie.Need-same-length-3
+same-length-3 c =
+    let at-run = c .before .before .before .before .before .before .before .before .before .before .before .before .before .before .before .before in
+    ap length (c .before .before .before .fill-report .ensures) ∙ sym (at-run .before .before .before .before .before .before .before .before .pre .1)
+
 returns : tie.Need-returns
 returns c =
-    let at-run = c .before .before .before .before .before .before .before .before .before .before .before .before .before .before in
+    let at-run = c .before .before .before .before .before .before .before .before .before .before .before .before .before .before .before .before in
     let a = at-run .before .before .before .before .before .before .before .before .args in
     let on = given (a .mode) (a .rule) in
     let l = now (a .state) in
@@ -48,11 +65,14 @@ returns c =
     let r = at-run .run-all in
     let o = r .result in
     let left = r .last .1 .1 .1 .1 .0 in
-    let ran = subst (λ (k : Card). Ran on (runOf k input (length replies)) o input replies left) (ap₂ (cardWith on) (held .0) (held .1)) (r .ensures) in
-    called (length l) (runOf (cardIn on l) input (length replies)) (o .refusal) (cardUnder on (o .card)) (o .taken) (o .written) input replies left _ _ ran (c .before .before .before .before .before .before .before .before .put-card .ensures) (c .before .before .before .fill-report .ensures)
+    let ran =
+    subst (λ (k : Card). Ran on (runOf k input (length replies)) o input replies left) (ap₂ (cardWith on) (held .0) (held .1)) (r .ensures) in
+    called (length l) (runOf (cardIn on l) input (length replies)) (o .refusal) (cardUnder on (o .card)) (o .place .taken) (o .place .written) input replies
+    left _ _
+    ran (c .before .before .before .before .before .before .before .before .before .before .put-card .ensures) (c .before .before .before .fill-report .ensures)
 
 pub run-good-spec : {M : Type 1} → statement M
 run-good-spec =
     tie.close
-    (tie.spec card-in-requires run-all-requires put-card-requires cast-fill-report (λ c κs. search needs) (λ c. search needs) (λ c. search needs)
-    (λ c. search needs) (λ c. search needs) returns)
+    (tie.spec card-in-requires run-all-requires put-card-requires cast-fill-report (λ c. search needs) (λ c. search needs) fill-report-requires
+    (λ c. search needs) (λ c. search needs) same-length-2 same-length-3 returns)

@@ -15,7 +15,8 @@ returns c =
 returns-2 : tie.Need-returns-2
 returns-2 c =
     let a = c .before .before .before .before .before .before .before .before .before .args in
-    λ on. an-event (now (a .state)) on (a .memory) (answerIn (a .a)) (c .before .before .before .before .before .before .before .number .ensures .0) (c .joined2 .ensures) (c .before .before .before .before .before .before .if1 .left) (c .before .before .before .put-card .ensures)
+    λ on. an-event (now (a .state)) on (a .memory) (answerIn (a .a)) (c .before .before .before .before .before .before .before .number .ensures .0)
+    (c .joined2 .ensures) (c .before .before .before .before .before .before .if1 .left) (c .before .before .before .put-card .ensures)
 
 pub settle-spec : {M : Type 1} → statement M
 settle-spec =

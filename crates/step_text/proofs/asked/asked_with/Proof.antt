@@ -21,7 +21,8 @@ returns c =
     let w = z .before in
     let g = w .before .before in
     let f = g .before .before .before in (
-      work _ _ (c .with-numbers .result) (x .read-hex .result) (y .read-hex2 .result) (w .width-of .result) (z .size .result) (f .found .given .1) (g .given .given .1) (w .width-of .ensures) (z .size .ensures .0)
+      work _ _ (c .with-numbers .result) (x .read-hex .result) (y .read-hex2 .result) (w .width-of .result) (z .size .result) (f .found .given .1)
+          (g .given .given .1) (w .width-of .ensures) (z .size .ensures .0)
           (x .read-hex .ensures .0) (y .read-hex2 .ensures .0) (c .with-numbers .ensures .0),
       c .with-numbers .ensures .1,
     )

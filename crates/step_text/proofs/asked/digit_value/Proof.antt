@@ -20,19 +20,62 @@ returns-3 c = (rw (le-ltb _ _ (c .before .before .if1 .left), le-ltb _ _ (c .bef
 
 returns-4 : tie.Need-returns-4
 unfolding digitValue
-returns-4 c = (rw (le-ltb _ _ (c .before .before .before .if1 .left), le-ltb _ _ (c .before .before .if2 .left), le-ltb _ _ (c .before .if3 .left), lt-ltb _ _ (c .if4 .taken)), omega arith)
+returns-4 c = (
+  rw (
+    le-ltb _ _ (c .before .before .before .if1 .left),
+    le-ltb _ _ (c .before .before .if2 .left),
+    le-ltb _ _ (c .before .if3 .left),
+    lt-ltb _ _
+        (c .if4 .taken),
+  ),
+  omega arith,
+)
 
 returns-5 : tie.Need-returns-5
 unfolding digitValue
-returns-5 c = (rw (le-ltb _ _ (c .before .before .before .before .if1 .left), le-ltb _ _ (c .before .before .before .if2 .left), le-ltb _ _ (c .before .before .if3 .left), le-ltb _ _ (c .before .if4 .left), lt-ltb _ _ (c .if5 .taken)), omega arith)
+returns-5 c = (
+  rw (
+    le-ltb _ _ (c .before .before .before .before .if1 .left),
+    le-ltb _ _ (c .before .before .before .if2 .left),
+    le-ltb _ _
+        (c .before .before .if3 .left),
+    le-ltb _ _ (c .before .if4 .left),
+    lt-ltb _ _ (c .if5 .taken),
+  ),
+  omega arith,
+)
 
 returns-6 : tie.Need-returns-6
 unfolding digitValue
-returns-6 c = (rw (le-ltb _ _ (c .before .before .before .before .before .if1 .left), le-ltb _ _ (c .before .before .before .before .if2 .left), le-ltb _ _ (c .before .before .before .if3 .left), le-ltb _ _ (c .before .before .if4 .left), le-ltb _ _ (c .before .if5 .left), lt-ltb _ _ (c .if6 .taken)), omega arith)
+returns-6 c = (
+  rw (
+    le-ltb _ _ (c .before .before .before .before .before .if1 .left),
+    le-ltb _ _ (c .before .before .before .before .if2 .left),
+    le-ltb _ _
+        (c .before .before .before .if3 .left),
+    le-ltb _ _ (c .before .before .if4 .left),
+    le-ltb _ _ (c .before .if5 .left),
+    lt-ltb _ _ (c .if6 .taken),
+  ),
+  omega
+      arith,
+)
 
 returns-7 : tie.Need-returns-7
 unfolding digitValue
-returns-7 c = (rw (le-ltb _ _ (c .before .before .before .before .before .if1 .left), le-ltb _ _ (c .before .before .before .before .if2 .left), le-ltb _ _ (c .before .before .before .if3 .left), le-ltb _ _ (c .before .before .if4 .left), le-ltb _ _ (c .before .if5 .left), le-ltb _ _ (c .if6 .left)), omega arith)
+returns-7 c = (
+  rw (
+    le-ltb _ _ (c .before .before .before .before .before .if1 .left),
+    le-ltb _ _ (c .before .before .before .before .if2 .left),
+    le-ltb _ _
+        (c .before .before .before .if3 .left),
+    le-ltb _ _ (c .before .before .if4 .left),
+    le-ltb _ _ (c .before .if5 .left),
+    le-ltb _ _ (c .if6 .left),
+  ),
+  omega
+      arith,
+)
 
 pub digit-value-spec : {M : Type 1} → statement M
 digit-value-spec =

@@ -18,27 +18,78 @@ returns-3 c = rw (ne-eqb _ _ (c .before .before .if1 .left), ne-eqb _ _ (c .befo
 
 returns-4 : tie.Need-returns-4
 unfolding operationAt
-returns-4 c = rw (ne-eqb _ _ (c .before .before .before .if1 .left), ne-eqb _ _ (c .before .before .if2 .left), ne-eqb _ _ (c .before .if3 .left), eq-eqb _ _ (c .if4 .taken))
+returns-4 c = rw (
+  ne-eqb _ _ (c .before .before .before .if1 .left),
+  ne-eqb _ _ (c .before .before .if2 .left),
+  ne-eqb _ _ (c .before .if3 .left),
+  eq-eqb _ _
+      (c .if4 .taken),
+)
 
 returns-5 : tie.Need-returns-5
 unfolding operationAt
-returns-5 c = rw (ne-eqb _ _ (c .before .before .before .before .if1 .left), ne-eqb _ _ (c .before .before .before .if2 .left), ne-eqb _ _ (c .before .before .if3 .left), ne-eqb _ _ (c .before .if4 .left), eq-eqb _ _ (c .if5 .taken))
+returns-5 c = rw (
+  ne-eqb _ _ (c .before .before .before .before .if1 .left),
+  ne-eqb _ _ (c .before .before .before .if2 .left),
+  ne-eqb _ _
+      (c .before .before .if3 .left),
+  ne-eqb _ _ (c .before .if4 .left),
+  eq-eqb _ _ (c .if5 .taken),
+)
 
 returns-6 : tie.Need-returns-6
 unfolding operationAt
-returns-6 c = rw (ne-eqb _ _ (c .before .before .before .before .before .if1 .left), ne-eqb _ _ (c .before .before .before .before .if2 .left), ne-eqb _ _ (c .before .before .before .if3 .left), ne-eqb _ _ (c .before .before .if4 .left), ne-eqb _ _ (c .before .if5 .left), eq-eqb _ _ (c .if6 .taken))
+returns-6 c = rw (
+  ne-eqb _ _ (c .before .before .before .before .before .if1 .left),
+  ne-eqb _ _ (c .before .before .before .before .if2 .left),
+  ne-eqb _ _
+      (c .before .before .before .if3 .left),
+  ne-eqb _ _ (c .before .before .if4 .left),
+  ne-eqb _ _ (c .before .if5 .left),
+  eq-eqb _ _ (c .if6 .taken),
+)
 
 returns-7 : tie.Need-returns-7
 unfolding operationAt
-returns-7 c = rw (ne-eqb _ _ (c .before .before .before .before .before .before .if1 .left), ne-eqb _ _ (c .before .before .before .before .before .if2 .left), ne-eqb _ _ (c .before .before .before .before .if3 .left), ne-eqb _ _ (c .before .before .before .if4 .left), ne-eqb _ _ (c .before .before .if5 .left), ne-eqb _ _ (c .before .if6 .left), eq-eqb _ _ (c .if7 .taken))
+returns-7 c = rw (
+  ne-eqb _ _ (c .before .before .before .before .before .before .if1 .left),
+  ne-eqb _ _ (c .before .before .before .before .before .if2 .left),
+  ne-eqb _ _ (c .before .before .before .before .if3 .left),
+  ne-eqb _ _ (c .before .before .before .if4 .left),
+  ne-eqb _ _ (c .before .before .if5 .left),
+  ne-eqb _ _ (c .before .if6 .left),
+  eq-eqb _ _ (c .if7 .taken),
+)
 
 returns-8 : tie.Need-returns-8
 unfolding operationAt
-returns-8 c = rw (ne-eqb _ _ (c .before .before .before .before .before .before .before .if1 .left), ne-eqb _ _ (c .before .before .before .before .before .before .if2 .left), ne-eqb _ _ (c .before .before .before .before .before .if3 .left), ne-eqb _ _ (c .before .before .before .before .if4 .left), ne-eqb _ _ (c .before .before .before .if5 .left), ne-eqb _ _ (c .before .before .if6 .left), ne-eqb _ _ (c .before .if7 .left), eq-eqb _ _ (c .if8 .taken))
+returns-8 c = rw (
+  ne-eqb _ _ (c .before .before .before .before .before .before .before .if1 .left),
+  ne-eqb _ _ (c .before .before .before .before .before
+      .before .if2 .left),
+  ne-eqb _ _ (c .before .before .before .before .before .if3 .left),
+  ne-eqb _ _ (c .before .before .before .before .if4 .left),
+  ne-eqb _
+      _ (c .before .before .before .if5 .left),
+  ne-eqb _ _ (c .before .before .if6 .left),
+  ne-eqb _ _ (c .before .if7 .left),
+  eq-eqb _ _ (c .if8 .taken),
+)
 
 returns-9 : tie.Need-returns-9
 unfolding operationAt
-returns-9 c = rw (ne-eqb _ _ (c .before .before .before .before .before .before .before .if1 .left), ne-eqb _ _ (c .before .before .before .before .before .before .if2 .left), ne-eqb _ _ (c .before .before .before .before .before .if3 .left), ne-eqb _ _ (c .before .before .before .before .if4 .left), ne-eqb _ _ (c .before .before .before .if5 .left), ne-eqb _ _ (c .before .before .if6 .left), ne-eqb _ _ (c .before .if7 .left), ne-eqb _ _ (c .if8 .left))
+returns-9 c = rw (
+  ne-eqb _ _ (c .before .before .before .before .before .before .before .if1 .left),
+  ne-eqb _ _ (c .before .before .before .before .before
+      .before .if2 .left),
+  ne-eqb _ _ (c .before .before .before .before .before .if3 .left),
+  ne-eqb _ _ (c .before .before .before .before .if4 .left),
+  ne-eqb _
+      _ (c .before .before .before .if5 .left),
+  ne-eqb _ _ (c .before .before .if6 .left),
+  ne-eqb _ _ (c .before .if7 .left),
+  ne-eqb _ _ (c .if8 .left),
+)
 
 pub operation-at-spec : {M : Type 1} → statement M
 operation-at-spec = tie.close (tie.spec returns returns-2 returns-3 returns-4 returns-5 returns-6 returns-7 returns-8 returns-9)

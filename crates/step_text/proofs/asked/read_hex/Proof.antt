@@ -22,8 +22,11 @@ loop-holds c = starts _
 
 returns-2 : tie.Need-returns-2 Inv-loop μ-loop
 returns-2 c =
-    let l = c .before .before .before .before in
-    (right-length _ _ _ (omega arith) (unreadable _ (l .loop .value) (l .loop .i) _ (l .loop .inv) (omega arith) (c .before .digit-value .ensures .0) (c .if2 .taken)), tt)
+    let l = c .before .before .before .before in (
+      right-length _ _ _ (omega arith) (unreadable _ (l .loop .value) (l .loop .i) _ (l .loop .inv) (omega arith) (c .before .digit-value .ensures .0)
+          (c .if2 .taken)),
+      tt,
+    )
 
 loop-again : tie.Need-loop-again Inv-loop μ-loop
 loop-again c =
@@ -32,8 +35,11 @@ loop-again c =
 
 returns-3 : tie.Need-returns-3 Inv-loop μ-loop
 returns-3 c =
-    let l = c .before in
-    (right-length _ _ _ (omega arith) (all-read _ (l .loop .value) (l .loop .i) (l .loop .inv) (omega arith)), subst (λ (n : ℕ). l .loop .value < 16 ^ n) (omega arith) (l .loop .inv .small))
+    let l = c .before in (
+      right-length _ _ _ (omega arith) (all-read _ (l .loop .value) (l .loop .i) (l .loop .inv) (omega arith)),
+      subst (λ (n : ℕ). l .loop .value < 16 ^ n)
+          (omega arith) (l .loop .inv .small),
+    )
 
 pub read-hex-spec : {M : Type 1} → statement M
 read-hex-spec =

@@ -21,7 +21,12 @@ returns-3 : tie.Need-returns-3
 unfolding ruleFor
 returns-3 c =
     let t = c .before .before .before in
-    rw (ne-eqb _ _ (t .before .if1 .left), eq-eqb _ _ (t .if2 .taken), is-other (now (t .before .before .before .args .option)) nearestText _ (c .before .same .ensures .1) (c .if3 .left))
+    rw (
+      ne-eqb _ _ (t .before .if1 .left),
+      eq-eqb _ _ (t .if2 .taken),
+      is-other (now (t .before .before .before .args .option)) nearestText _
+          (c .before .same .ensures .1) (c .if3 .left),
+    )
 
 returns-4 : tie.Need-returns-4
 unfolding ruleFor

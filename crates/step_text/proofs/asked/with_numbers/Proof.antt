@@ -9,8 +9,14 @@ returns : tie.Need-returns
 returns c =
     let y = c .before in
     let x = y .before .before .before in
-    let a = x .before .before in
-    (ap₂ (withNumbers (a .args .operation) (a .args .rule)) (sym (x .b .given .1)) (sym (y .a .given .1)), (subst (Below _) (x .b .given .1) (a .pre .0), subst (Below _) (y .a .given .1) (a .pre .1)))
+    let a = x .before .before in (
+      ap₂ (withNumbers (a .args .operation) (a .args .rule)) (sym (x .b .given .1)) (sym (y .a .given .1)),
+      (
+        subst (Below _) (x .b .given .1) (a .pre .0),
+        subst
+            (Below _) (y .a .given .1) (a .pre .1),
+      ),
+    )
 
 pub with-numbers-spec : {M : Type 1} → statement M
 with-numbers-spec =

@@ -12,7 +12,8 @@ use Rattle.step_text.proofs.lines.add_refusal.Tie as tie
 returns : tie.Need-returns
 returns c =
     let f = c .before .before .before .before .before .before .before in
-    both (f .before .before .before .before .before .add .ensures) (both (told-as (ap field (f .before .number .ensures .0)) (f .add-field .ensures)) (c .before .before .add2 .ensures))
+    both (f .before .before .before .before .before .add .ensures) (both (told-as (ap field (f .before .number .ensures .0)) (f .add-field .ensures))
+    (c .before .before .add2 .ensures))
 
 pub add-refusal-spec : {M : Type 1} → statement M
 add-refusal-spec =

@@ -11,7 +11,8 @@ use Rattle.step_text.proofs.lines.add_status.Tie as tie
 returns : tie.Need-returns
 returns c =
     let h = c .before .before .before .before .before .before .before in
-    both (h .before .before .before .before .before .add .ensures) (both (told-as (ap (hexOf 2) (h .before .status .ensures)) (h .add-hex .ensures)) (c .before .before .add2 .ensures))
+    both (h .before .before .before .before .before .add .ensures) (both (told-as (ap (hexOf 2) (h .before .status .ensures)) (h .add-hex .ensures))
+    (c .before .before .add2 .ensures))
 
 pub add-status-spec : {M : Type 1} → statement M
 add-status-spec =

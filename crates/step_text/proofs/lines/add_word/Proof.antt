@@ -19,7 +19,8 @@ returns c =
     let z = h .before in
     let w = z .before .before .before .before in
     let word = w .before .before .before .before .args .word in
-    both (w .add .ensures) (both (told-as (ap (λ (n : ℕ). hexOf (2 * n) word) (z .size .ensures .0)) (h .add-hex .ensures)) (both (e .add2 .ensures) (both (f .add-field .ensures) (s .add-status .ensures))))
+    both (w .add .ensures) (both (told-as (ap (λ (n : ℕ). hexOf (2 * n) word) (z .size .ensures .0)) (h .add-hex .ensures))
+    (both (e .add2 .ensures) (both (f .add-field .ensures) (s .add-status .ensures))))
 
 pub add-word-spec : {M : Type 1} → statement M
 add-word-spec =

@@ -36,7 +36,8 @@ bits-again c =
     let d = w .before .before .before .before in
     let l = d .before .before .before .before .before in
     let a = l .before .before .before .args in
-    product-next (a .most) (a .x) (a .y) (l .bits .p) (d .added .result) (w .before .bits-in .result) (omega arith) (d .before .if2 .left) (d .added .ensures) (w .before .bits-in .ensures .0) (l .bits .inv) (w .add-step .ensures .0) (w .add-step .ensures .1) (search needs) (omega arith)
+    product-next (a .most) (a .x) (a .y) (l .bits .p) (d .added .result) (w .before .bits-in .result) (omega arith) (d .before .if2 .left) (d .added .ensures)
+    (w .before .bits-in .ensures .0) (l .bits .inv) (w .add-step .ensures .0) (w .add-step .ensures .1) (search needs) (omega arith)
 
 returns : tie.Need-returns Inv-bits μ-bits
 returns c = let l = c .before .before .bits in ends (product-all _ _ (l .p) (omega arith)) (omega arith) (l .inv .lines)

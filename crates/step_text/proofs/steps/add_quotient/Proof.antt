@@ -42,7 +42,8 @@ bits-again c =
     let d = w .before .before .before .before in
     let l = d .before .before .before .before .before in
     let a = l .before .before .before .args in
-    quotient-next (a .most) (a .v) (a .d) (l .bits .s) (d .subtracted .result) (omega arith) (d .before .if2 .left) (d .subtracted .ensures) (l .bits .inv) (w .add-step .ensures .0) (w .add-step .ensures .1) (search needs) (omega arith)
+    quotient-next (a .most) (a .v) (a .d) (l .bits .s) (d .subtracted .result) (omega arith) (d .before .if2 .left) (d .subtracted .ensures) (l .bits .inv)
+    (w .add-step .ensures .0) (w .add-step .ensures .1) (search needs) (omega arith)
 
 returns : tie.Need-returns Inv-bits μ-bits
 returns c = let l = c .before .before .bits in ends (quotient-all _ _ (l .s) (omega arith)) (omega arith) (l .inv .lines)

@@ -1,0 +1,4 @@
+-- Laws of records in words.
+pub mod Same
+pub mod Tables
+pub mod Telling

@@ -1,0 +1,36 @@
+-- `records::write_framed` answers the end of the record, or what is no place. Assumes nothing.
+use mathlib.Core.Path.{_≡_, refl}
+use mathlib.Core.Logic.{inl, inr}
+use Prim.Native.Nat.{_-_, _≤_}
+use denote.Ref.{now}
+use native.Mathlib.Omega.{arith}
+use borrow.Author.Needs.{needs}
+use lib.ListN.{length, take, drop, length-drop}
+use lib.Seq.{length-take-le}
+use Rattle.records.proofs.write_framed.Statement.{statement}
+use Rattle.records.proofs.write_framed.Tie as tie
+
+write-text-requires : tie.Need-write-text-requires
+write-text-requires c κs =
+    let start = c .before .before in
+    let a = start .args in
+    let e = length-take-le (a .end - a .at) (drop (a .at) (now (a .input))) (omega (arith, start .pre .2, length-drop (a .at) (now (a .input)))) in
+    (omega (arith, start .pre .0, e), omega (arith, start .pre .1, e))
+
+pub write-framed-spec : {M : Type 1} → statement M
+write-framed-spec =
+    tie.close
+    (tie.spec
+    (λ c. let p = c .before .pre in omega (arith, p .0))
+    (λ c. search needs)
+    (λ c. search needs)
+    write-text-requires
+    (λ c. inr refl)
+    (λ c. search needs)
+    (λ c. search needs)
+    (λ c. search needs)
+    (λ c. search needs)
+    (λ c κs. search needs)
+    (λ c κs. search needs)
+    (λ c κs. search needs)
+    (λ c. inl refl))

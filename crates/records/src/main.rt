@@ -1,0 +1,261 @@
+// The program behind ./records: `records RULE text` reads lines of text from standard input and writes the records that
+// they say; `records RULE read` reads a record file and writes a line for each record. The last line is `end`; or
+// `wrong`,
+// the number of the line, the place in it and the number of the fault; or `stopped`, the bytes before the record that
+// has
+// no words and the refusal. What stands before a last line that is not `end` is no answer.
+use libc::STDIN_FILENO;
+use libc::STDOUT_FILENO;
+use record_lines::line::Line;
+use record_lines::line::RECORD_ROOM;
+use record_lines::line::read_line;
+use record_lines::values::Fault;
+use record_runs::head::Frame;
+use record_runs::head::read_frame;
+use record_runs::head::word;
+use record_words::kinds::kind_of;
+use record_words::told::add_told;
+use terms::Refusal;
+use terms::Rule;
+ghost use mathlib.Core.Path.{_≡_};
+ghost use mathlib.Core.Logic.{_⊎_};
+ghost use Prim.Native.Nat.{_+_, _≤_, _<_};
+ghost use lib.ListN.{length};
+ghost use Rattle.terms.specs.Limits.{mostInput};
+
+// The most bytes of records, and what is no number of bytes.
+const MOST_INPUT: usize = 12288;
+
+const STOPPED: usize = 20000;
+
+// Room for the text of any record.
+const TEXT_ROOM: usize = 768;
+
+// The number of the fault of a file that is too long.
+const TOO_LONG: u8 = 15;
+
+// The rule that the first argument names: the cut, or `nearest`.
+fn rule_named(name: &[u8]) -> Rule {
+    if check::same(name, b"nearest") {
+        return Rule::Nearest;
+    }
+    Rule::Cut
+}
+
+// The number by which ./records knows a fault.
+fn fault_number(fault: Fault) -> u8 {
+    match fault {
+        Fault::NoName => 1,
+        Fault::Missing => 2,
+        Fault::NoDigit => 3,
+        Fault::NoPoint => 4,
+        Fault::ManyDigits => 5,
+        Fault::ManyPlaces => 6,
+        Fault::NoEnd => 7,
+        Fault::TooLarge => 8,
+        Fault::TooSmall => 9,
+        Fault::ManyBytes => 10,
+        Fault::NoNumber => 11,
+        Fault::OutOfRange => 12,
+        Fault::NoCode => 13,
+        Fault::Behind => 14,
+    }
+}
+
+// Writes a blank and a number.
+fn write_field(n: u64) {
+    io::write_all(STDOUT_FILENO, b" ");
+    io::print_decimal(STDOUT_FILENO, n);
+}
+
+// Writes which line is wrong, from which place of it, counted from 0, and why.
+fn write_wrong(number: u64, place: usize, fault: u8) {
+    io::write_all(STDOUT_FILENO, b"\nwrong");
+    write_field(number);
+    write_field(place as u64);
+    write_field(fault as u64);
+    io::write_all(STDOUT_FILENO, b"\n");
+}
+
+// Writes before how many bytes a file of records stops, and why.
+fn write_stopped(at: usize, refusal: u8) {
+    io::write_all(STDOUT_FILENO, b"\nstopped");
+    write_field(at as u64);
+    write_field(refusal as u64);
+    io::write_all(STDOUT_FILENO, b"\n");
+}
+
+// Where the line ends that begins at a place.
+fn line_end(text: &[u8], at: usize) -> usize
+    requires { ⌜ at ≤ length (now text) ⌝ }
+    ensures { λ r. ⌜ (at ≤ r) × (r ≤ length (now (text .entry))) ⌝ }
+{
+    let mut end = at;
+    while end < text.len() {
+        if text[end] == b'\n' {
+            return end;
+        }
+        end += 1;
+    }
+    end
+}
+
+// The end of a line without a carriage return.
+fn trimmed(text: &[u8], at: usize, end: usize) -> usize
+    requires { ⌜ (at ≤ end) × (end ≤ length (now text)) ⌝ }
+    ensures { λ r. ⌜ (at ≤ r) × (r ≤ length (now (text .entry))) ⌝ }
+{
+    if end <= at {
+        return end;
+    }
+    if text[end - 1] == b'\r' {
+        return end - 1;
+    }
+    end
+}
+
+// Writes the record of a line, and answers how many bytes there are with it.
+fn write_record(rule: Rule, line: &[u8], number: u64, size: usize) -> usize
+    requires { ⌜ size ≤ 12288 ⌝ }
+    ensures { λ r. ⌜ r ≤ 20000 ⌝ }
+{
+    let mut record = [0u8; RECORD_ROOM];
+    let said = read_line(rule, line, &mut record);
+    match said {
+        Line::Record(n) => {
+            io::write_all(STDOUT_FILENO, &record[..n]);
+            size + n
+        }
+        Line::Empty => size,
+        Line::Wrong(fault, place) => {
+            write_wrong(number, place, fault_number(fault));
+            STOPPED
+        }
+    }
+}
+
+// Writes the record of each line.
+fn write_records(rule: Rule, text: &[u8]) {
+    let mut number: u64 = 0;
+    let mut size = 0;
+    let mut at = 0;
+    while at < text.len() {
+        number += 1;
+        let end = line_end(text, at);
+        size = write_record(rule, &text[at..trimmed(text, at, end)], number, size);
+        if size == STOPPED {
+            return;
+        }
+        if MOST_INPUT < size {
+            write_wrong(number, 0, TOO_LONG);
+            return;
+        }
+        at = end + 1;
+    }
+    io::write_all(STDOUT_FILENO, b"\nend\n");
+}
+
+// The refusal of a record that has no words: 5 where there is no such kind, else 7.
+fn refusal_of(kind: u16) -> u8 {
+    if kind == 0 {
+        return 5;
+    }
+    if kind < 9 {
+        return 7;
+    }
+    if kind < 256 {
+        return 5;
+    }
+    if kind < 259 {
+        return 7;
+    }
+    5
+}
+
+// Whether a line says a record.
+fn says(line: &[u8], bytes: &[u8]) -> bool {
+    let mut back = [0u8; RECORD_ROOM];
+    let said = read_line(Rule::Cut, line, &mut back);
+    match said {
+        Line::Record(m) => check::same(bytes, &back[..m]),
+        Line::Empty => false,
+        Line::Wrong(_, _) => false,
+    }
+}
+
+// Writes the line of a record, if that line says the record.
+fn write_text(bytes: &[u8]) -> bool
+    requires { ⌜ (4 ≤ length (now bytes)) × (length (now bytes) ≤ 244) ⌝ }
+{
+    let kind = kind_of(word(bytes[2], bytes[3]));
+    let mut text = [0u8; TEXT_ROOM];
+    let n = add_told(&mut text, 0, kind, &bytes[4..]);
+    if says(&text[..n], bytes) {
+        io::write_all(STDOUT_FILENO, &text[..n]);
+        io::write_all(STDOUT_FILENO, b"\n");
+        return true;
+    }
+    false
+}
+
+// Writes the line of the record from one place to another, and answers the other one; where it has none it writes why,
+// and answers what is no place.
+fn write_framed(input: &[u8], at: usize, end: usize) -> usize
+    requires { ⌜ (at + 4 ≤ end) × (end ≤ at + 244) × (end ≤ length (now input)) ⌝ }
+    ensures { λ r. ⌜ (r ≡ 20000) ⊎ (r ≡ end) ⌝ }
+{
+    if write_text(&input[at..end]) {
+        return end;
+    }
+    write_stopped(at, refusal_of(word(input[at + 2], input[at + 3])));
+    STOPPED
+}
+
+// Writes the line of the record at a place, and answers where the next one begins; where it has none it writes why, and
+// answers what is no place.
+fn write_next(input: &[u8], at: usize) -> usize
+    requires { ⌜ (at ≤ length (now input)) × (length (now input) ≤ mostInput) ⌝ }
+    ensures { λ r. ⌜ (r ≡ 20000) ⊎ ((at < r) × (r ≤ length (now (input .entry)))) ⌝ }
+{
+    let frame = read_frame(&input[at..], at as u32, input.len() as u32);
+    match frame {
+        Frame::Framed(n) => write_framed(input, at, at + 4 + n as usize),
+        Frame::Broken(refusal) => {
+            write_stopped(at, terms::number(refusal));
+            STOPPED
+        }
+    }
+}
+
+// Writes the line of each record, of a file that is not too long.
+fn write_texts(input: &[u8])
+    requires { ⌜ length (now input) ≤ mostInput ⌝ }
+{
+    let mut at = 0;
+    while at < input.len() {
+        at = write_next(input, at);
+        if at == STOPPED {
+            return;
+        }
+    }
+    io::write_all(STDOUT_FILENO, b"\nend\n");
+}
+
+fn main() {
+    let mut name = [0u8; 16];
+    let n = os::arg(1, &mut name);
+    let rule = rule_named(&name[..n]);
+    let mut what = [0u8; 16];
+    let m = os::arg(2, &mut what);
+    let mut input = [0u8; 262144];
+    let size = io::read_full(STDIN_FILENO, &mut input);
+    if check::same(&what[..m], b"read") {
+        if MOST_INPUT < size {
+            write_stopped(0, terms::number(Refusal::InputTooLong));
+        } else {
+            write_texts(&input[..size]);
+        }
+    } else {
+        write_records(rule, &input[..size]);
+    }
+}

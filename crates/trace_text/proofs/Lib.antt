@@ -1,0 +1,2 @@
+-- The laws that the proofs of the trace cite, and an example.
+pub mod Tracing

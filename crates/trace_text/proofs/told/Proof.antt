@@ -1,0 +1,35 @@
+-- `trace_text::told` traces what is asked for, or how to ask. Assumes nothing.
+use mathlib.Core.Path.{sym, ap, _∙_}
+use denote.Ref.{now}
+use borrow.Author.Needs.{needs}
+use Rattle.listing.proofs.Adding.{counted}
+use Rattle.options.specs.declared.Asked.{Asked}
+use Rattle.trace_text.specs.Trace.{textOf}
+use Rattle.trace_text.proofs.told.Statement.{statement}
+use Rattle.trace_text.proofs.told.Tie as tie
+
+returns : tie.Need-returns
+returns c =
+    let e = c .before .before .before in
+    let input = now (e .before .before .before .before .before .before .args .input) in
+    (c .trace .ensures .0, c .trace .ensures .1 ∙ ap (λ (a : Asked). textOf a input) (sym (e .asked .given .1) ∙ e .before .before .asked-of .ensures))
+
+returns-2 : tie.Need-returns-2
+returns-2 c =
+    let e = c .before .before .before in
+    let input = now (e .before .before .before .before .before .before .args .input) in
+    let asked = sym (e .enum-told .given .1) ∙ e .before .before .asked-of .ensures in
+    (counted (c .add .ensures), c .add .ensures .reads ∙ ap (λ (a : Asked). textOf a input) asked)
+
+pub told-spec : {M : Type 1} → statement M
+told-spec =
+    tie.close
+    (tie.spec
+    (λ c κs. search needs)
+    (λ c. search needs)
+    (λ c κs. search needs)
+    (λ c. search needs)
+    (λ c. search needs)
+    (λ c κs. search needs)
+    returns
+    returns-2)

@@ -1,0 +1,2 @@
+-- What the trace program prints for an input.
+pub mod Trace
