@@ -50,3 +50,4 @@ pub mod RunRows
 pub mod EventRows
 pub mod CallRows
 pub mod DecimalNumbers
+pub mod RecordText

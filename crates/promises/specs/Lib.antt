@@ -54,3 +54,4 @@ pub mod RunRows
 pub mod EventRows
 pub mod CallRows
 pub mod DecimalNumbers
+pub mod RecordText
