@@ -1,5 +1,5 @@
 // The program behind ./steps: its arguments are CODE B A and an option, and it writes what
-// `workings` tells for them to standard output, `usage` where they ask for nothing that it does.
+// `step_text` tells for them to standard output, `usage` where they ask for nothing that it does.
 use libc::STDOUT_FILENO;
 
 fn main() {
