@@ -21,8 +21,4 @@ returns-4 c =
 pub refusal-of-spec : {M : Type 1} → statement M
 refusal-of-spec =
     tie.close
-    (tie.spec
-    returns
-    returns-2
-    returns-3
-    returns-4)
+    (tie.spec returns returns-2 returns-3 returns-4)

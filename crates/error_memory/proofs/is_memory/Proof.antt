@@ -18,8 +18,4 @@ returns-4 c = simp (le-ltb _ _ (c .before .before .if1 .left), ne-eqb _ _ (c .be
 pub is-memory-spec : {M : Type 1} → statement M
 is-memory-spec =
     tie.close
-    (tie.spec
-    returns
-    returns-2
-    returns-3
-    returns-4)
+    (tie.spec returns returns-2 returns-3 returns-4)

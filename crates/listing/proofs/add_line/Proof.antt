@@ -37,12 +37,5 @@ returns c =
 pub add-line-spec : {M : Type 1} → statement M
 add-line-spec =
     tie.close
-    (tie.spec
-    add-decimal-requires
-    add-field-requires
-    add-field-requires-2
-    add-data-requires
-    (λ c. search needs)
-    add-requires
-    (λ c. search needs)
-    returns)
+    (tie.spec add-decimal-requires add-field-requires add-field-requires-2 add-data-requires (λ c. search needs)
+    add-requires (λ c. search needs) returns)

@@ -43,15 +43,6 @@ returns c =
 pub add-printed-spec : {M : Type 1} → statement M
 add-printed-spec =
     tie.close
-    (tie.spec
-    (λ c κs. search needs)
-    (λ c κs. search needs)
-    (λ c. search needs)
-    (λ c κs. search needs)
-    slice-aggregate-add-listing
-    (λ c. search needs)
-    (λ c κs. search needs)
-    (λ c. search needs)
-    add-listing-requires
-    (λ c. search needs)
-    returns)
+    (tie.spec (λ c κs. search needs) (λ c κs. search needs) (λ c. search needs) (λ c κs. search needs)
+    slice-aggregate-add-listing (λ c. search needs) (λ c κs. search needs) (λ c. search needs) add-listing-requires
+    (λ c. search needs) returns)

@@ -31,14 +31,5 @@ returns c =
 pub add-reply-spec : {M : Type 1} → statement M
 add-reply-spec =
     tie.close
-    (tie.spec
-    (λ c κs. search needs)
-    (λ c κs. search needs)
-    (λ c. search needs)
-    cast-add-line
-    (λ c. search needs)
-    (λ c. search needs)
-    (λ c. search needs)
-    add-line-requires
-    (λ c. search needs)
-    returns)
+    (tie.spec (λ c κs. search needs) (λ c κs. search needs) (λ c. search needs) cast-add-line (λ c. search needs)
+    (λ c. search needs) (λ c. search needs) add-line-requires (λ c. search needs) returns)

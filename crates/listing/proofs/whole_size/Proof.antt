@@ -31,12 +31,5 @@ returns-5 c =
 pub whole-size-spec : {M : Type 1} → statement M
 whole-size-spec =
     tie.close
-    (tie.spec
-    returns
-    (λ c κs. search needs)
-    (λ c. search needs)
-    returns-2
-    returns-3
-    (λ c κs. search needs)
-    returns-4
+    (tie.spec returns (λ c κs. search needs) (λ c. search needs) returns-2 returns-3 (λ c κs. search needs) returns-4
     returns-5)

@@ -22,15 +22,7 @@ all c = length-take-le (c .said .given .0 .0) (c .before .before .before .read-l
 pub says-spec : {M : Type 1} → statement M
 says-spec =
     tie.close
-    (tie.spec
-    (λ c. search needs)
-    (λ c κs. search needs)
-    (λ c. search needs)
-    (λ c. omega (arith, room (c .before), said-fits (c .before)))
-    (λ c. sym (all (c .before .before)))
-    (λ c κs. search needs)
-    (λ c. search needs)
-    (λ c. search needs)
-    (λ c. search needs)
-    (λ c. search needs)
+    (tie.spec (λ c. search needs) (λ c κs. search needs) (λ c. search needs)
+    (λ c. omega (arith, room (c .before), said-fits (c .before))) (λ c. sym (all (c .before .before)))
+    (λ c κs. search needs) (λ c. search needs) (λ c. search needs) (λ c. search needs) (λ c. search needs)
     (λ c. search needs))

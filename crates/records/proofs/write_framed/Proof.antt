@@ -20,17 +20,6 @@ write-text-requires c κs =
 pub write-framed-spec : {M : Type 1} → statement M
 write-framed-spec =
     tie.close
-    (tie.spec
-    (λ c. let p = c .before .pre in omega (arith, p .0))
-    (λ c. search needs)
-    (λ c. search needs)
-    write-text-requires
-    (λ c. inr refl)
-    (λ c. search needs)
-    (λ c. search needs)
-    (λ c. search needs)
-    (λ c. search needs)
-    (λ c κs. search needs)
-    (λ c κs. search needs)
-    (λ c κs. search needs)
-    (λ c. inl refl))
+    (tie.spec (λ c. let p = c .before .pre in omega (arith, p .0)) (λ c. search needs) (λ c. search needs)
+    write-text-requires (λ c. inr refl) (λ c. search needs) (λ c. search needs) (λ c. search needs) (λ c. search needs)
+    (λ c κs. search needs) (λ c κs. search needs) (λ c κs. search needs) (λ c. inl refl))

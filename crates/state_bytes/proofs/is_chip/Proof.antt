@@ -21,11 +21,4 @@ returns-4 c = is-chip (now (c .before .before .before .before .before .before .a
 pub is-chip-spec : {M : Type 1} → statement M
 is-chip-spec =
     tie.close
-    (tie.spec
-    (λ c. search needs)
-    returns
-    (λ c. search needs)
-    returns-2
-    (λ c. search needs)
-    returns-3
-    returns-4)
+    (tie.spec (λ c. search needs) returns (λ c. search needs) returns-2 (λ c. search needs) returns-3 returns-4)

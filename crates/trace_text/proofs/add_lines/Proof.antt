@@ -82,24 +82,9 @@ returns-2 c =
 pub add-lines-spec : {M : Type 1} → statement M
 add-lines-spec =
     tie.close
-    (tie.spec
-    Inv-loop
-    μ-loop
-    loop-holds
-    (λ c. omega (arith, c .loop .inv .in-it, c .before .before .before .pre .0))
-    (λ c. search needs)
-    (λ c. search needs)
-    (λ c. search needs)
-    (λ c. search needs)
-    (λ c κs. search needs)
+    (tie.spec Inv-loop μ-loop loop-holds (λ c. omega (arith, c .loop .inv .in-it, c .before .before .before .pre .0))
+    (λ c. search needs) (λ c. search needs) (λ c. search needs) (λ c. search needs) (λ c κs. search needs)
     (λ c. search needs)
     (λ c. omega (arith, c .before .before .before .before .loop .inv .in-it, c .before .before .before .before .before .before .before .pre .0))
-    (λ c. c .before .before .before .before .before .loop .inv .same)
-    returns
-    slice-aggregate-add-after
-    add-after-requires
-    add-number
-    loop-less
-    loop-again
-    (λ c. c .before .loop .inv .same)
-    returns-2)
+    (λ c. c .before .before .before .before .before .loop .inv .same) returns slice-aggregate-add-after
+    add-after-requires add-number loop-less loop-again (λ c. c .before .loop .inv .same) returns-2)

@@ -60,25 +60,7 @@ returns-5 c = let a = c .before .before .before .args in tasked (a .b) (a .a) (c
 pub task-of-spec : {M : Type 1} → statement M
 task-of-spec =
     tie.close
-    (tie.spec
-    (λ c. search needs)
-    (λ c κs. search needs)
-    (λ c κs. search needs)
-    sizes-multiplied-requires
-    (λ c. search needs)
-    (λ c κs. search needs)
-    (λ c κs. search needs)
-    sizes-multiplied-requires-2
-    (λ c. search needs)
-    (λ c κs. search needs)
-    (λ c κs. search needs)
-    sizes-divided-requires
-    (λ c. search needs)
-    (λ c κs. search needs)
-    (λ c. search needs)
-    (λ c κs. search needs)
-    returns
-    returns-2
-    returns-3
-    returns-4
-    returns-5)
+    (tie.spec (λ c. search needs) (λ c κs. search needs) (λ c κs. search needs) sizes-multiplied-requires
+    (λ c. search needs) (λ c κs. search needs) (λ c κs. search needs) sizes-multiplied-requires-2 (λ c. search needs)
+    (λ c κs. search needs) (λ c κs. search needs) sizes-divided-requires (λ c. search needs) (λ c κs. search needs)
+    (λ c. search needs) (λ c κs. search needs) returns returns-2 returns-3 returns-4 returns-5)

@@ -96,17 +96,5 @@ returns-5 c =
 pub bring-spec : {M : Type 1} → statement M
 bring-spec =
     tie.close
-    (tie.spec
-    (λ c κs. search needs)
-    returns
-    is-small-requires
-    returns-2
-    stand-for-requires
-    (λ c κs. search needs)
-    returns-3
-    (λ c κs. search needs)
-    (λ c κs. search needs)
-    (λ c. search needs)
-    is-kept-requires
-    returns-4
-    returns-5)
+    (tie.spec (λ c κs. search needs) returns is-small-requires returns-2 stand-for-requires (λ c κs. search needs)
+    returns-3 (λ c κs. search needs) (λ c κs. search needs) (λ c. search needs) is-kept-requires returns-4 returns-5)

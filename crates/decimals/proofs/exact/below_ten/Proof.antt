@@ -14,6 +14,4 @@ returns-2 c = let w = c .before .before .args .w in high-beyond (w .high) (w .lo
 pub below-ten-spec : {M : Type 1} → statement M
 below-ten-spec =
     tie.close
-    (tie.spec
-    returns
-    returns-2)
+    (tie.spec returns returns-2)

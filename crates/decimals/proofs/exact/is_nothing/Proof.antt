@@ -13,6 +13,4 @@ returns-2 c = let r = c .before .before .args .r in high-some (r .high) (r .low)
 pub is-nothing-spec : {M : Type 1} → statement M
 is-nothing-spec =
     tie.close
-    (tie.spec
-    returns
-    returns-2)
+    (tie.spec returns returns-2)

@@ -35,18 +35,10 @@ returns-2 c =
 pub read-hex-spec : {M : Type 1} → statement M
 read-hex-spec =
     tie.close
-    (tie.spec
-    Inv-loop
-    μ-loop
-    loop-holds
-    (λ c. search needs)
-    (λ c κs. search needs)
-    returns
+    (tie.spec Inv-loop μ-loop loop-holds (λ c. search needs) (λ c κs. search needs) returns
     (λ c. let l = c .before .before .before .before in let n = narrow _ (l .loop .value) (l .loop .i) (l .loop .inv) (omega arith) in omega arith)
     (λ c. search needs)
     (λ c. let l = c .before .before .before .before in let n = narrow _ (l .loop .value) (l .loop .i) (l .loop .inv) (omega arith) in omega arith)
-    (λ c. search needs)
-    (λ c. search needs)
-    loop-again
+    (λ c. search needs) (λ c. search needs) loop-again
     (λ c. let l = c .before in record { fits = narrow _ (l .loop .value) (l .loop .i) (l .loop .inv) (omega arith) })
     returns-2)

@@ -76,13 +76,5 @@ returns c =
 pub add-brought-line-spec : {M : Type 1} → statement M
 add-brought-line-spec =
     tie.close
-    (tie.spec
-    add-digits-requires
-    (λ c. search needs)
-    add-requires
-    add-requires-2
-    add-mark-requires
-    (λ c. search needs)
-    add-requires-3
-    (λ c. search needs)
-    returns)
+    (tie.spec add-digits-requires (λ c. search needs) add-requires add-requires-2 add-mark-requires (λ c. search needs)
+    add-requires-3 (λ c. search needs) returns)

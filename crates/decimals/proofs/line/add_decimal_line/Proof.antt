@@ -20,8 +20,4 @@ returns c =
 pub add-decimal-line-spec : {M : Type 1} → statement M
 add-decimal-line-spec =
     tie.close
-    (tie.spec
-    (λ c κs. search needs)
-    add-read-line-requires
-    (λ c. search needs)
-    returns)
+    (tie.spec (λ c κs. search needs) add-read-line-requires (λ c. search needs) returns)

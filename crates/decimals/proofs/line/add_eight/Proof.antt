@@ -38,13 +38,5 @@ returns-2 c =
 pub add-eight-spec : {M : Type 1} → statement M
 add-eight-spec =
     tie.close
-    (tie.spec
-    read-hex-requires
-    (λ c. search needs)
-    add-word-line-requires
-    (λ c. search needs)
-    add-decimal-line-requires
-    (λ c. search needs)
-    returns
-    (λ c. search needs)
-    returns-2)
+    (tie.spec read-hex-requires (λ c. search needs) add-word-line-requires (λ c. search needs) add-decimal-line-requires
+    (λ c. search needs) returns (λ c. search needs) returns-2)

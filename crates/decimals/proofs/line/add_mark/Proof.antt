@@ -26,12 +26,5 @@ returns-3 c = (told-as (ap (markOf (c .before .before .before .args .rule)) (sym
 pub add-mark-spec : {M : Type 1} → statement M
 add-mark-spec =
     tie.close
-    (tie.spec
-    (λ c. search needs)
-    (λ c. search needs)
-    (λ c κs. search needs)
-    (λ c. search needs)
-    returns
-    (λ c. search needs)
-    returns-2
-    returns-3)
+    (tie.spec (λ c. search needs) (λ c. search needs) (λ c κs. search needs) (λ c. search needs) returns
+    (λ c. search needs) returns-2 returns-3)

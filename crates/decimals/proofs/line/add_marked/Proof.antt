@@ -33,9 +33,4 @@ returns c =
 pub add-marked-spec : {M : Type 1} → statement M
 add-marked-spec =
     tie.close
-    (tie.spec
-    add-places-requires
-    bring-requires
-    add-mark-requires
-    (λ c. search needs)
-    returns)
+    (tie.spec add-places-requires bring-requires add-mark-requires (λ c. search needs) returns)

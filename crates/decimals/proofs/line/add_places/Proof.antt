@@ -62,11 +62,5 @@ returns c =
 pub add-places-spec : {M : Type 1} → statement M
 add-places-spec =
     tie.close
-    (tie.spec
-    (λ c κs. search needs)
-    add-decimal-requires
-    (λ c. search needs)
-    add-requires
-    add-digits-requires
-    (λ c. search needs)
-    returns)
+    (tie.spec (λ c κs. search needs) add-decimal-requires (λ c. search needs) add-requires add-digits-requires
+    (λ c. search needs) returns)

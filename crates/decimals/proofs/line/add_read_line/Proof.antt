@@ -53,20 +53,6 @@ returns-4 c =
 pub add-read-line-spec : {M : Type 1} → statement M
 add-read-line-spec =
     tie.close
-    (tie.spec
-    (λ c. search needs)
-    add-brought-line-requires
-    (λ c. search needs)
-    add-brought-line-requires-2
-    (λ c. search needs)
-    add-refused-requires
-    (λ c. search needs)
-    add-wrong-requires
-    (λ c. search needs)
-    returns
-    (λ c. search needs)
-    returns-2
-    (λ c. search needs)
-    returns-3
-    (λ c. search needs)
-    returns-4)
+    (tie.spec (λ c. search needs) add-brought-line-requires (λ c. search needs) add-brought-line-requires-2
+    (λ c. search needs) add-refused-requires (λ c. search needs) add-wrong-requires (λ c. search needs) returns
+    (λ c. search needs) returns-2 (λ c. search needs) returns-3 (λ c. search needs) returns-4)

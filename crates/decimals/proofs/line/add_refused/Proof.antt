@@ -34,13 +34,5 @@ returns c =
 pub add-refused-spec : {M : Type 1} → statement M
 add-refused-spec =
     tie.close
-    (tie.spec
-    (λ c. search needs)
-    (λ c κs. search needs)
-    (λ c κs. search needs)
-    (λ c. search needs)
-    add-field-requires
-    (λ c. search needs)
-    add-requires-2
-    (λ c. search needs)
-    returns)
+    (tie.spec (λ c. search needs) (λ c κs. search needs) (λ c κs. search needs) (λ c. search needs) add-field-requires
+    (λ c. search needs) add-requires-2 (λ c. search needs) returns)

@@ -79,20 +79,6 @@ returns-3 c =
 pub add-value-spec : {M : Type 1} → statement M
 add-value-spec =
     tie.close
-    (tie.spec
-    (λ c κs. search needs)
-    (λ c κs. search needs)
-    (λ c κs. search needs)
-    add-exact-requires
-    (λ c. search needs)
-    add-requires
-    (λ c. search needs)
-    returns
-    (λ c κs. search needs)
-    add-exact-requires-2
-    (λ c. search needs)
-    returns-2
-    (λ c κs. search needs)
-    add-short-requires
-    (λ c. search needs)
-    returns-3)
+    (tie.spec (λ c κs. search needs) (λ c κs. search needs) (λ c κs. search needs) add-exact-requires
+    (λ c. search needs) add-requires (λ c. search needs) returns (λ c κs. search needs) add-exact-requires-2
+    (λ c. search needs) returns-2 (λ c κs. search needs) add-short-requires (λ c. search needs) returns-3)

@@ -48,12 +48,5 @@ returns c =
 pub add-word-line-spec : {M : Type 1} → statement M
 add-word-line-spec =
     tie.close
-    (tie.spec
-    add-digits-requires
-    (λ c. search needs)
-    add-requires
-    add-value-requires
-    (λ c. search needs)
-    add-requires-2
-    (λ c. search needs)
-    returns)
+    (tie.spec add-digits-requires (λ c. search needs) add-requires add-value-requires (λ c. search needs) add-requires-2
+    (λ c. search needs) returns)

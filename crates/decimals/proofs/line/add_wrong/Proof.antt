@@ -49,13 +49,5 @@ returns c =
 pub add-wrong-spec : {M : Type 1} → statement M
 add-wrong-spec =
     tie.close
-    (tie.spec
-    (λ c. search needs)
-    (λ c κs. search needs)
-    add-add-field
-    add-field-requires
-    add-fault-requires
-    (λ c. search needs)
-    add-requires-2
-    (λ c. search needs)
-    returns)
+    (tie.spec (λ c. search needs) (λ c κs. search needs) add-add-field add-field-requires add-fault-requires
+    (λ c. search needs) add-requires-2 (λ c. search needs) returns)

@@ -44,8 +44,4 @@ returns c =
 pub short-of-spec : {M : Type 1} → statement M
 short-of-spec =
     tie.close
-    (tie.spec
-    mul-shortest
-    add-shortest
-    shortest-requires
-    returns)
+    (tie.spec mul-shortest add-shortest shortest-requires returns)

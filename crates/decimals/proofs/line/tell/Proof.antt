@@ -49,10 +49,4 @@ returns-3 c =
 pub tell-spec : {M : Type 1} → statement M
 tell-spec =
     tie.close
-    (tie.spec
-    add-wrong-requires
-    returns
-    add-eight-requires
-    returns-2
-    add-decimal-line-requires
-    returns-3)
+    (tie.spec add-wrong-requires returns add-eight-requires returns-2 add-decimal-line-requires returns-3)

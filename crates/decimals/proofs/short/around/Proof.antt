@@ -39,10 +39,5 @@ returns-2 c =
 pub around-spec : {M : Type 1} → statement M
 around-spec =
     tie.close
-    (tie.spec
-    (λ c κs. search needs)
-    (λ c κs. let p = c .before .pre in (p .0, p .1, omega (arith, p .2)))
-    (λ c κs. search needs)
-    returns
-    (λ c κs. search needs)
-    returns-2)
+    (tie.spec (λ c κs. search needs) (λ c κs. let p = c .before .pre in (p .0, p .1, omega (arith, p .2)))
+    (λ c κs. search needs) returns (λ c κs. search needs) returns-2)

@@ -28,13 +28,5 @@ returns-2 c = muu-all _ _ _ (c .before .before .before .before .before .before .
 pub multiplied-upper-spec : {M : Type 1} → statement M
 multiplied-upper-spec =
     tie.close
-    (tie.spec
-    (λ c κs. search needs)
-    (λ c κs. search needs)
-    returns
-    (λ c κs. search needs)
-    (λ c κs. search needs)
-    mul-p
-    (λ c κs. search needs)
-    upper-bits-requires
-    returns-2)
+    (tie.spec (λ c κs. search needs) (λ c κs. search needs) returns (λ c κs. search needs) (λ c κs. search needs) mul-p
+    (λ c κs. search needs) upper-bits-requires returns-2)

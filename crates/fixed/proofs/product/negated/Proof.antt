@@ -11,9 +11,4 @@ returns c = chs-all _ _ _ _ _ _ (c .before .before .before .before .pre .2) (c .
 pub negated-spec : {M : Type 1} → statement M
 negated-spec =
     tie.close
-    (tie.spec
-    (λ c κs. search needs)
-    (λ c κs. search needs)
-    (λ c κs. search needs)
-    (λ c κs. search needs)
-    returns)
+    (tie.spec (λ c κs. search needs) (λ c κs. search needs) (λ c κs. search needs) (λ c κs. search needs) returns)

@@ -60,18 +60,6 @@ returns-3 c =
 pub sqrt-spec : {M : Type 1} → statement M
 sqrt-spec =
     tie.close
-    (tie.spec
-    (λ c κs. search needs)
-    returns
-    (λ c κs. search needs)
-    returns-2
-    (λ c κs. search needs)
-    (λ c. search needs)
-    (λ c. search needs)
-    (λ c. search needs)
-    whole-root-requires
-    traced-requires
-    (λ c. search needs)
-    (λ c. search needs)
-    (λ c κs. search needs)
-    returns-3)
+    (tie.spec (λ c κs. search needs) returns (λ c κs. search needs) returns-2 (λ c κs. search needs) (λ c. search needs)
+    (λ c. search needs) (λ c. search needs) whole-root-requires traced-requires (λ c. search needs) (λ c. search needs)
+    (λ c κs. search needs) returns-3)

@@ -16,14 +16,5 @@ returns-3 c = let s = c .before .before in trace-high (s .args .v) (s .args .s) 
 pub traced-spec : {M : Type 1} → statement M
 traced-spec =
     tie.close
-    (tie.spec
-    (λ c. search needs)
-    (λ c. search needs)
-    (λ c. search needs)
-    returns
-    (λ c. search needs)
-    (λ c. search needs)
-    returns-2
-    (λ c. search needs)
-    (λ c. search needs)
-    returns-3)
+    (tie.spec (λ c. search needs) (λ c. search needs) (λ c. search needs) returns (λ c. search needs)
+    (λ c. search needs) returns-2 (λ c. search needs) (λ c. search needs) returns-3)

@@ -42,13 +42,4 @@ returns c = let l = c .before .loop .inv in (l .next .last (c .loop-test .left),
 pub whole-root-spec : {M : Type 1} → statement M
 whole-root-spec =
     tie.close
-    (tie.spec
-    Inv-loop
-    μ-loop
-    mean-requires
-    mean-requires-2
-    loop-holds
-    mean-requires-3
-    loop-less
-    loop-again
-    returns)
+    (tie.spec Inv-loop μ-loop mean-requires mean-requires-2 loop-holds mean-requires-3 loop-less loop-again returns)

@@ -41,19 +41,6 @@ returns-2 c =
 pub add-lower-spec : {M : Type 1} → statement M
 add-lower-spec =
     tie.close
-    (tie.spec
-    (λ c κs. search needs)
-    (λ c. search needs)
-    (λ c κs. search needs)
-    (λ c. search needs)
-    (λ c. search needs)
-    (λ c κs. search needs)
-    (λ c κs. search needs)
-    sub-cut-word
-    (λ c. search needs)
-    (λ c κs. search needs)
-    returns
-    add-cut-word-2
-    (λ c. search needs)
-    (λ c κs. search needs)
-    returns-2)
+    (tie.spec (λ c κs. search needs) (λ c. search needs) (λ c κs. search needs) (λ c. search needs) (λ c. search needs)
+    (λ c κs. search needs) (λ c κs. search needs) sub-cut-word (λ c. search needs) (λ c κs. search needs) returns
+    add-cut-word-2 (λ c. search needs) (λ c κs. search needs) returns-2)

@@ -51,13 +51,5 @@ returns-2 c =
 pub add-number-spec : {M : Type 1} → statement M
 add-number-spec =
     tie.close
-    (tie.spec
-    (λ c. search needs)
-    returns
-    (λ c. search needs)
-    (λ c κs. search needs)
-    (λ c. search needs)
-    slice-aggregate-add
-    add-requires
-    (λ c. search needs)
-    returns-2)
+    (tie.spec (λ c. search needs) returns (λ c. search needs) (λ c κs. search needs) (λ c. search needs)
+    slice-aggregate-add add-requires (λ c. search needs) returns-2)

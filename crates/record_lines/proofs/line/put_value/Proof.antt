@@ -39,11 +39,4 @@ returns-2 c =
 pub put-value-spec : {M : Type 1} → statement M
 put-value-spec =
     tie.close
-    (tie.spec
-    (λ c. search needs)
-    add-number-requires
-    (λ c. search needs)
-    add-t12
-    (λ c. search needs)
-    returns
-    returns-2)
+    (tie.spec (λ c. search needs) add-number-requires (λ c. search needs) add-t12 (λ c. search needs) returns returns-2)

@@ -73,15 +73,6 @@ returns-3 c =
 pub read-values-spec : {M : Type 1} → statement M
 read-values-spec =
     tie.close
-    (tie.spec
-    (λ c. search needs)
-    (λ c κs. search needs)
-    (λ c. search needs)
-    returns
-    (λ c. omega (arith, room (c .before .before), taken-fits (c .before .before) .0))
-    slice-aggregate-close-line
-    close-line-requires
-    (λ c. search needs)
-    (λ c. search needs)
-    returns-2
-    returns-3)
+    (tie.spec (λ c. search needs) (λ c κs. search needs) (λ c. search needs) returns
+    (λ c. omega (arith, room (c .before .before), taken-fits (c .before .before) .0)) slice-aggregate-close-line
+    close-line-requires (λ c. search needs) (λ c. search needs) returns-2 returns-3)

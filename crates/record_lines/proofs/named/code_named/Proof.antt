@@ -37,13 +37,6 @@ returns-2 c = let l = c .before in (code-none (now (l .before .before .args .tex
 pub code-named-spec : {M : Type 1} → statement M
 code-named-spec =
     tie.close
-    (tie.spec
-    Inv-loop
-    μ-loop
-    loop-holds
-    (λ c κs. search needs)
-    returns
-    (λ c. record { fits = let h = c .before .before .loop-test .taken in omega arith })
-    (λ c. omega arith)
-    loop-again
+    (tie.spec Inv-loop μ-loop loop-holds (λ c κs. search needs) returns
+    (λ c. record { fits = let h = c .before .before .loop-test .taken in omega arith }) (λ c. omega arith) loop-again
     returns-2)

@@ -45,15 +45,6 @@ returns-2 c = let l = c .before in kind-none (now (l .before .before .args .text
 pub kind-named-spec : {M : Type 1} → statement M
 kind-named-spec =
     tie.close
-    (tie.spec
-    Inv-loop
-    μ-loop
-    loop-holds
-    (λ c κs. search needs)
-    (λ c κs. search needs)
-    (λ c κs. search needs)
-    returns
-    (λ c. record { fits = let h = c .before .before .before .loop-test .taken in omega arith })
-    (λ c. omega arith)
-    loop-again
-    returns-2)
+    (tie.spec Inv-loop μ-loop loop-holds (λ c κs. search needs) (λ c κs. search needs) (λ c κs. search needs) returns
+    (λ c. record { fits = let h = c .before .before .before .loop-test .taken in omega arith }) (λ c. omega arith)
+    loop-again returns-2)

@@ -44,13 +44,5 @@ returns-3 c =
 pub byte-value-spec : {M : Type 1} → statement M
 byte-value-spec =
     tie.close
-    (tie.spec
-    (λ c κs. search needs)
-    (λ c κs. search needs)
-    returns
-    read-hex-requires
-    (λ c. search needs)
-    (λ c. search needs)
-    (λ c κs. search needs)
-    returns-2
-    returns-3)
+    (tie.spec (λ c κs. search needs) (λ c κs. search needs) returns read-hex-requires (λ c. search needs)
+    (λ c. search needs) (λ c κs. search needs) returns-2 returns-3)

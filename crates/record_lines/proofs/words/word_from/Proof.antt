@@ -35,14 +35,5 @@ returns-2 c = let l = c .before in all-skipped _ _ (l .loop .i) (l .loop .inv) (
 pub word-from-spec : {M : Type 1} → statement M
 word-from-spec =
     tie.close
-    (tie.spec
-    Inv-loop
-    μ-loop
-    loop-holds
-    (λ c. search needs)
-    (λ c κs. search needs)
-    returns
-    (λ c. search needs)
-    (λ c. search needs)
-    loop-again
-    returns-2)
+    (tie.spec Inv-loop μ-loop loop-holds (λ c. search needs) (λ c κs. search needs) returns (λ c. search needs)
+    (λ c. search needs) loop-again returns-2)

@@ -30,15 +30,5 @@ returns c =
 pub open-reply-spec : {M : Type 1} → statement M
 open-reply-spec =
     tie.close
-    (tie.spec
-    (λ c. search needs)
-    (λ c. search needs)
-    (λ c. search needs)
-    slice-write-room-2
-    (λ c. search needs)
-    slice-write-room-3
-    (λ c. search needs)
-    slice-write-room-4
-    (λ c. search needs)
-    (λ c. search needs)
-    returns)
+    (tie.spec (λ c. search needs) (λ c. search needs) (λ c. search needs) slice-write-room-2 (λ c. search needs)
+    slice-write-room-3 (λ c. search needs) slice-write-room-4 (λ c. search needs) (λ c. search needs) returns)

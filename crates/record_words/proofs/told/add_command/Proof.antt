@@ -57,15 +57,5 @@ returns-2 c =
 pub add-command-spec : {M : Type 1} → statement M
 add-command-spec =
     tie.close
-    (tie.spec
-    (λ c κs. search needs)
-    (λ c κs. search needs)
-    (λ c κs. search needs)
-    (λ c. search needs)
-    returns
-    (λ c. search needs)
-    slice-aggregate-add
-    add-requires
-    add-sr-requires
-    (λ c. search needs)
-    returns-2)
+    (tie.spec (λ c κs. search needs) (λ c κs. search needs) (λ c κs. search needs) (λ c. search needs) returns
+    (λ c. search needs) slice-aggregate-add add-requires add-sr-requires (λ c. search needs) returns-2)

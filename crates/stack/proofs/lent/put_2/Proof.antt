@@ -24,11 +24,5 @@ returns c =
 pub put-2-spec : {M : Type 1} → statement M
 put-2-spec =
     tie.close
-    (tie.spec
-    (λ c. search needs)
-    (λ c. search needs)
-    (λ c. search needs)
-    (λ c. search needs)
-    slice-write-s-2
-    (λ c. search needs)
-    returns)
+    (tie.spec (λ c. search needs) (λ c. search needs) (λ c. search needs) (λ c. search needs) slice-write-s-2
+    (λ c. search needs) returns)

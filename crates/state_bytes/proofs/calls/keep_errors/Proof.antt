@@ -29,10 +29,5 @@ returns-2 c =
 pub keep-errors-spec : {M : Type 1} → statement M
 keep-errors-spec =
     tie.close
-    (tie.spec
-    (λ c κs. search needs)
-    (λ c κs. search needs)
-    (λ c κs. search needs)
-    (λ c. search needs)
-    returns
+    (tie.spec (λ c κs. search needs) (λ c κs. search needs) (λ c κs. search needs) (λ c. search needs) returns
     returns-2)

@@ -18,13 +18,7 @@ returns c =
 pub add-refusal-spec : {M : Type 1} → statement M
 add-refusal-spec =
     tie.close
-    (tie.spec
-    (λ c. search needs)
-    (λ c κs. search needs)
-    (λ c κs. search needs)
-    (λ c. search needs)
-    (λ c κs. omega (arith, at-most 20 (c .number .result)))
-    (λ c. search needs)
-    (λ c κs. omega (arith, at-most 20 (c .before .before .before .before .before .number .result)))
-    (λ c. search needs)
+    (tie.spec (λ c. search needs) (λ c κs. search needs) (λ c κs. search needs) (λ c. search needs)
+    (λ c κs. omega (arith, at-most 20 (c .number .result))) (λ c. search needs)
+    (λ c κs. omega (arith, at-most 20 (c .before .before .before .before .before .number .result))) (λ c. search needs)
     returns)

@@ -17,12 +17,7 @@ returns c =
 pub add-status-spec : {M : Type 1} → statement M
 add-status-spec =
     tie.close
-    (tie.spec
-    (λ c. search needs)
-    (λ c κs. search needs)
-    (λ c κs. search needs)
-    (λ c κs. search needs)
+    (tie.spec (λ c. search needs) (λ c κs. search needs) (λ c κs. search needs) (λ c κs. search needs)
     (λ c. search needs)
     (λ c κs. omega (arith, hex-length 2 (c .before .before .before .before .before .status .result)))
-    (λ c. search needs)
-    returns)
+    (λ c. search needs) returns)

@@ -38,14 +38,5 @@ returns-3 c =
 pub add-steps-spec : {M : Type 1} → statement M
 add-steps-spec =
     tie.close
-    (tie.spec
-    (λ c. search needs)
-    (λ c. search needs)
-    add-product-requires
-    (λ c. search needs)
-    add-quotient-requires
-    returns
-    (λ c. search needs)
-    returns-2
-    (λ c. search needs)
-    returns-3)
+    (tie.spec (λ c. search needs) (λ c. search needs) add-product-requires (λ c. search needs) add-quotient-requires
+    returns (λ c. search needs) returns-2 (λ c. search needs) returns-3)
