@@ -12,7 +12,7 @@ use Rattle.float.specs.Word.{negative, mantissa, size88, value}
 use Rattle.float.proofs.Kept.{same-word}
 use Rattle.host_floats.specs.Values.{HasWord, Endless, IsMinusZero, Large, Small}
 use Rattle.host_floats.proofs.Signs.{of-signed, parted}
-use Rattle.host_floats.proofs.Words.{proper-cases, size-zero, size-some, size-lt}
+use Rattle.host_floats.proofs.WordSizes.{proper-cases, size-zero, size-some, size-lt}
 
 value-same : (w v : ℕ) → size88 w ≡ size88 v → (negative w ≡ negative v) ⊎ (size88 v ≡ 0) → value w ≡ value v
 unfolding value

@@ -37,7 +37,7 @@ use Rattle.host_floats.specs.Double.{doubleSign, doubleField, doubleFrac
 use Rattle.host_floats.specs.declared.entry.Inward.{Inward}
 use Rattle.host_floats.specs.declared.entry.Inward.the-variants.{Exact, Rounded, Refused}
 use Rattle.host_floats.proofs.Signs.{parted, same-value}
-use Rattle.host_floats.proofs.Words.{proper-cases, size-zero}
+use Rattle.host_floats.proofs.WordSizes.{proper-cases, size-zero}
 use Rattle.host_floats.proofs.Patterns.{all-ones}
 use Rattle.host_floats.proofs.Classes.{below-ones, zero-right, minus-right, minus-bits, small-right}
 use Rattle.host_floats.proofs.DoubleOut.{double-value}

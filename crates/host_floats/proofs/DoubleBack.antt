@@ -24,7 +24,7 @@ use Rattle.host_floats.specs.Double.{doubleField, doubleBits, broughtOf,
 use Rattle.host_floats.specs.declared.entry.Inward.{Inward}
 use Rattle.host_floats.specs.declared.entry.Inward.the-variants.{Exact, Rounded, Refused}
 use Rattle.host_floats.proofs.Signs.{of-signed, united}
-use Rattle.host_floats.proofs.Words.{size-zero}
+use Rattle.host_floats.proofs.WordSizes.{size-zero}
 use Rattle.host_floats.proofs.Back.{word-not-minus}
 use Rattle.host_floats.proofs.Apart.{one-word, held-endless, held-small, endless-small, endless-minus, minus-small}
 use Rattle.host_floats.proofs.DoubleOut.{double-value}

@@ -20,7 +20,7 @@ use Rattle.host_floats.specs.declared.Taken.the-variants.{Word, Refused}
 use Rattle.host_floats.proofs.Patterns.{leading, leading-many, bits-value, all-ones}
 use Rattle.host_floats.proofs.Sizes.{same-of, large-of}
 use Rattle.host_floats.proofs.Classes.{sizeIn, below-ones, zero-right, minus-right, minus-bits, small-right}
-use Rattle.host_floats.proofs.Words.{packed, packed-mantissa, packed-biased, packed-negative, packed-lt, size-is}
+use Rattle.host_floats.proofs.WordSizes.{packed, packed-mantissa, packed-biased, packed-negative, packed-lt, size-is}
 
 -- ---- the word of an f32, field by field
 pub record Parts (p : ℕ) : Type 0 where

@@ -21,7 +21,7 @@ use Rattle.float.proofs.Signs.{alone}
 use Rattle.float.proofs.Kept.{own-value}
 use Rattle.host_floats.specs.Double.{doubleSign, doubleField, doubleFraction, doubleBits, broughtOf}
 use Rattle.host_floats.proofs.Patterns.{joined, leading-many, bits-value, rejoined}
-use Rattle.host_floats.proofs.Words.{proper-cases}
+use Rattle.host_floats.proofs.WordSizes.{proper-cases}
 use Rattle.host_floats.proofs.Outward.{not-zero}
 use Rattle.host_floats.proofs.DoubleOut.{double-some}
 use Rattle.host_floats.proofs.DoubleIn.{doubleSize}

@@ -33,13 +33,13 @@ use Rattle.host_floats.proofs.Brought.{held-large-by, endless-large-by, minus-l
 use Rattle.host_floats.proofs.Brought.{right}
 use Rattle.host_floats.proofs.DoubleBack.{brought-once, answers-exact, answers-rounded, answers-endless, answers-minus, answers-small, answers-large}
 use Rattle.host_floats.proofs.DoubleBack.{double-back, exact-bits}
-use Rattle.host_buffers.specs.declared.Entry.{Entry}
-use Rattle.host_buffers.specs.declared.Reply.{Reply}
-use Rattle.host_buffers.specs.Buffers.{outwardEntry, inwardEntry, wordEntry, floatEntry, floatEntries, replyTo, Turn, wordsTurn, floatsTurn, Turns}
-use Rattle.host_buffers.proofs.Writing.{firstBytes, first-length}
-use Rattle.host_buffers.proofs.Answers.{part-words, no-room-words, bad-word, words-written, no-rule, part-floats, no-room-floats, bad-float, floats-written}
-use Rattle.host_buffers.proofs.Blocks.{block, whole}
-use Rattle.host_buffers.proofs.Found.{roundedBelow, Taken, reply-bad, reply-done, First, all-or-first, none-rounded, rounded-none}
+use Rattle.host_floats.specs.declared.buffer.Entry.{Entry}
+use Rattle.host_floats.specs.declared.buffer.BufferReply.{BufferReply}
+use Rattle.host_floats.specs.Buffers.{outwardEntry, inwardEntry, wordEntry, floatEntry, floatEntries, replyTo, Turn, wordsTurn, floatsTurn, Turns}
+use Rattle.host_floats.proofs.Writing.{firstBytes, first-length}
+use Rattle.host_floats.proofs.Answers.{part-words, no-room-words, bad-word, words-written, no-rule, part-floats, no-room-floats, bad-float, floats-written}
+use Rattle.host_floats.proofs.Blocks.{block, whole}
+use Rattle.host_floats.proofs.Found.{roundedBelow, Taken, reply-bad, reply-done, First, all-or-first, none-rounded, rounded-none}
 use Rattle.promises.proofs.Measures.{theirs-held, ours-held, theirs-brought, ours-brought, theirs-large, ours-large}
 use Rattle.promises.specs.Doubles.{carriedBits, outward, inward, OutwardExact, InwardAnswered, BroughtOnce, floatIn, wordBytes, floatBytes, turned}
 use Rattle.promises.specs.Doubles.{WordsCall, Names, cut, nearest, isRounded, howMany, FloatsCall, BufferCalls, BuffersKept, WordsBack, FloatsBack}
@@ -286,7 +286,7 @@ module _ (rule : ℕ) (floats out : List ℕ) where
     half : length floats / 8 * 4 ≡ length floats / 2
     half = omega arith
 
-    by-rule : (s : Reply) → s ≡ replyTo (floatEntries how floats) → s ≡ replyTo (floatEntries (ruleOf rule) floats)
+    by-rule : (s : BufferReply) → s ≡ replyTo (floatEntries how floats) → s ≡ replyTo (floatEntries (ruleOf rule) floats)
     by-rule s e = e ∙ ap (λ (q : Rule). replyTo (floatEntries q floats)) (sym (r .1))
 
     floats-first : (b : First (floatEntry how floats) (length floats / 8)) → floatsTurn rule floats out ≡ turned (floatEntry how floats (b .i) .refusal)

@@ -8,7 +8,7 @@ use lib.ListN.{getD}
 use lib.Ieee.{size, ofBits, toBits}
 use Rattle.stack.specs.Stack.{Bytes, zeros}
 use Rattle.host_floats.specs.Double.{outwardOf, inwardOf}
-use Rattle.host_buffers.specs.Buffers.{Turn, wordsTurn, floatsTurn}
+use Rattle.host_floats.specs.Buffers.{Turn, wordsTurn, floatsTurn}
 use Rattle.promises.specs.Doubles.{turned}
 use Rattle.promises.specs.WrongConverters.{Converter, Converts, WrongConverter, never-words, never-floats, same-words, same-floats, back-words}
 use Rattle.promises.specs.WrongConverters.{back-floats, number-words, number-floats, first-word, first-float, NoWrongConverter}

@@ -5,7 +5,7 @@ use mathlib.Core.Path.{_≡_}
 use mathlib.Core.List.{List, [], _∷_, map}
 use lib.ListN.{replicate}
 use Rattle.terms.specs.declared.Rule.the-variants.{Cut, Nearest}
-use Rattle.host_buffers.specs.declared.Entry.{Entry}
+use Rattle.host_floats.specs.declared.buffer.Entry.{Entry}
 use Rattle.promises.specs.Subjects.{Turn, wordsTurn, floatsTurn}
 use Rattle.promises.specs.Doubles.{outward, inward, turned}
 

@@ -16,7 +16,7 @@ use Rattle.host_floats.specs.declared.entry.Outward.{Outward}
 use Rattle.host_floats.specs.declared.entry.Outward.the-variants.{Float as Floats, Refused as Stays}
 use Rattle.host_floats.specs.declared.entry.Inward.{Inward}
 use Rattle.host_floats.specs.declared.entry.Inward.the-variants.{Exact, Rounded, Refused}
-use Rattle.host_buffers.specs.declared.Entry.{Entry}
+use Rattle.host_floats.specs.declared.buffer.Entry.{Entry}
 use Rattle.promises.specs.Subjects.{Turn, wordsTurn, floatsTurn, Turns}
 use Rattle.promises.specs.Stack.{Bytes}
 use Rattle.promises.specs.RefusalNumbers.{numberOf}

@@ -1,8 +1,8 @@
 // The calls that turn buffers of chip words to f64s and back. `number` is the reply's other half and always
 // written: on 0 how many f64s were brought to 24 bits, on a refusal the first bad entry, counted from 1, or 0.
-use host_buffers::floats::f64_to_words;
-use host_buffers::words::words_to_f64;
-ghost use Rattle.host_buffers.specs.Buffers.{wordsTurn, floatsTurn, Turns};
+use host_floats::floats::f64_to_words;
+use host_floats::words::words_to_f64;
+ghost use Rattle.host_floats.specs.Buffers.{wordsTurn, floatsTurn, Turns};
 
 // Words, four bytes each, to f64s, eight bytes each. Returns the refusal: 18, 8, then 4; `out` is written on 0 alone.
 #[no_mangle]
