@@ -20,16 +20,16 @@ keep-a-requires-2 : tie.Need-keep-a-requires-2
 keep-a-requires-2 c κs = subst (λ (r : Fixed). r .error < 16) (sym (c .sub16 .ensures)) (sub-few _ _ _)
 
 lose-a-requires : tie.Need-lose-a-requires
-lose-a-requires c κs = subst (λ (r : Fixed). r .error < 16) (sym (c .mul16 .ensures)) (mul-few _ _ _)
+lose-a-requires c κs = subst (λ (r : Fixed). r .error < 16) (sym (c .mul .ensures)) (mul-few _ _ _)
 
 lose-a-requires-2 : tie.Need-lose-a-requires-2
-lose-a-requires-2 c κs = subst (λ (r : Fixed). r .error < 16) (sym (c .muu16 .ensures)) (muu-few _ _ _)
+lose-a-requires-2 c κs = subst (λ (r : Fixed). r .error < 16) (sym (c .muu .ensures)) (muu-few _ _ _)
 
 lose-a-requires-3 : tie.Need-lose-a-requires-3
-lose-a-requires-3 c κs = subst (λ (r : Fixed). r .error < 16) (sym (c .div16 .ensures)) (div-few _ _ _)
+lose-a-requires-3 c κs = subst (λ (r : Fixed). r .error < 16) (sym (c .div .ensures)) (div-few _ _ _)
 
 change-a-requires : tie.Need-change-a-requires
-change-a-requires c κs = subst (λ (r : Fixed). r .error < 16) (sym (c .chs16 .ensures)) (chs-few _ _)
+change-a-requires c κs = subst (λ (r : Fixed). r .error < 16) (sym (c .chs .ensures)) (chs-few _ _)
 
 returns : tie.Need-returns
 returns c =
@@ -60,7 +60,7 @@ returns-3 c =
     works-as Single s (c .lose-a .result) (c .before .before .enum-told3 .given .1)
     (λ rule. (
       of-words losesA mul (bytesIn s) {v = Single} {w = Single} refl (at-words .before .nos .ensures .0) (at-words .tos .ensures .0)
-          (c .before .mul16 .ensures) (c .lose-a .ensures .0),
+          (c .before .mul .ensures) (c .lose-a .ensures .0),
       c .lose-a .ensures .1,
     ))
 
@@ -71,7 +71,7 @@ returns-4 c =
     works-as Single s (c .lose-a2 .result) (c .before .before .enum-told4 .given .1)
     (λ rule. (
       of-words losesA muu (bytesIn s) {v = Single} {w = Single} refl (at-words .before .nos .ensures .0) (at-words .tos .ensures .0)
-          (c .before .muu16 .ensures) (c .lose-a2 .ensures .0),
+          (c .before .muu .ensures) (c .lose-a2 .ensures .0),
       c .lose-a2 .ensures .1,
     ))
 
@@ -82,7 +82,7 @@ returns-5 c =
     works-as Single s (c .lose-a3 .result) (c .before .before .enum-told5 .given .1)
     (λ rule. (
       of-words losesA div (bytesIn s) {v = Single} {w = Single} refl (at-words .before .nos .ensures .0) (at-words .tos .ensures .0)
-          (c .before .div16 .ensures) (c .lose-a3 .ensures .0),
+          (c .before .div .ensures) (c .lose-a3 .ensures .0),
       c .lose-a3 .ensures .1,
     ))
 
@@ -92,7 +92,7 @@ returns-6 c =
     let s = at-words .before .before .args .s in
     works-as Single s (c .change-a .result) (c .before .before .enum-told6 .given .1)
     (λ rule. (
-      of-word changesA chs (bytesIn s) {v = Single} {w = Single} refl (at-words .tos .ensures .0) (c .before .chs16 .ensures)
+      of-word changesA chs (bytesIn s) {v = Single} {w = Single} refl (at-words .tos .ensures .0) (c .before .chs .ensures)
           (c .change-a .ensures .0),
       c .change-a .ensures .1,
     ))
@@ -100,7 +100,9 @@ returns-6 c =
 pub work-16-spec : {M : Type 1} → statement M
 work-16-spec =
     tie.close
-    (tie.spec (λ c κs. search needs) (λ c. search needs) (λ c κs. search needs) (λ c. search needs) (λ c. search needs) (λ c κs. search needs)
-    keep-a-requires (λ c. search needs) (λ c κs. search needs) keep-a-requires-2 (λ c. search needs) (λ c κs. search needs) lose-a-requires
-    (λ c. search needs) (λ c κs. search needs) lose-a-requires-2 (λ c. search needs) (λ c κs. search needs) lose-a-requires-3 (λ c. search needs)
-    (λ c κs. search needs) change-a-requires returns returns-2 returns-3 returns-4 returns-5 returns-6)
+    (tie.spec (λ c κs. search needs) (λ c κs. search needs) (λ c. search needs) (λ c. search needs)
+    (λ c. search needs) (λ c κs. search needs) keep-a-requires (λ c. search needs) (λ c. search needs)
+    (λ c. search needs) (λ c κs. search needs) keep-a-requires-2 (λ c. search needs) (λ c κs. search needs)
+    lose-a-requires (λ c. search needs) (λ c κs. search needs) lose-a-requires-2 (λ c. search needs)
+    (λ c κs. search needs) lose-a-requires-3 (λ c. search needs) (λ c κs. search needs) change-a-requires returns
+    returns-2 returns-3 returns-4 returns-5 returns-6)

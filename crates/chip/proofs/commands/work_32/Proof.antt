@@ -20,16 +20,16 @@ keep-a-requires-2 : tie.Need-keep-a-requires-2
 keep-a-requires-2 c κs = subst (λ (r : Fixed). r .error < 16) (sym (c .sub32 .ensures)) (sub-few _ _ _)
 
 lose-a-requires : tie.Need-lose-a-requires
-lose-a-requires c κs = subst (λ (r : Fixed). r .error < 16) (sym (c .mul32 .ensures)) (mul-few _ _ _)
+lose-a-requires c κs = subst (λ (r : Fixed). r .error < 16) (sym (c .mul .ensures)) (mul-few _ _ _)
 
 lose-a-requires-2 : tie.Need-lose-a-requires-2
-lose-a-requires-2 c κs = subst (λ (r : Fixed). r .error < 16) (sym (c .muu32 .ensures)) (muu-few _ _ _)
+lose-a-requires-2 c κs = subst (λ (r : Fixed). r .error < 16) (sym (c .muu .ensures)) (muu-few _ _ _)
 
 lose-a-requires-3 : tie.Need-lose-a-requires-3
-lose-a-requires-3 c κs = subst (λ (r : Fixed). r .error < 16) (sym (c .div32 .ensures)) (div-few _ _ _)
+lose-a-requires-3 c κs = subst (λ (r : Fixed). r .error < 16) (sym (c .div .ensures)) (div-few _ _ _)
 
 change-a-requires : tie.Need-change-a-requires
-change-a-requires c κs = subst (λ (r : Fixed). r .error < 16) (sym (c .chs32 .ensures)) (chs-few _ _)
+change-a-requires c κs = subst (λ (r : Fixed). r .error < 16) (sym (c .chs .ensures)) (chs-few _ _)
 
 returns : tie.Need-returns
 returns c =
@@ -60,7 +60,7 @@ returns-3 c =
     works-as Double s (c .lose-a .result) (c .before .before .enum-told3 .given .1)
     (λ rule. (
       of-words losesA mul (bytesIn s) {v = Double} {w = Double} refl (at-words .before .nos .ensures .0) (at-words .tos .ensures .0)
-          (c .before .mul32 .ensures) (c .lose-a .ensures .0),
+          (c .before .mul .ensures) (c .lose-a .ensures .0),
       c .lose-a .ensures .1,
     ))
 
@@ -71,7 +71,7 @@ returns-4 c =
     works-as Double s (c .lose-a2 .result) (c .before .before .enum-told4 .given .1)
     (λ rule. (
       of-words losesA muu (bytesIn s) {v = Double} {w = Double} refl (at-words .before .nos .ensures .0) (at-words .tos .ensures .0)
-          (c .before .muu32 .ensures) (c .lose-a2 .ensures .0),
+          (c .before .muu .ensures) (c .lose-a2 .ensures .0),
       c .lose-a2 .ensures .1,
     ))
 
@@ -82,7 +82,7 @@ returns-5 c =
     works-as Double s (c .lose-a3 .result) (c .before .before .enum-told5 .given .1)
     (λ rule. (
       of-words losesA div (bytesIn s) {v = Double} {w = Double} refl (at-words .before .nos .ensures .0) (at-words .tos .ensures .0)
-          (c .before .div32 .ensures) (c .lose-a3 .ensures .0),
+          (c .before .div .ensures) (c .lose-a3 .ensures .0),
       c .lose-a3 .ensures .1,
     ))
 
@@ -92,7 +92,7 @@ returns-6 c =
     let s = at-words .before .before .args .s in
     works-as Double s (c .change-a .result) (c .before .before .enum-told6 .given .1)
     (λ rule. (
-      of-word changesA chs (bytesIn s) {v = Double} {w = Double} refl (at-words .tos .ensures .0) (c .before .chs32 .ensures)
+      of-word changesA chs (bytesIn s) {v = Double} {w = Double} refl (at-words .tos .ensures .0) (c .before .chs .ensures)
           (c .change-a .ensures .0),
       c .change-a .ensures .1,
     ))

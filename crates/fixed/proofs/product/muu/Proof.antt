@@ -1,10 +1,10 @@
--- `fixed::product::multiplied_upper` meets its contract: the row of a least operand, else the upper bits of the product of the magnitudes with its sign.
+-- `fixed::product::muu` meets its contract: the row of a least operand, else the upper bits of the product of the magnitudes with its sign.
 -- Assumes nothing.
 use Rattle.fixed.proofs.Products.{muu-least, muu-all, product-fits, product-few}
 use mathlib.Core.Path.{_∙_}
 use borrow.Author.Needs.{needs}
-use Rattle.fixed.proofs.product.multiplied_upper.Statement.{statement}
-use Rattle.fixed.proofs.product.multiplied_upper.Tie as tie
+use Rattle.fixed.proofs.product.muu.Statement.{statement}
+use Rattle.fixed.proofs.product.muu.Tie as tie
 
 returns : tie.Need-returns
 returns c = c .least-word .ensures ∙ muu-least _ _ _ (c .before .before .before .pre) _ (c .before .before .either-least .ensures) (c .before .if1 .taken)
@@ -25,8 +25,8 @@ returns-2 c = muu-all _ _ _ (c .before .before .before .before .before .before .
     (c .before .before .before .before .if1 .left) (c .before .unlike-signs .ensures) (c .before .before .before .magnitude .ensures .0)
     (c .before .before .magnitude2 .ensures .0) _ (c .upper-bits .ensures)
 
-pub multiplied-upper-spec : {M : Type 1} → statement M
-multiplied-upper-spec =
+pub muu-spec : {M : Type 1} → statement M
+muu-spec =
     tie.close
     (tie.spec (λ c κs. search needs) (λ c κs. search needs) returns (λ c κs. search needs) (λ c κs. search needs) mul-p
     (λ c κs. search needs) upper-bits-requires returns-2)
