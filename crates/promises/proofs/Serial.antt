@@ -63,9 +63,9 @@ below-all Single = lit< tt
 below-all Double = lit< tt
 
 answers : (op : Operation) (rule : Rule) (b a : ℕ) → Operands op b a → answerOf op rule b a ≡ firstAnswer op rule b a (stepsIn (answerOf op rule b a))
-answers (Mul w) rule b a l = same-mul (least w) (bitsOf w) b a (words-of {op = Mul w} (least w) b a refl refl l) (below-all w)
-answers (Muu w) rule b a l = same-muu (least w) (bitsOf w) b a (words-of {op = Muu w} (least w) b a refl refl l) (below-all w)
-answers (Div w) rule b a l = same-div (least w) (bitsOf w) b a (words-of {op = Div w} (least w) b a refl refl l) (below-all w)
+answers (Mul w) rule b a l = same-mul (least w) (bitsOf w) b a (words-of (Mul w) (least w) b a refl l) (below-all w)
+answers (Muu w) rule b a l = same-muu (least w) (bitsOf w) b a (words-of (Muu w) (least w) b a refl l) (below-all w)
+answers (Div w) rule b a l = same-div (least w) (bitsOf w) b a (words-of (Div w) (least w) b a refl l) (below-all w)
 answers Fmul rule b a l = same-fmul rule b a
 answers Fdiv rule b a l = same-fdiv rule b a
 
@@ -76,7 +76,7 @@ in-words Double l = l
 
 module _ (rule : Rule) (w : Width) (b a : ℕ) (l : (b < 2 ^ bitsOf w) × (a < 2 ^ bitsOf w)) where
   W : Words (least w) b a
-  W = words-of {op = Mul w} (least w) b a refl refl l
+  W = words-of (Mul w) (least w) b a refl l
 
   mul-does : Two rule w (MulCommand w) b a (mul (least w) b a .word) (mul (least w) b a .error) false 0
   mul-does cs = accepted rule (MulCommand w) (word w a (word w b cs)) w _ _ _ _ refl (mul-word (least w) b a W) (loses w (mul (least w)) b a _ _ _ cs
