@@ -11,7 +11,7 @@ use lib.Pow.{pow-lt, pow-mono, shr-le}
 use lib.Ieee.{unlike}
 use Rattle.whole.specs.Signed.{withSign}
 use Rattle.whole.proofs.Signs.{sum-alike, sum-unlike, opposite}
-use Rattle.float.specs.Word.{size88, mantissa, biased, proper, negative}
+use Rattle.float.specs.Word.{size88, mantissa, biased, proper, negative, value}
 use Rattle.terms.specs.declared.Rule.{Rule}
 use Rattle.float.specs.Cut.{cutSize, cut}
 use Rattle.float.specs.Float.{add, sub}
@@ -77,10 +77,13 @@ alike true false p = p
 alike false true p = sym p
 alike false false p = refl
 
--- the two addends in the other order
-pub swapped : (r : Rule) (p q : Bool) (x y : ℕ) → cut r (withSign p (addendSize x) +ℤ withSign q (addendSize y)) (2 ^ 88) ≡ cut r
-    (withSign q (addendSize y) +ℤ withSign p (addendSize x)) (2 ^ 88)
-swapped r p q x y = ap (λ (z : ℤ). cut r z (2 ^ 88)) (+ℤ-comm (withSign p (addendSize x)) (withSign q (addendSize y)))
+-- what the code has: m of the greater addend, raised, and t, the smaller one at its place; their difference or their sum is cut as the exact one
+pub record Lower (r : Rule) (p q : Bool) (hi lo m t : ℕ) : Type 0 where
+  pub below : t ≤ m * 2 ^ 39
+  pub apart : unlike p q ≡ true → cutSize r p ((m * 2 ^ 39 - t) * 2 ^ (hi / 2 ^ 24 + 73)) 1 ≡ cut r (withSign p (addendSize hi) +ℤ withSign q (addendSize lo))
+      (2 ^ 88)
+  pub together : unlike p q ≡ false → cutSize r p ((m * 2 ^ 39 + t) * 2 ^ (hi / 2 ^ 24 + 73)) 1 ≡ cut r (withSign p (addendSize hi) +ℤ withSign q
+      (addendSize lo)) (2 ^ 88)
 
 module _ (r : Rule) (p q : Bool) (hi lo m n t : ℕ) (H : Addend hi) (o : lo ≤ hi) (M : m ≡ mantissa hi) (N : n ≡ mantissa lo)
     (j : Jammed (n * 2 ^ 39 / 2 ^ (hi / 2 ^ 24 - lo / 2 ^ 24)) (n * 2 ^ 39 % 2 ^ (hi / 2 ^ 24 - lo / 2 ^ 24)) t) where
@@ -98,7 +101,7 @@ module _ (r : Rule) (p q : Bool) (hi lo m n t : ℕ) (H : Addend hi) (o : lo ≤
   places = omega arith
 
   -- the smaller addend, shifted, is not above the greater
-  pub under : t ≤ m * 2 ^ 39
+  under : t ≤ m * 2 ^ 39
   under = go (eq-or-lt-of-le places)
     where
       level : (d : ℕ) → d ≡ 0 → n ≤ m → Jammed (n * 2 ^ 39 / 2 ^ d) (n * 2 ^ 39 % 2 ^ d) t → t ≤ m * 2 ^ 39
@@ -133,7 +136,7 @@ module _ (r : Rule) (p q : Bool) (hi lo m n t : ℕ) (H : Addend hi) (o : lo ≤
   both : withSign p (addendSize hi) +ℤ withSign q (addendSize lo) ≡ withSign p (m * 2 ^ (hi / 2 ^ 24)) +ℤ withSign q (n * 2 ^ (lo / 2 ^ 24))
   both = ap₂ (λ (x y : ℕ). withSign p x +ℤ withSign q y) sized sized'
 
-  pub same-sign : unlike p q ≡ false → cutSize r p ((m * 2 ^ 39 + t) * 2 ^ (hi / 2 ^ 24 + 73)) 1 ≡ cut r (withSign p (addendSize hi) +ℤ withSign q
+  same-sign : unlike p q ≡ false → cutSize r p ((m * 2 ^ 39 + t) * 2 ^ (hi / 2 ^ 24 + 73)) 1 ≡ cut r (withSign p (addendSize hi) +ℤ withSign q
       (addendSize lo)) (2 ^ 88)
   same-sign e =
       let x = m * 2 ^ (hi / 2 ^ 24) in
@@ -143,7 +146,7 @@ module _ (r : Rule) (p q : Bool) (hi lo m n t : ℕ) (H : Addend hi) (o : lo ≤
       ∙ sym (cut-scaled r p (x + y) 88 112 refl)
       ∙ ap (λ (z : ℤ). cut r z (2 ^ 88)) (sym (sum-alike p x y) ∙ ap (λ (s : Bool). withSign p x +ℤ withSign s y) (alike p q e) ∙ sym both)
 
-  pub unlike-sign : unlike p q ≡ true → cutSize r p ((m * 2 ^ 39 - t) * 2 ^ (hi / 2 ^ 24 + 73)) 1 ≡ cut r (withSign p (addendSize hi) +ℤ withSign q
+  unlike-sign : unlike p q ≡ true → cutSize r p ((m * 2 ^ 39 - t) * 2 ^ (hi / 2 ^ 24 + 73)) 1 ≡ cut r (withSign p (addendSize hi) +ℤ withSign q
       (addendSize lo)) (2 ^ 88)
   unlike-sign e =
       let x = m * 2 ^ (hi / 2 ^ 24) in
@@ -153,14 +156,26 @@ module _ (r : Rule) (p q : Bool) (hi lo m n t : ℕ) (H : Addend hi) (o : lo ≤
       ∙ sym (cut-scaled r p (x - y) 88 112 refl)
       ∙ ap (λ (z : ℤ). cut r z (2 ^ 88)) (sym (sum-unlike p q x y e (d .0)) ∙ sym both)
 
--- ---- the addends are the words'
-pub add-law : (r : Rule) (b a k l : ℕ) (x y : Bool) → x ≡ negative b → y ≡ negative a → AddendOf b k → AddendOf a l
-    → cut r (withSign x (addendSize k) +ℤ withSign y (addendSize l)) (2 ^ 88) ≡ add r b a
-unfolding add
-add-law r b a k l x y e f s t = ap₂ (λ (u v : ℤ). cut r (u +ℤ v) (2 ^ 88)) (ap₂ withSign e (s .size)) (ap₂ withSign f (t .size))
+  pub lower : Lower r p q hi lo m t
+  lower = record { below = under; apart = unlike-sign; together = same-sign }
 
-pub sub-law : (r : Rule) (b a k l : ℕ) (x y : Bool) → x ≡ negative b → y ≡ not (negative a) → AddendOf b k → AddendOf a l
-    → cut r (withSign x (addendSize k) +ℤ withSign y (addendSize l)) (2 ^ 88) ≡ sub r b a
-unfolding sub
-sub-law r b a k l x y e f s t =
-    ap₂ (λ (u v : ℤ). cut r (u +ℤ v) (2 ^ 88)) (ap₂ withSign e (s .size)) (ap₂ withSign f (t .size) ∙ sym (opposite (negative a) (size88 a)))
+-- ---- the addends are the words'
+-- B's value, and A's magnitude with a sign, by their addends; a sum does not ask for the order of its addends
+module _ (r : Rule) (b a k l : ℕ) (x y : Bool) (first : x ≡ negative b) (B : AddendOf b k) (A : AddendOf a l) where
+  abbrev exact : ℤ
+  exact = value b +ℤ withSign y (size88 a)
+
+  pub sum-law : cut r (withSign x (addendSize k) +ℤ withSign y (addendSize l)) (2 ^ 88) ≡ cut r exact (2 ^ 88)
+  unfolding value
+  sum-law = ap₂ (λ (u v : ℤ). cut r (u +ℤ v) (2 ^ 88)) (ap₂ withSign first (B .size)) (ap (withSign y) (A .size))
+
+  pub swapped-law : cut r (withSign y (addendSize l) +ℤ withSign x (addendSize k)) (2 ^ 88) ≡ cut r exact (2 ^ 88)
+  swapped-law = ap (λ (z : ℤ). cut r z (2 ^ 88)) (+ℤ-comm (withSign y (addendSize l)) (withSign x (addendSize k))) ∙ sum-law
+
+pub add-law : (r : Rule) (b a : ℕ) (y : Bool) → y ≡ negative a → cut r (value b +ℤ withSign y (size88 a)) (2 ^ 88) ≡ add r b a
+unfolding add value
+add-law r b a y e = ap (λ (s : Bool). cut r (value b +ℤ withSign s (size88 a)) (2 ^ 88)) e
+
+pub sub-law : (r : Rule) (b a : ℕ) (y : Bool) → y ≡ negative a → cut r (value b +ℤ withSign (not y) (size88 a)) (2 ^ 88) ≡ sub r b a
+unfolding sub value
+sub-law r b a y e = ap (λ (z : ℤ). cut r (value b +ℤ z) (2 ^ 88)) (ap (λ (s : Bool). withSign (not s) (size88 a)) e ∙ sym (opposite (negative a) (size88 a)))
