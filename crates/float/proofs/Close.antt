@@ -1,5 +1,5 @@
--- FSUB of close words loses nothing, under either rule: both are whole numbers of steps of the smaller one's last digit, and their difference is
--- at most as many as the smaller one has, fewer than 2 ^ 24. Assumes nothing.
+-- The theorem of Sterbenz, under either rule: FSUB of close words loses nothing. Both are whole numbers of steps of the smaller one's last digit, and their
+-- difference is at most as many as the smaller one has, fewer than 2 ^ 24. Assumes nothing.
 use mathlib.Core.Path.{_≡_, refl, sym, ap, ap₂, _∙_, subst}
 use mathlib.Core.Logic.{_⊎_, inl, inr, ⊎-elim}
 use mathlib.Core.Bool.{Bool, true, false, not}

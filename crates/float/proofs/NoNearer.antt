@@ -9,8 +9,8 @@ use lib.Ieee.{up, down}
 use lib.Pow.{pow-add, pow-pos, pow-mono}
 use Rattle.float.specs.Nearest.{belowMark, Marks, NearPair, apart, NoNearer}
 use Rattle.float.proofs.Powers.{sub-mul}
-use Rattle.whole.proofs.Differences.{either, same, above, beneath, parts}
-use Rattle.float.proofs.OnePair.{scaled, other}
+use Rattle.whole.proofs.Differences.{either, above, beneath}
+use Rattle.float.proofs.OnePair.{scaled, other, at-one}
 use Rattle.float.proofs.NearWhole.{sides}
 use Rattle.float.proofs.Nearest.{NearAt, mark-least, mark-more, least-or-more, lessened}
 use Rattle.float.proofs.RulePair.{to-near}
@@ -113,8 +113,8 @@ no-nearer n d m e p m' e' lo hi =
     let J = beneath x + beneath x' in
     let k = above x + beneath x' in
     let k' = above x' + beneath x in
-    let X : x ≡ subℕ k J = parts x ∙ same (above x) (beneath x) k J (omega arith) in
-    let X' : x' ≡ subℕ k' J = parts x' ∙ same (above x') (beneath x') k' J (omega arith) in
+    let X = at-one x x' .0 in
+    let X' = at-one x x' .1 in
     let h : apart (n * 2 ^ J) (m * (d * 2 ^ k)) ≤ apart (n * 2 ^ J) (m' * (d * 2 ^ k')) = places-near (n * 2 ^ J) d m k m' k' (to-near n d m k J e X p) lo hi in
     le-of-mul-le-mul-right
     (subst₂ (λ (y z : ℕ). y ≤ z) (turn m k x X (down x')) (mul-right-comm (apart (n * 2 ^ J) (m' * (d * 2 ^ k'))) (down x) (down x')

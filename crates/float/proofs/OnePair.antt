@@ -13,7 +13,7 @@ use lib.Ieee.{up, down, size}
 use lib.Ieee.Digits.{size-lt}
 use Rattle.whole.proofs.Differences.{either, sub-lt, sub-ge, same, above, beneath, parts}
 use Rattle.terms.specs.declared.Rule.the-variants.{Cut}
-use Rattle.float.specs.Cut.{Pair, kept, lost}
+use Rattle.float.specs.Cut.{lastPlace, Pair, kept, lost}
 use Rattle.float.proofs.Pair.{PairAt, cuts-only, cuts-one}
 
 -- ---- 2 ^ (k - J), as a fraction
@@ -80,19 +80,22 @@ from-scale n d m k J e X p = record {
       (subst (λ (y : ℕ). n * 2 ^ J < y) (sym (mul-assoc (m + 1) d (2 ^ k) ∙ ap (λ (y : ℕ). y * (d * 2 ^ k)) (add-one m))) (p .3)));
 }
 
+-- two whole numbers with a sign as differences from one number
+pub at-one : (x z : ℤ) → (x ≡ subℕ (above x + beneath z) (beneath x + beneath z)) × (z ≡ subℕ (above z + beneath x) (beneath x + beneath z))
+at-one x z = (
+  parts x ∙ same (above x) (beneath x) (above x + beneath z) (beneath x + beneath z) (omega arith),
+  parts z ∙ same (above z) (beneath z) (above z + beneath x) (beneath x + beneath z) (omega arith),
+)
+
 -- ---- at most one
 pub one-pair : (n d m m' : ℕ) (e e' : ℤ) → 0 < d → Pair n d m e → Pair n d m' e' → (m ≡ m') × (e ≡ e')
 one-pair n d m m' e e' D p p' =
-    let x = e -ℤ pos 24 in
-    let x' = e' -ℤ pos 24 in
+    let x = lastPlace e in
+    let x' = lastPlace e' in
     let J = beneath x + beneath x' in
-    let k = above x + beneath x' in
-    let k' = above x' + beneath x in
-    let X : x ≡ subℕ k J = parts x ∙ same (above x) (beneath x) k J (omega arith) in
-    let X' : x' ≡ subℕ k' J = parts x' ∙ same (above x') (beneath x') k' J (omega arith) in
-    let c = cuts-only (n * 2 ^ J) d m k D (to-scale n d m k J e X p) in
-    let c' = cuts-only (n * 2 ^ J) d m' k' D (to-scale n d m' k' J e' X' p') in
-    let y : x ≡ x' = X ∙ ap (λ (z : ℕ). subℕ z J) (sym (c .1) ∙ c' .1) ∙ sym X' in
+    let c = cuts-only (n * 2 ^ J) d m (above x + beneath x') D (to-scale n d m _ J e (at-one x x' .0) p) in
+    let c' = cuts-only (n * 2 ^ J) d m' (above x' + beneath x) D (to-scale n d m' _ J e' (at-one x x' .1) p') in
+    let y : x ≡ x' = at-one x x' .0 ∙ ap (λ (z : ℕ). subℕ z J) (sym (c .1) ∙ c' .1) ∙ sym (at-one x x' .1) in
     (sym (c .0) ∙ c' .0, sym (-ℤ-+ℤ-cancel e (pos 24)) ∙ ap (λ (z : ℤ). z +ℤ pos 24) y ∙ -ℤ-+ℤ-cancel e' (pos 24))
 
 -- ---- and one

@@ -9,8 +9,8 @@ use lib.Ieee.{up, down, size}
 use lib.Ieee.Digits.{size-lt}
 use Rattle.terms.specs.declared.Rule.{Rule}
 use Rattle.terms.specs.declared.Rule.the-variants.{Cut, Nearest}
-use Rattle.float.specs.Cut.{kept, lost, mantissaOf, digitsOf}
-use Rattle.float.specs.Nearest.{belowMark, aboveMark, Between, NearPair, PairBy}
+use Rattle.float.specs.Cut.{lastPlace, kept, lost, mantissaOf, digitsOf}
+use Rattle.float.specs.Nearest.{belowMark, aboveMark, Between, Marks, NearPair, PairBy}
 use Rattle.whole.proofs.Differences.{same, above, beneath, parts}
 use Rattle.float.proofs.OnePair.{scaled, other, down-pos, one-pair, a-pair}
 use Rattle.float.proofs.Nearest.{NearAt, near-one, near-only}
@@ -46,27 +46,22 @@ rescaled f a b m n u N w c d C D p q h =
         subst (λ (i : ℕ). Between x' y' i m) e'' (subst (λ (i : ℕ). Between x' i z m) e' (subst (λ (i : ℕ). Between i y z m) e t))
 
 -- ---- at an exponent, and at k digits of the scale 2 ^ J
-pub to-near : (n d m k J : ℕ) (e : ℤ) → e -ℤ pos 24 ≡ subℕ k J → NearPair n d m e → NearAt (n * 2 ^ J) d m k
-to-near n d m k J e X p =
-    let x = e -ℤ pos 24 in
-    record {
-      low = p .low;
-      high = p .high;
-      marks =
-          rescaled 4 (belowMark m) (aboveMark m) m (n * down x) (d * up x) (n * 2 ^ J) (d * 2 ^ k) (2 ^ J) (down x) (pow-pos J) (down-pos x)
-          (other d n k J x X) (scaled d n k J x X) (p .marks);
-    }
+module _ (n d m k J : ℕ) (e : ℤ) (X : lastPlace e ≡ subℕ k J) where
+  at-scale : Marks (n * down (lastPlace e)) (d * up (lastPlace e)) m → Marks (n * 2 ^ J) (d * 2 ^ k) m
+  at-scale =
+      rescaled 4 (belowMark m) (aboveMark m) m (n * down (lastPlace e)) (d * up (lastPlace e)) (n * 2 ^ J) (d * 2 ^ k) (2 ^ J) (down (lastPlace e)) (pow-pos J)
+      (down-pos (lastPlace e)) (other d n k J (lastPlace e) X) (scaled d n k J (lastPlace e) X)
 
-pub from-near : (n d m k J : ℕ) (e : ℤ) → e -ℤ pos 24 ≡ subℕ k J → NearAt (n * 2 ^ J) d m k → NearPair n d m e
-from-near n d m k J e X p =
-    let x = e -ℤ pos 24 in
-    record {
-      low = p .low;
-      high = p .high;
-      marks =
-          rescaled 4 (belowMark m) (aboveMark m) m (n * 2 ^ J) (d * 2 ^ k) (n * down x) (d * up x) (down x) (2 ^ J) (down-pos x) (pow-pos J)
-          (sym (other d n k J x X)) (sym (scaled d n k J x X)) (p .marks);
-    }
+  at-exponent : Marks (n * 2 ^ J) (d * 2 ^ k) m → Marks (n * down (lastPlace e)) (d * up (lastPlace e)) m
+  at-exponent =
+      rescaled 4 (belowMark m) (aboveMark m) m (n * 2 ^ J) (d * 2 ^ k) (n * down (lastPlace e)) (d * up (lastPlace e)) (down (lastPlace e)) (2 ^ J)
+      (down-pos (lastPlace e)) (pow-pos J) (sym (other d n k J (lastPlace e) X)) (sym (scaled d n k J (lastPlace e) X))
+
+  pub to-near : NearPair n d m e → NearAt (n * 2 ^ J) d m k
+  to-near p = record { low = p .low; high = p .high; marks = at-scale (p .marks) }
+
+  pub from-near : NearAt (n * 2 ^ J) d m k → NearPair n d m e
+  from-near p = record { low = p .low; high = p .high; marks = at-exponent (p .marks) }
 
 -- ---- at most one
 one-near : (n d m m' : ℕ) (e e' : ℤ) → 0 < d → NearPair n d m e → NearPair n d m' e' → (m ≡ m') × (e ≡ e')
