@@ -2,21 +2,21 @@
 use mathlib.Core.Path.{_≡_, refl}
 use mathlib.Core.List.{List}
 use Prim.Native.Nat.{ℕ}
-use Rattle.record_words.specs.declared.kinds.Kind.{Kind}
-use Rattle.record_words.specs.declared.kinds.Kind.the-variants.{Push, Pop, Command, Status, Reset, Acknowledge}
-use Rattle.record_words.specs.declared.kinds.Kind.the-variants.{Recall, Forget, Open, Keep, Close, Unknown}
+use Rattle.record_text.specs.declared.kinds.Kind.{Kind}
+use Rattle.record_text.specs.declared.kinds.Kind.the-variants.{Push, Pop, Command, Status, Reset, Acknowledge}
+use Rattle.record_text.specs.declared.kinds.Kind.the-variants.{Recall, Forget, Open, Keep, Close, Unknown}
 use lib.Ieee.{size}
 use Rattle.float.specs.Cut.{packed, errorAt, cutSize, cut}
 use Rattle.float.specs.Word.{size88}
 use Rattle.decimals.specs.Bring.{bringOf}
 use Rattle.decimals.specs.Read.{scanFrom, parseOf}
 use Rattle.decimals.specs.Hex.{digitValue, hexFrom}
-use Rattle.record_words.specs.Names.{nameOf}
-use Rattle.record_lines.specs.Words.{wordsFrom}
-use Rattle.record_lines.specs.Named.{kindFrom, codeFrom}
-use Rattle.record_lines.specs.Values.{bytesOf, numberFor, codeOf}
-use Rattle.record_lines.specs.Line.{lineOf, takeWords}
-use Rattle.record_lines.proofs.ReadBack.{record-reads-back}
+use Rattle.record_text.specs.Names.{nameOf}
+use Rattle.record_text.specs.Words.{wordsFrom}
+use Rattle.record_text.specs.Named.{kindFrom, codeFrom}
+use Rattle.record_text.specs.Values.{bytesOf, numberFor, codeOf}
+use Rattle.record_text.specs.Line.{lineOf, takeWords}
+use Rattle.record_text.proofs.ReadBack.{record-reads-back}
 use Rattle.promises.specs.RecordText.{RecordTextReadsBack, RecordTextRows}
 
 pub record-text-reads-back : RecordTextReadsBack

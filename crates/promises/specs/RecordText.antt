@@ -6,11 +6,11 @@ use mathlib.Core.List.{List, [], _∷_}
 use lib.ListN.{length, getD}
 use Rattle.terms.specs.declared.Rule.{Rule}
 use Rattle.terms.specs.declared.Rule.the-variants.{Cut, Nearest}
-use Rattle.record_words.specs.declared.kinds.Kind.{Kind}
-use Rattle.record_words.specs.declared.kinds.Kind.the-variants.{Push, Pop, Command, Status, Reset, Acknowledge}
-use Rattle.record_words.specs.declared.kinds.Kind.the-variants.{Recall, Forget, Open, Keep, Close, Unknown}
-use Rattle.record_words.specs.Told.{recordText}
-use Rattle.record_lines.specs.Line.{Said, Record, Empty, lineOf}
+use Rattle.record_text.specs.declared.kinds.Kind.{Kind}
+use Rattle.record_text.specs.declared.kinds.Kind.the-variants.{Push, Pop, Command, Status, Reset, Acknowledge}
+use Rattle.record_text.specs.declared.kinds.Kind.the-variants.{Recall, Forget, Open, Keep, Close, Unknown}
+use Rattle.record_text.specs.Told.{recordText}
+use Rattle.record_text.specs.Line.{Said, Record, Empty, lineOf}
 use Rattle.promises.specs.PrintedText.{written}
 
 -- the number of a kind: 01's, 02's of the error memory and of module sheets

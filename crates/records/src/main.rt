@@ -6,15 +6,15 @@
 // no words and the refusal. What stands before a last line that is not `end` is no answer.
 use libc::STDIN_FILENO;
 use libc::STDOUT_FILENO;
-use record_lines::line::Line;
-use record_lines::line::RECORD_ROOM;
-use record_lines::line::read_line;
-use record_lines::values::Fault;
 use record_runs::head::Frame;
 use record_runs::head::read_frame;
 use record_runs::head::word;
-use record_words::kinds::kind_of;
-use record_words::told::add_told;
+use record_text::kinds::kind_of;
+use record_text::line::Line;
+use record_text::line::RECORD_ROOM;
+use record_text::line::read_line;
+use record_text::told::add_told;
+use record_text::values::Fault;
 use terms::Refusal;
 use terms::Rule;
 ghost use mathlib.Core.Path.{_≡_};

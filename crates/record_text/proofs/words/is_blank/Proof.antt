@@ -1,0 +1,13 @@
+-- `record_text::words::is_blank` is its definition, by the same tests. Assumes nothing.
+use borrow.Author.Tests.{eq-eqb, ne-eqb}
+use Rattle.record_text.proofs.words.is_blank.Statement.{statement}
+use Rattle.record_text.proofs.words.is_blank.Tie as tie
+
+returns : tie.Need-returns
+returns c = rw (eq-eqb _ 32 (c .if1 .taken))
+
+returns-2 : tie.Need-returns-2
+returns-2 c = rw (ne-eqb _ 32 (c .if1 .left))
+
+pub is-blank-spec : {M : Type 1} → statement M
+is-blank-spec = tie.close (tie.spec returns returns-2)
