@@ -1,4 +1,4 @@
--- The parts of a line: digits to a base, marks, and what fits into its room. Assumes nothing.
+-- The parts of a line: marks, and what fits into its room. Assumes nothing.
 use mathlib.Core.Path.{_≡_, refl, sym, ap, ap₂, _∙_, subst}
 use mathlib.Core.Bool.{Bool, true, false, cond, not}
 use mathlib.Core.List.{List, [], _∷_, _++_}
@@ -11,38 +11,15 @@ use lib.Pow.{pow-pos, pow-mono, high, low}
 use lib.ListN.{length, length-append}
 use Rattle.terms.specs.declared.Rule.{Rule}
 use Rattle.float.specs.Word.{negative, biased, proper, size88}
-use Rattle.listing.specs.Text.{digit, Adds}
+use Rattle.listing.specs.Text.{Adds}
 use Rattle.listing.proofs.Adding.{nothing, both}
 use Rattle.decimals.specs.Exact.{minus, exactText}
 use Rattle.decimals.specs.Short.{shortOf}
-use Rattle.decimals.specs.Line.{digitsTo, improperMark, shortText, valueText, wrongLine, readLine, eightLine, lineOf}
+use Rattle.decimals.specs.Line.{improperMark, shortText, valueText, wrongLine, readLine, eightLine, lineOf}
 use Rattle.decimals.specs.declared.read.Fault.the-variants.{ManyDigits}
 use Rattle.decimals.specs.Read.{readOf}
-use Rattle.decimals.specs.Hex.{hexOf}
+use Rattle.listing.specs.Hex.{hexOf}
 use Rattle.decimals.proofs.Scanning.{not-true, not-false}
-
--- ---- digits to a base
-pub no-digits : (b n count place : ℕ) (l : List ℕ) → count ≡ 0 → Adds (digitsTo b count n) l l place place
-unfolding digitsTo
-no-digits b n count place l e = rw e (nothing l place)
-
-pub last-digit : (base n count x : ℕ) {a b c : List ℕ} {p q r : ℕ} → (count ≡ 0 → ⊥) → x ≡ digit (n % base) → Adds (digitsTo base (count - 1)
-    (n / base)) a b p q
-    → Adds (x ∷ []) b c q r → Adds (digitsTo base count n) a c p r
-unfolding digitsTo
-last-digit base n zero x z e h k = absurd (z refl)
-last-digit base n (suc count) x {a} {b} {c} {p} {q} {r} z e h k =
-    let m : suc count - 1 ≡ count = omega arith in
-    both (subst (λ (m : ℕ). Adds (digitsTo base m (n / base)) a b p q) m h) (subst (λ (y : ℕ). Adds (y ∷ []) b c q r) e k)
-
-pub digits-length : (base count n : ℕ) → length (digitsTo base count n) ≡ count
-unfolding digitsTo
-digits-length base zero n = refl
-digits-length base (suc count) n = let e = digits-length base count (n / base) in omega (
-  arith,
-  length-append (digitsTo base count (n / base)) (digit
-      (n % base) ∷ []),
-)
 
 -- ---- a minus sign or none
 pub minus-added : (s : Bool) {a b : List ℕ} {p q : ℕ} → s ≡ true → Adds (minus ∷ []) a b p q → Adds (cond s (minus ∷ []) []) a b p q
@@ -52,10 +29,6 @@ minus-added false e h = let z : _≡_ {A = ℕ} 0 1 = cc in absurd (omega arith)
 pub minus-none : (s : Bool) (l : List ℕ) (p : ℕ) → s ≡ false → Adds (cond s (minus ∷ []) []) l l p p
 minus-none false l p e = nothing l p
 minus-none true l p e = let z : _≡_ {A = ℕ} 0 1 = cc in absurd (omega arith)
-
--- ---- text that is another text
-pub told-as : {x y a b : List ℕ} {p q : ℕ} → x ≡ y → Adds x a b p q → Adds y a b p q
-told-as {a = a} {b = b} {p = p} {q = q} e h = subst (λ (t : List ℕ). Adds t a b p q) e h
 
 -- ---- the whole part of a word's magnitude
 pub size-small : (w : ℕ) → size88 w < 2 ^ 151

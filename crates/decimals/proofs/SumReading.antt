@@ -9,12 +9,12 @@ use borrow.Author.Tests.{eq-eqb, ne-eqb}
 use lib.Dec.{eqb}
 use lib.ListN.{length, take, drop, getD, set, length-set, drop-of-length-le}
 use lib.Seq.{set-split, drop-at, length-take-le}
-use Rattle.decimals.specs.declared.hex.Hex.the-variants.{Number, Nothing as Unread}
+use Rattle.listing.specs.declared.hex.Hex.the-variants.{Number, Nothing as Unread}
 use Rattle.decimals.specs.Magnitude.{bytesAt}
-use Rattle.decimals.specs.Hex.{digitValue, hexFrom, hexOf}
+use Rattle.listing.specs.Hex.{digitValue, hexFrom, hexOf}
 use Rattle.decimals.specs.Sum.{Bytes·Of, noSum, sizeLine, sumLine}
 use Rattle.decimals.specs.Exact.{exactText}
-use Rattle.decimals.proofs.HexReading.{on, off}
+use Rattle.listing.proofs.HexReading.{on, off}
 
 -- so many bytes are left to be read, and the digits before this place are read
 pub record Filling (digits bytes : List ℕ) (left i : ℕ) : Type 0 where

@@ -4,7 +4,6 @@ pub mod Exact
 pub mod Bring
 pub mod Read
 pub mod Short
-pub mod Hex
 pub mod Line
 pub mod Sum
 pub mod Meaning

@@ -1,6 +1,6 @@
 -- What is told of one text: a word of eight hex digits, or a decimal, as a line `WORD DECIMAL`, with a mark where the decimal is not the word's value.
 -- Definitions only. Assumes nothing.
-use Prim.Native.Nat.{ℕ, zero, suc, _+_, _*_, _/_, _%_, _^_}
+use Prim.Native.Nat.{ℕ, _+_, _*_, _^_}
 use mathlib.Core.Bool.{Bool, true, false, cond}
 use mathlib.Core.List.{List, [], _∷_, _++_}
 use lib.Dec.{eqb, leb}
@@ -9,7 +9,7 @@ use Rattle.terms.specs.declared.Rule.{Rule}
 use Rattle.terms.specs.declared.Rule.the-variants.{Cut, Nearest}
 use Rattle.terms.specs.declared.Refusal.{Refusal}
 use Rattle.terms.specs.Refusal.{numberOf}
-use Rattle.listing.specs.Text.{digit, decimal}
+use Rattle.listing.specs.Text.{decimal}
 use Rattle.listing.specs.Listing.{blank, newline, field}
 use Rattle.float.specs.Word.{negative, proper, size88}
 use Rattle.decimals.specs.declared.bring.Brought.{Brought}
@@ -20,18 +20,13 @@ use Rattle.decimals.specs.declared.read.Reading.{Reading}
 use Rattle.decimals.specs.declared.read.Reading.the-variants.{Exact, Rounded, Refused, Wrong}
 use Rattle.decimals.specs.declared.short.Short.{Short}
 use Rattle.decimals.specs.declared.short.Short.the-variants.{Decimal, Nothing}
-use Rattle.decimals.specs.declared.hex.Hex.{Hex}
-use Rattle.decimals.specs.declared.hex.Hex.the-variants.{Number, Nothing as Unread}
+use Rattle.listing.specs.declared.hex.Hex.{Hex}
+use Rattle.listing.specs.declared.hex.Hex.the-variants.{Number, Nothing as Unread}
 use Rattle.decimals.specs.Exact.{point, minus, exactText}
 use Rattle.decimals.specs.Bring.{bringOf}
 use Rattle.decimals.specs.Read.{readOf}
 use Rattle.decimals.specs.Short.{shortOf}
-use Rattle.decimals.specs.Hex.{hexOf}
-
--- the last digits of a number to a base, so many of them
-unfoldable pub digitsTo : ℕ → ℕ → ℕ → List ℕ
-digitsTo base zero n = []
-digitsTo base (suc count) n = digitsTo base count (n / base) ++ (digit (n % base) ∷ [])
+use Rattle.listing.specs.Hex.{hexOf, digitsTo}
 
 -- a word in eight hex digits
 abbrev pub wordText : ℕ → List ℕ

@@ -15,8 +15,8 @@ use Rattle.decimals.specs.Exact.{point, minus, exactText}
 use Rattle.decimals.specs.Bring.{bringOf}
 use Rattle.decimals.specs.Read.{isDigit, runLimit, mostPlaces, answered, readOf}
 use Rattle.decimals.specs.Short.{shortOf}
-use Rattle.decimals.specs.declared.hex.Hex.the-variants.{Number}
-use Rattle.decimals.specs.Hex.{hexOf}
+use Rattle.listing.specs.declared.hex.Hex.the-variants.{Number}
+use Rattle.listing.specs.Hex.{hexOf}
 use Rattle.decimals.specs.Line.{wordText, decimalText}
 
 -- all characters are digits

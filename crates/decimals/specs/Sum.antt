@@ -6,11 +6,11 @@ use mathlib.Core.List.{List, [], _∷_, _++_}
 use lib.Dec.{eqb}
 use lib.ListN.{length, drop, getD}
 use Rattle.listing.specs.Listing.{newline}
-use Rattle.decimals.specs.declared.hex.Hex.{Hex}
-use Rattle.decimals.specs.declared.hex.Hex.the-variants.{Number, Nothing}
+use Rattle.listing.specs.declared.hex.Hex.{Hex}
+use Rattle.listing.specs.declared.hex.Hex.the-variants.{Number, Nothing}
 use Rattle.decimals.specs.Magnitude.{bytesAt}
 use Rattle.decimals.specs.Exact.{minus, exactText}
-use Rattle.decimals.specs.Hex.{hexOf}
+use Rattle.listing.specs.Hex.{hexOf}
 use Rattle.decimals.specs.Line.{wrongText}
 
 -- the characters of a sum: a sign and its digits

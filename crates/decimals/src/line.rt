@@ -3,8 +3,6 @@
 use crate::bring::Brought;
 use crate::bring::bring;
 use crate::exact::add_exact;
-use crate::hex::Hex;
-use crate::hex::read_hex;
 use crate::magnitude::Magnitude;
 use crate::magnitude::of_word;
 use crate::read::Fault;
@@ -15,9 +13,11 @@ use crate::short::shortest;
 use float::word::is_negative;
 use float::word::is_proper;
 use listing::add_field;
+use listing::hex::Hex;
+use listing::hex::add_digits;
+use listing::hex::read_hex;
 use listing::text::add;
 use listing::text::add_decimal;
-use listing::text::digit;
 use terms::Refusal;
 use terms::Rule;
 ghost use mathlib.Core.Path.{_≡_};
@@ -32,7 +32,7 @@ ghost use Rattle.decimals.specs.Magnitude.{sizeIn, Fits};
 ghost use Rattle.decimals.specs.Exact.{minus, exactText};
 ghost use Rattle.decimals.specs.Short.{Brief, shortOf};
 ghost use Rattle.decimals.specs.Read.{Placed};
-ghost use Rattle.decimals.specs.Line.{digitsTo, wordText, decimalText, ruleMark, markOf, markedText, shortText};
+ghost use Rattle.decimals.specs.Line.{wordText, decimalText, ruleMark, markOf, markedText, shortText};
 ghost use Rattle.decimals.specs.Line.{valueText, wordLine, broughtLine, refusedLine, faultText};
 ghost use Rattle.decimals.specs.Line.{wrongLine, readLine, textLine, hexLine, lineOf};
 
@@ -40,19 +40,6 @@ ghost use Rattle.decimals.specs.Line.{wrongLine, readLine, textLine, hex
 pub const LINE_ROOM: usize = 256;
 // The longest text that is looked at.
 const MOST_TEXT: usize = 64;
-
-// The last digits of a number to a base, so many of them.
-pub fn add_digits(out: &mut [u8], place: usize, n: u64, base: u64, count: usize) -> usize
-    requires { ⌜ (0 < base) × (base ≤ 16) × (place + count ≤ length (now out)) ⌝ }
-    ensures { λ r. ⌜ Adds (digitsTo base count n) (now (out .entry)) (now (out .exit)) place r ⌝ }
-{
-    if count == 0 {
-        return place;
-    }
-    let next = add_digits(out, place, n / base, base, count - 1);
-    let last = [digit((n % base) as u8)];
-    add(out, next, &last)
-}
 
 // A minus sign or none.
 fn add_minus(out: &mut [u8], place: usize, neg: bool) -> usize

@@ -1,15 +1,15 @@
 // The exact text of a sum as the figures of sheets give it: a sign and 48 hex digits of its magnitude times 2^88.
 use crate::exact::add_exact;
-use crate::hex::digit_value;
 use crate::line::LINE_ROOM;
 use crate::magnitude::of_bytes;
+use listing::hex::digit_value;
 use listing::text::add;
 ghost use mathlib.Core.Path.{_≡_};
 ghost use Prim.Native.Nat.{_≤_};
 ghost use lib.ListN.{length, take};
 ghost use Rattle.io.specs.Counts.{Counts};
 ghost use Rattle.listing.specs.Text.{Adds};
-ghost use Rattle.decimals.specs.Hex.{hexOf};
+ghost use Rattle.listing.specs.Hex.{hexOf};
 ghost use Rattle.decimals.specs.Sum.{Bytes·Of, sizeLine, sumLine};
 
 // The bytes of a sum, and its hex digits behind the sign.

@@ -23,6 +23,10 @@ both {x} {y} {a} {b} {c} {p} {q} {r} h k = record {
   reads = k .reads ∙ ap (λ (l : List ℕ). l ++ y) (h .reads) ∙ append-assoc (take p a) x y;
 }
 
+-- text that is another text
+pub told-as : {x y a b : List ℕ} {p q : ℕ} → x ≡ y → Adds x a b p q → Adds y a b p q
+told-as {a = a} {b = b} {p = p} {q = q} e h = subst (λ (t : List ℕ). Adds t a b p q) e h
+
 -- a copy adds what is copied
 pub copied : (t l : List ℕ) (place : ℕ) → place + length t ≤ length l → Adds t l (paste l place t (length t)) place (place + length t)
 copied t l place h = record {

@@ -2,7 +2,7 @@
 use mathlib.Core.Path.{sym, ap}
 use borrow.Author.Needs.{needs}
 use Rattle.step_text.specs.Lines.{answerLine}
-use Rattle.step_text.proofs.Hex.{told-as}
+use Rattle.listing.proofs.Adding.{told-as}
 use Rattle.step_text.proofs.add_answer.Statement.{statement}
 use Rattle.step_text.proofs.add_answer.Tie as tie
 

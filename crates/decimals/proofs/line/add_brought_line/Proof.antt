@@ -1,7 +1,7 @@
 -- `decimals::line::add_brought_line` adds the parts of the line in turn. Assumes nothing.
 use native.Mathlib.Omega.{arith}
 use borrow.Author.Needs.{needs}
-use Rattle.decimals.proofs.Lines.{digits-length}
+use Rattle.listing.proofs.Digits.{digits-length}
 use Rattle.listing.proofs.Adding.{both}
 use Rattle.decimals.proofs.line.add_brought_line.Statement.{statement}
 use Rattle.decimals.proofs.line.add_brought_line.Tie as tie

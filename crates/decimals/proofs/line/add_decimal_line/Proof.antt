@@ -4,7 +4,7 @@ use borrow.Author.Needs.{needs}
 use mathlib.Core.Path.{ap}
 use denote.Ref.{now}
 use Rattle.decimals.specs.Line.{readLine}
-use Rattle.decimals.proofs.Lines.{told-as}
+use Rattle.listing.proofs.Adding.{told-as}
 use Rattle.decimals.proofs.line.add_decimal_line.Statement.{statement}
 use Rattle.decimals.proofs.line.add_decimal_line.Tie as tie
 

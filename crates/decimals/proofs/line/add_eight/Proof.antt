@@ -4,7 +4,7 @@ use borrow.Author.Needs.{needs}
 use mathlib.Core.Path.{sym, ap, _∙_}
 use denote.Ref.{now}
 use Rattle.decimals.specs.Line.{eightLine}
-use Rattle.decimals.proofs.Lines.{told-as}
+use Rattle.listing.proofs.Adding.{told-as}
 use Rattle.decimals.proofs.line.add_eight.Statement.{statement}
 use Rattle.decimals.proofs.line.add_eight.Tie as tie
 

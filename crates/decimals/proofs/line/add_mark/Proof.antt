@@ -2,9 +2,8 @@
 use native.Mathlib.Omega.{arith}
 use borrow.Author.Needs.{needs}
 use mathlib.Core.Path.{sym, ap}
-use Rattle.listing.proofs.Adding.{nothing}
+use Rattle.listing.proofs.Adding.{nothing, told-as}
 use Rattle.decimals.specs.Line.{markOf}
-use Rattle.decimals.proofs.Lines.{told-as}
 use Rattle.decimals.proofs.line.add_mark.Statement.{statement}
 use Rattle.decimals.proofs.line.add_mark.Tie as tie
 

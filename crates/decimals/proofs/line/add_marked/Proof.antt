@@ -2,9 +2,8 @@
 use native.Mathlib.Omega.{arith}
 use borrow.Author.Needs.{needs}
 use mathlib.Core.Path.{ap}
-use Rattle.listing.proofs.Adding.{both}
+use Rattle.listing.proofs.Adding.{both, told-as}
 use Rattle.decimals.specs.Line.{markOf}
-use Rattle.decimals.proofs.Lines.{told-as}
 use Rattle.decimals.proofs.line.add_marked.Statement.{statement}
 use Rattle.decimals.proofs.line.add_marked.Tie as tie
 

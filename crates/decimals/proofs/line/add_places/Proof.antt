@@ -3,7 +3,7 @@ use native.Mathlib.Omega.{arith}
 use borrow.Author.Needs.{needs}
 use Rattle.listing.proofs.Adding.{both}
 use Rattle.listing.proofs.Decimal.{at-most}
-use Rattle.decimals.proofs.Lines.{digits-length}
+use Rattle.listing.proofs.Digits.{digits-length}
 use Rattle.decimals.proofs.line.add_places.Statement.{statement}
 use Rattle.decimals.proofs.line.add_places.Tie as tie
 

@@ -5,7 +5,7 @@ use mathlib.Core.Path.{sym, ap, subst}
 use denote.Ref.{now}
 use Rattle.decimals.specs.Read.{Placed}
 use Rattle.decimals.specs.Line.{readLine}
-use Rattle.decimals.proofs.Lines.{told-as}
+use Rattle.listing.proofs.Adding.{told-as}
 use Rattle.decimals.proofs.line.add_read_line.Statement.{statement}
 use Rattle.decimals.proofs.line.add_read_line.Tie as tie
 

@@ -2,10 +2,9 @@
 use native.Mathlib.Omega.{arith}
 use borrow.Author.Needs.{needs}
 use mathlib.Core.Path.{ap}
-use Rattle.listing.proofs.Adding.{both}
+use Rattle.listing.proofs.Adding.{both, told-as}
 use Rattle.listing.proofs.Decimal.{at-most}
 use Rattle.listing.specs.Listing.{field}
-use Rattle.decimals.proofs.Lines.{told-as}
 use Rattle.decimals.proofs.line.add_refused.Statement.{statement}
 use Rattle.decimals.proofs.line.add_refused.Tie as tie
 

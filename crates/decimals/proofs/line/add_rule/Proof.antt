@@ -3,7 +3,7 @@ use native.Mathlib.Omega.{arith}
 use borrow.Author.Needs.{needs}
 use mathlib.Core.Path.{sym, ap}
 use Rattle.decimals.specs.Line.{ruleMark}
-use Rattle.decimals.proofs.Lines.{told-as}
+use Rattle.listing.proofs.Adding.{told-as}
 use Rattle.decimals.proofs.line.add_rule.Statement.{statement}
 use Rattle.decimals.proofs.line.add_rule.Tie as tie
 

@@ -7,7 +7,7 @@ use Prim.Native.Nat.{ℕ, _+_, _*_, _^_}
 use Rattle.decimals.specs.Exact.{exactText}
 use Rattle.decimals.specs.Short.{Brief}
 use Rattle.decimals.specs.Line.{markedText, shortText}
-use Rattle.decimals.proofs.Lines.{told-as}
+use Rattle.listing.proofs.Adding.{told-as}
 use Rattle.decimals.proofs.line.add_short.Statement.{statement}
 use Rattle.decimals.proofs.line.add_short.Tie as tie
 

@@ -3,10 +3,10 @@ use native.Mathlib.Omega.{arith}
 use borrow.Author.Needs.{needs}
 use mathlib.Core.Path.{sym, ap, ap₂, _∙_}
 use mathlib.Core.Bool.{not}
-use Rattle.listing.proofs.Adding.{both}
+use Rattle.listing.proofs.Adding.{both, told-as}
 use Rattle.decimals.specs.Exact.{exactText}
 use Rattle.decimals.specs.Line.{shortText}
-use Rattle.decimals.proofs.Lines.{told-as, improper-value, exact-value, short-value}
+use Rattle.decimals.proofs.Lines.{improper-value, exact-value, short-value}
 use Rattle.decimals.proofs.line.add_value.Statement.{statement}
 use Rattle.decimals.proofs.line.add_value.Tie as tie
 

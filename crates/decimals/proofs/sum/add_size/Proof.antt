@@ -1,8 +1,7 @@
 -- `decimals::sum::add_size` is its definition. Assumes nothing.
 use borrow.Author.Needs.{needs}
 use denote.Ref.{now}
-use Rattle.listing.proofs.Adding.{both}
-use Rattle.decimals.proofs.Lines.{told-as}
+use Rattle.listing.proofs.Adding.{both, told-as}
 use Rattle.decimals.proofs.SumReading.{unread, read}
 use Rattle.decimals.proofs.sum.add_size.Statement.{statement}
 use Rattle.decimals.proofs.sum.add_size.Tie as tie

@@ -3,9 +3,8 @@ use mathlib.Core.Path.{ap}
 use native.Mathlib.Omega.{arith}
 use borrow.Author.Needs.{needs}
 use Rattle.listing.specs.Listing.{field}
-use Rattle.listing.proofs.Adding.{both}
+use Rattle.listing.proofs.Adding.{both, told-as}
 use Rattle.listing.proofs.Decimal.{at-most}
-use Rattle.step_text.proofs.Hex.{told-as}
 use Rattle.step_text.proofs.lines.add_refusal.Statement.{statement}
 use Rattle.step_text.proofs.lines.add_refusal.Tie as tie
 

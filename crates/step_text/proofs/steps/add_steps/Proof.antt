@@ -4,9 +4,8 @@ use native.Mathlib.Omega.{arith}
 use denote.Ref.{now}
 use borrow.Author.Needs.{needs}
 use Rattle.bit_serial.specs.Work.{Narrow}
-use Rattle.listing.proofs.Adding.{nothing}
+use Rattle.listing.proofs.Adding.{nothing, told-as}
 use Rattle.step_text.specs.Steps.{stepLines}
-use Rattle.step_text.proofs.Hex.{told-as}
 use Rattle.step_text.proofs.steps.add_steps.Statement.{statement}
 use Rattle.step_text.proofs.steps.add_steps.Tie as tie
 

@@ -1,12 +1,12 @@
--- `decimals::hex::read_hex` meets its contract: reading on from the value so far leads to the number. Assumes nothing.
+-- `listing::hex::read_hex` meets its contract: reading on from the value so far leads to the number. Assumes nothing.
 use mathlib.Core.Path.{subst}
 use Prim.Native.Nat.{ℕ, _-_, _^_, _<_}
 use native.Mathlib.Omega.{arith}
 use borrow.Author.Needs.{needs}
 use lib.ListN.{length}
-use Rattle.decimals.proofs.HexReading.{Reading, starts, narrow, reads-on, unreadable, all-read}
-use Rattle.decimals.proofs.hex.read_hex.Statement.{statement}
-use Rattle.decimals.proofs.hex.read_hex.Tie as tie
+use Rattle.listing.proofs.HexReading.{Reading, starts, narrow, reads-on, unreadable, all-read}
+use Rattle.listing.proofs.hex.read_hex.Statement.{statement}
+use Rattle.listing.proofs.hex.read_hex.Tie as tie
 
 abbrev Inv-loop : tie.InvT-loop
 Inv-loop text value₀ i₀ value i = Reading text value i

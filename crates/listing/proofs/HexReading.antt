@@ -8,8 +8,8 @@ use native.Mathlib.Omega.{arith}
 use borrow.Author.Tests.{lt-ltb, le-ltb}
 use lib.ListN.{length, drop, getD, drop-of-length-le}
 use lib.Seq.{drop-cons}
-use Rattle.decimals.specs.declared.hex.Hex.the-variants.{Number, Nothing as Unread}
-use Rattle.decimals.specs.Hex.{digitValue, hexFrom}
+use Rattle.listing.specs.declared.hex.Hex.the-variants.{Number, Nothing as Unread}
+use Rattle.listing.specs.Hex.{digitValue, hexFrom}
 
 -- what holds where the loop stands: reading on from the value leads to the number
 pub record Reading (text : List ℕ) (value i : ℕ) : Type 0 where

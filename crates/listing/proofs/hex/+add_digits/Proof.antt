@@ -1,20 +1,19 @@
--- `decimals::line::add_digits` adds the digits before the last one and then that one: it calls itself with one digit fewer. Assumes nothing.
-use Prim.Native.Nat.{ℕ, _-_, _/_, _<_}
+-- `listing::hex::add_digits` adds the digits before the last one and then that one: it calls itself with one digit fewer. Assumes nothing.
+use Prim.Native.Nat.{ℕ, _-_, _/_, _%_, _<_}
 use denote.Ref.{now}
 use native.Mathlib.Omega.{arith}
 use borrow.Author.Needs.{needs}
 use borrow.Fn.Kinds.{In}
 use borrow.Fn.PlainCycle.{Measures, is, falls, and}
-use Prim.Native.Nat.{_%_}
 use native.Mathlib.Nat.{mod-lt}
 use Rattle.listing.proofs.text.add.Reads as add-reads
 use Rattle.listing.proofs.text.digit.Reads as digit-reads
-use Rattle.decimals.proofs.Lines.{no-digits, last-digit, digits-length}
-use Rattle.decimals.proofs.line.add_digits.Reads as add-digits
-use Rattle.decimals.proofs.line.add_digits.Kinds as add-digits-kinds
-use Rattle.decimals.proofs.line.+add_digits.Lts-add_digits as add-digits-lts
-use Rattle.decimals.proofs.line.+add_digits.{statement}
-use Rattle.decimals.proofs.line.+add_digits.Tie.{close}
+use Rattle.listing.proofs.Digits.{no-digits, last-digit, digits-length}
+use Rattle.listing.proofs.hex.add_digits.Reads as add-digits
+use Rattle.listing.proofs.hex.add_digits.Kinds as add-digits-kinds
+use Rattle.listing.proofs.hex.+add_digits.Lts-add_digits as add-digits-lts
+use Rattle.listing.proofs.hex.+add_digits.{statement}
+use Rattle.listing.proofs.hex.+add_digits.Tie.{close}
 
 abbrev μ-add-digits : Measures 1 add-digits-kinds.ps ℕ
 μ-add-digits κs a = a .1 .1 .1 .1 .0

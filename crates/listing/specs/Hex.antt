@@ -1,10 +1,11 @@
--- Hex digits of either case as a number. Definitions only. Assumes nothing.
-use Prim.Native.Nat.{ℕ, _+_, _-_, _*_, _<_}
+-- Hex digits of either case as a number, and the last digits of a number to a base. Definitions only. Assumes nothing.
+use Prim.Native.Nat.{ℕ, zero, suc, _+_, _-_, _*_, _/_, _%_, _<_}
 use mathlib.Core.Bool.{cond}
-use mathlib.Core.List.{List, [], _∷_}
+use mathlib.Core.List.{List, [], _∷_, _++_}
 use lib.Dec.{ltb}
-use Rattle.decimals.specs.declared.hex.Hex.{Hex}
-use Rattle.decimals.specs.declared.hex.Hex.the-variants.{Number, Nothing}
+use Rattle.listing.specs.declared.hex.Hex.{Hex}
+use Rattle.listing.specs.declared.hex.Hex.the-variants.{Number, Nothing}
+use Rattle.listing.specs.Text.{digit}
 
 -- the value of a hex digit, 0 to 9, A to F or a to f, and 16 for a character that is none
 unfoldable pub digitValue : ℕ → ℕ
@@ -29,3 +30,8 @@ hexOf text = hexFrom 0 text
 abbrev pub Below : ℕ → Hex → Type 0
 Below bound (Number value) = value < bound
 Below bound Nothing = Unit
+
+-- the last digits of a number to a base, so many of them
+unfoldable pub digitsTo : ℕ → ℕ → ℕ → List ℕ
+digitsTo base zero n = []
+digitsTo base (suc count) n = digitsTo base count (n / base) ++ (digit (n % base) ∷ [])
