@@ -10,7 +10,7 @@ use Rattle.float.specs.Cut.{packed, errorAt, cutSize, cut}
 use Rattle.float.specs.Word.{size88}
 use Rattle.decimals.specs.Bring.{bringOf}
 use Rattle.decimals.specs.Read.{scanFrom, parseOf}
-use Rattle.decimals.specs.Hex.{digitValue, hexFrom}
+use Rattle.listing.specs.Hex.{digitValue, hexFrom}
 use Rattle.record_text.specs.Names.{nameOf}
 use Rattle.record_text.specs.Words.{wordsFrom}
 use Rattle.record_text.specs.Named.{kindFrom, codeFrom}

@@ -44,9 +44,11 @@ use Rattle.bit_serial.proofs.Steps.{made}
 use Rattle.step_text.specs.declared.asked.Found.{Found}
 use Rattle.step_text.specs.declared.asked.Found.the-variants.{Operation as Named, Nothing as Unnamed}
 use Rattle.listing.specs.Text.{spelled as their-spelled, decimal as their-decimal}
-use Rattle.step_text.specs.Lines.{stepLine, answerLine, statusFor, hexOf as their-hex}
+use Rattle.listing.specs.Hex.{digitValue, hexFrom, digitsTo}
+use Rattle.options.specs.Options.{sameText}
+use Rattle.step_text.specs.Lines.{stepLine, answerLine, statusFor}
 use Rattle.step_text.specs.Steps.{productLines, quotientLines, workingsOf, leftAfter, partialAfter, linesAfter}
-use Rattle.step_text.specs.Asked.{digitValue, readFrom, readHex, operationAt, sameText, ruleFor}
+use Rattle.step_text.specs.Asked.{readHex, operationAt, ruleFor}
 use Rattle.step_text.proofs.Numbered.{numbered}
 use Rattle.promises.specs.SerialWork as book
 use Rattle.promises.specs.PrintedText.{written, decimal, hexOf}
@@ -189,7 +191,7 @@ coded code op =
 -- a line, and the lines, as the book has them
 step-is : (number left partial : ℕ) → stepLine number left partial ≡ book.stepLine number left partial
 step-is number left partial =
-    ap (λ (t : List ℕ). t ++ ((32 ∷ their-decimal left) ++ (32 ∷ (their-hex 16 partial ++ (10 ∷ []))))) (decimal-is number)
+    ap (λ (t : List ℕ). t ++ ((32 ∷ their-decimal left) ++ (32 ∷ (digitsTo 16 16 partial ++ (10 ∷ []))))) (decimal-is number)
     ∙ ap₂ (λ (t u : List ℕ). decimal number ++ ((32 ∷ t) ++ (32 ∷ (u ++ (10 ∷ []))))) (decimal-is left) (hex-is 16 partial)
 
 lines-are : (task : Task) (n k : ℕ) → linesAfter task n k ≡ book.linesAfter task n k
@@ -205,7 +207,7 @@ status-is w r error = same-bits (cond (leb (least w) r) 64 0) (cond (eqb r 0) 32
 answer-is : (w : Width) (r : Answer) → answerLine w r ≡ book.answerLine w r
 answer-is w (Word r error n) =
     ap (λ (t : List ℕ). written "word " ++ (t ++ (written " error"
-    ++ ((32 ∷ their-decimal error) ++ (written " status " ++ (their-hex 2 (statusFor w r error) ++ (10 ∷ [])))))))
+    ++ ((32 ∷ their-decimal error) ++ (written " status " ++ (digitsTo 16 2 (statusFor w r error) ++ (10 ∷ [])))))))
     (hex-is (2 * sizeOf w) r)
     ∙ ap₂ (λ (t u : List ℕ). written "word " ++ (hexOf (2 * sizeOf w) r ++ (written " error" ++ ((32 ∷ t) ++ (written " status " ++ (u ++ (10 ∷ [])))))))
     (decimal-is error)
@@ -225,8 +227,8 @@ unfolding operationAt
 eight = refl
 
 pub steps-text : StepsText
-unfolding size low packed errorAt cutSize cut their-spelled their-hex addedUpTo subtractedUpTo mulAnswer muuAnswer divAnswer fmulAnswer fdivAnswer mulTask
-    divTask fmulTask fdivTask productLines quotientLines digitValue readFrom readHex operationAt sameText ruleFor
+unfolding size low packed errorAt cutSize cut their-spelled digitsTo addedUpTo subtractedUpTo mulAnswer muuAnswer divAnswer fmulAnswer fdivAnswer mulTask
+    divTask fmulTask fdivTask productLines quotientLines digitValue hexFrom readHex operationAt sameText ruleFor
 steps-text = record {
   codes = eight;
   chips = coded;

@@ -14,14 +14,14 @@ use Rattle.little.specs.Little.{le4, fourAt}
 use Rattle.little.proofs.Exact.{same-bytes, four-lt}
 use Rattle.listing.specs.Text.{digit, spelled, decimal, hex}
 use Rattle.listing.specs.Listing.{blank}
-use Rattle.decimals.specs.Hex.{hexOf}
-use Rattle.decimals.specs.Line.{digitsTo}
+use Rattle.listing.specs.Hex.{hexOf}
+use Rattle.listing.specs.Hex.{digitsTo}
 use Rattle.decimals.specs.Meaning.{allDigits, numberFrom, numberIn}
 use Rattle.decimals.specs.Read.{isDigit, scanFrom, scanOf}
-use Rattle.decimals.specs.declared.hex.Hex.the-variants.{Number as Hexed}
+use Rattle.listing.specs.declared.hex.Hex.the-variants.{Number as Hexed}
 use Rattle.decimals.specs.declared.read.Scanned.the-variants.{Digits}
-use Rattle.decimals.proofs.Lines.{digits-length}
-use Rattle.decimals.proofs.HexBack.{hex-back}
+use Rattle.listing.proofs.Digits.{digits-length}
+use Rattle.listing.proofs.Digits.{hex-back}
 use Rattle.decimals.proofs.Fractions.{Spells, spells, number-on}
 use Rattle.decimals.proofs.Quotients.{ten-pos}
 use Rattle.record_text.specs.Letters.{same}

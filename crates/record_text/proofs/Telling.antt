@@ -11,7 +11,7 @@ use lib.Seq.{length-take-le}
 use Rattle.listing.specs.Text.{hex, Adds}
 use Rattle.listing.specs.Listing.{blank}
 use Rattle.listing.proofs.Adding.{nothing}
-use Rattle.decimals.proofs.Lines.{told-as}
+use Rattle.listing.proofs.Adding.{told-as}
 use Rattle.record_text.specs.Names.{nameOf}
 use Rattle.record_text.specs.Kinds.{kindName}
 use Rattle.record_text.specs.Told.{groupText, groupSize, groups, spaced, joined, srWord, srWords, commandWords}

@@ -9,9 +9,9 @@ use lib.Dec.{eqb}
 use lib.ListN.{length}
 use Rattle.terms.specs.declared.Rule.{Rule}
 use Rattle.decimals.specs.declared.read.Scanned.the-variants.{Digits, TooMany}
-use Rattle.decimals.specs.declared.hex.Hex.{Hex}
+use Rattle.listing.specs.declared.hex.Hex.{Hex}
 use Rattle.decimals.specs.Read.{scanOf}
-use Rattle.decimals.specs.Hex.{hexOf}
+use Rattle.listing.specs.Hex.{hexOf}
 use Rattle.record_text.specs.Kinds.{numberOf}
 use Rattle.record_text.specs.declared.kinds.Kind.{Kind}
 use Rattle.record_text.specs.declared.values.Fault.the-variants.{NoNumber, OutOfRange, NoCode}

@@ -7,7 +7,7 @@ use lib.ListN.{length, getD}
 use Rattle.little.specs.Little.{fourAt}
 use Rattle.listing.specs.Text.{decimal, hex}
 use Rattle.listing.specs.Listing.{blank}
-use Rattle.decimals.specs.Line.{digitsTo}
+use Rattle.listing.specs.Hex.{digitsTo}
 use Rattle.record_text.specs.Letters.{r, s}
 use Rattle.record_text.specs.Names.{nameOf}
 use Rattle.record_text.specs.Kinds.{kindName, formOf}

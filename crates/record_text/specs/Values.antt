@@ -14,10 +14,10 @@ use Rattle.decimals.specs.declared.read.Reading.{Reading}
 use Rattle.decimals.specs.declared.read.Reading.the-variants.{Exact, Rounded, Refused, Wrong as Unread}
 use Rattle.decimals.specs.declared.read.Scanned.{Scanned}
 use Rattle.decimals.specs.declared.read.Scanned.the-variants.{Digits as Run, TooMany}
-use Rattle.decimals.specs.declared.hex.Hex.{Hex}
-use Rattle.decimals.specs.declared.hex.Hex.the-variants.{Number as Hexed, Nothing}
+use Rattle.listing.specs.declared.hex.Hex.{Hex}
+use Rattle.listing.specs.declared.hex.Hex.the-variants.{Number as Hexed, Nothing}
 use Rattle.decimals.specs.Read.{scanOf, readOf}
-use Rattle.decimals.specs.Hex.{hexOf}
+use Rattle.listing.specs.Hex.{hexOf}
 use Rattle.record_text.specs.Kinds.{formOf}
 use Rattle.record_text.specs.Kinds.{numberOf as kindNumber}
 use Rattle.record_text.specs.declared.kinds.Kind.{Kind}

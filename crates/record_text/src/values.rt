@@ -2,12 +2,12 @@
 use crate::kinds::Form;
 use crate::kinds::Kind;
 use crate::kinds::form_of;
-use decimals::hex::Hex;
-use decimals::hex::read_hex;
 use decimals::read::Reading;
 use decimals::read::Scanned;
 use decimals::read::read;
 use decimals::read::scan;
+use listing::hex::Hex;
+use listing::hex::read_hex;
 use terms::Refusal;
 use terms::Rule;
 ghost use mathlib.Core.Path.{_≡_};

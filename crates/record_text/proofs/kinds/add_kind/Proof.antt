@@ -1,7 +1,7 @@
 -- `record_text::kinds::add_kind` adds the part of the names that is the kind's. Assumes nothing.
 use native.Mathlib.Omega.{arith}
 use borrow.Author.Needs.{needs}
-use Rattle.decimals.proofs.Lines.{told-as}
+use Rattle.listing.proofs.Adding.{told-as}
 use Rattle.record_text.proofs.Tables.{kind-short}
 use Rattle.record_text.proofs.kinds.add_kind.Statement.{statement}
 use Rattle.record_text.proofs.kinds.add_kind.Tie as tie

@@ -3,7 +3,7 @@ use denote.Ref.{now}
 use native.Mathlib.Omega.{arith}
 use borrow.Author.Needs.{needs}
 use Rattle.listing.proofs.Adding.{both}
-use Rattle.decimals.proofs.Lines.{told-as}
+use Rattle.listing.proofs.Adding.{told-as}
 use Rattle.record_text.proofs.Taking.{head-is}
 use Rattle.record_text.proofs.line.add_record.Statement.{statement}
 use Rattle.record_text.proofs.line.add_record.Tie as tie

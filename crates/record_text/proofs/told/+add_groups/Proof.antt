@@ -10,7 +10,7 @@ use lib.ListN.{length, take, drop, length-drop}
 use lib.Seq.{length-take-le}
 use Rattle.listing.proofs.Adding.{both}
 use Rattle.listing.proofs.Listed.{all-rest}
-use Rattle.decimals.proofs.Lines.{told-as}
+use Rattle.listing.proofs.Adding.{told-as}
 use Rattle.record_text.proofs.Telling.{no-groups, groups-split}
 use Rattle.record_text.proofs.told.add_groups.Reads as add-groups
 use Rattle.record_text.proofs.told.add_groups.Kinds as add-groups-kinds

@@ -7,7 +7,7 @@ use lib.ListN.{length, take}
 use lib.Seq.{length-take-le}
 use Rattle.record_text.specs.Names.{nameOf}
 use Rattle.listing.proofs.Adding.{both}
-use Rattle.decimals.proofs.Lines.{told-as}
+use Rattle.listing.proofs.Adding.{told-as}
 use Rattle.record_text.proofs.Telling.{by-code, by-name, no-letters, some-letters}
 use Rattle.record_text.proofs.told.add_command.Statement.{statement}
 use Rattle.record_text.proofs.told.add_command.Tie as tie

@@ -8,7 +8,7 @@ use Rattle.listing.specs.Text.{decimal}
 use Rattle.listing.specs.Listing.{blank}
 use Rattle.listing.proofs.Adding.{both}
 use Rattle.listing.proofs.Decimal.{at-most}
-use Rattle.decimals.proofs.Lines.{told-as}
+use Rattle.listing.proofs.Adding.{told-as}
 use Rattle.record_text.specs.Kinds.{kindName}
 use Rattle.record_text.proofs.told.add_counted.Statement.{statement}
 use Rattle.record_text.proofs.told.add_counted.Tie as tie

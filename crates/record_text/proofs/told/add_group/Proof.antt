@@ -8,8 +8,9 @@ use borrow.Author.Needs.{needs}
 use lib.ListN.{length}
 use Rattle.listing.specs.Listing.{blank}
 use Rattle.listing.proofs.Adding.{both}
-use Rattle.decimals.specs.Line.{digitsTo}
-use Rattle.decimals.proofs.Lines.{told-as, digits-length}
+use Rattle.listing.specs.Hex.{digitsTo}
+use Rattle.listing.proofs.Adding.{told-as}
+use Rattle.listing.proofs.Digits.{digits-length}
 use Rattle.record_text.proofs.told.add_group.Statement.{statement}
 use Rattle.record_text.proofs.told.add_group.Tie as tie
 

@@ -6,7 +6,7 @@ use denote.Ref.{now}
 use native.Mathlib.Omega.{arith}
 use borrow.Author.Needs.{needs}
 use Rattle.listing.proofs.Adding.{nothing}
-use Rattle.decimals.proofs.Lines.{told-as}
+use Rattle.listing.proofs.Adding.{told-as}
 use Rattle.listing.specs.Text.{Adds}
 use Rattle.record_text.specs.Kinds.{formOf, kindName}
 use Rattle.record_text.specs.Told.{joined, commandWords, wordsBy, recordText}
