@@ -36,18 +36,4 @@ record-text-reads-back rule Unknown payload h B = absurd h
 pub record-text-rows : RecordTextRows
 unfolding lineOf takeWords wordsFrom kindFrom codeFrom nameOf bytesOf numberFor codeOf hexFrom digitValue
     parseOf scanFrom bringOf size88 cut cutSize packed errorAt size
-record-text-rows = record {
-  float-words = refl;
-  cut = refl;
-  nearest = refl;
-  double = refl;
-  singles = refl;
-  bytes = refl;
-  command = refl;
-  service = refl;
-  any-code = refl;
-  pop = refl;
-  opens = refl;
-  comment = refl;
-  nothing = refl;
-}
+record-text-rows = record { pushes = refl; others = refl }

@@ -235,21 +235,12 @@ steps-text = record {
   lines = told-lines;
   told = told;
   not-told = not-told;
-  smul = refl;
-  smuu = refl;
-  sdiv = refl;
-  dmul = refl;
-  dmuu = refl;
-  ddiv = refl;
-  fmul = refl;
-  fdiv = refl;
-  refused = refl;
-  refused-a = refl;
+  rows = refl;
   third = refl;
   third-nearest = refl;
   product-nearest = refl;
   third-words = (refl, refl);
-  usage = (refl, refl, refl, refl, refl, refl);
+  usage = (refl, refl);
 }
 
 -- ---- the examples, computed from the definitions

@@ -35,7 +35,7 @@ use Rattle.promises.specs.Given.{Given, Chosen, settingsIn, eventCall}
 use Rattle.promises.specs.Host.{number, outward, inward}
 use Rattle.promises.specs.Remembered.{Remembers}
 use Rattle.promises.specs.SmallCalls.{signalled, Tail, none as no-tail, two, Parts, EventCallUnder, EventCall, Converts, ConversionCalls}
-use Rattle.promises.proofs.Fronts.{none}
+use Rattle.promises.proofs.Fronts.{unnamed}
 use Rattle.promises.proofs.Kept.{good-states}
 
 -- ---- turned away
@@ -44,18 +44,7 @@ bad-state on state kind byte h = rw h
 
 bad-kind : (on : Settings) (state : List ℕ) (kind byte : ℕ) → isState state ≡ true → (kind ≡ 0) ⊎ (8 < kind) → signalUnder on state kind byte ≡ signalled 1280
     state
-bad-kind on state kind byte g h =
-    rw (
-      g,
-      ne-eqb kind 1 (none kind h 1 (lit≤ tt) (lit≤ tt)),
-      ne-eqb kind 2 (none kind h 2 (lit≤ tt) (lit≤ tt)),
-      ne-eqb kind 3 (none kind h 3 (lit≤ tt) (lit≤ tt)),
-      ne-eqb kind 4 (none kind h 4 (lit≤ tt) (lit≤ tt)),
-      ne-eqb kind 5 (none kind h 5 (lit≤ tt) (lit≤ tt)),
-      ne-eqb kind 6 (none kind h 6 (lit≤ tt) (lit≤ tt)),
-      ne-eqb kind 7 (none kind h 7 (lit≤ tt) (lit≤ tt)),
-      ne-eqb kind 8 (none kind h 8 (lit≤ tt) (lit≤ tt)),
-    )
+bad-kind on state kind byte g h = rw (g, unnamed kind h)
 
 -- neither a push nor a command
 same-byte : (c : Card) (byte other kind : ℕ) → (kind ≡ 1 → ⊥) → (kind ≡ 3 → ⊥) → answerToKind c kind byte ≡ answerToKind c kind other

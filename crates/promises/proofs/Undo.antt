@@ -56,14 +56,18 @@ use Rattle.promises.proofs.Chains.{coded, coded-is}
 use Rattle.promises.proofs.Cores.{code-sendable, bus-told, cores}
 
 -- ---- the rule
+-- what holds of each holds of all
+each : (P : Shuffle → Type 0) → P POPS → P POPD → P POPF → P XCHS → P XCHD → P XCHF → (k : Shuffle) → P k
+each P a b c d e f POPS = a
+each P a b c d e f POPD = b
+each P a b c d e f POPF = c
+each P a b c d e f XCHS = d
+each P a b c d e f XCHD = e
+each P a b c d e f XCHF = f
+
 pub six-codes : SixCodes
 unfolding decoded
-six-codes POPS = refl
-six-codes POPD = refl
-six-codes POPF = refl
-six-codes XCHS = refl
-six-codes XCHD = refl
-six-codes XCHF = refl
+six-codes = each (λ k. decoded (codeOf k) ≡ Known (commandOf k)) refl refl refl refl refl refl
 
 undo-joined : (ks ls : List Shuffle) → undo (ks ++ ls) ≡ undo ls ++ undo ks
 undo-joined [] ls = sym (append-nil (undo ls))
@@ -72,21 +76,13 @@ undo-joined (k ∷ ks) ls = ap (λ (x : List Shuffle). x ++ undoOne k) (undo-joi
 -- ---- one command
 -- its code is below 128 and stands for it
 short-code : (k : Shuffle) → (codeOf k < 128) × (decoded (codeOf k % 128) ≡ Known (commandOf k))
-short-code POPS = (lit< tt, six-codes POPS)
-short-code POPD = (lit< tt, six-codes POPD)
-short-code POPF = (lit< tt, six-codes POPF)
-short-code XCHS = (lit< tt, six-codes XCHS)
-short-code XCHD = (lit< tt, six-codes XCHD)
-short-code XCHF = (lit< tt, six-codes XCHF)
+short-code =
+    each (λ k. (codeOf k < 128) × (decoded (codeOf k % 128) ≡ Known (commandOf k))) (lit< tt, six-codes POPS) (lit< tt, six-codes POPD)
+    (lit< tt, six-codes POPF) (lit< tt, six-codes XCHS) (lit< tt, six-codes XCHD) (lit< tt, six-codes XCHF)
 
 -- what holds of POP and XCH at each width holds of the six
 of-six : (P : Command → Type 0) → ((w : Width) → P (Pop w)) → ((w : Width) → P (Xch w)) → (k : Shuffle) → P (commandOf k)
-of-six P pop xch POPS = pop Single
-of-six P pop xch POPD = pop Double
-of-six P pop xch POPF = pop Double
-of-six P pop xch XCHS = xch Single
-of-six P pop xch XCHD = xch Double
-of-six P pop xch XCHF = xch Double
+of-six P pop xch = each (λ k. P (commandOf k)) (pop Single) (pop Double) (pop Double) (xch Single) (xch Double) (xch Double)
 
 any-operands : (k : Shuffle) (l : List ℕ) → properOperands (commandOf k) l ≡ true
 any-operands k l = of-six (λ (c : Command). properOperands c l ≡ true) (λ w. refl) (λ w. refl) k
@@ -192,23 +188,23 @@ module _ (on : Settings) where
   stay : (ks : List Shuffle) → ((l : List ℕ) → leftBy ks (elems l 0 16) ≡ elems l 0 16) → Stays ks
   stay ks h l S = spelled (λ (x : List ℕ). leftBy ks x ≡ x) l (S .sixteen) (h l)
 
-  pops-undone : Stays (POPS ∷ undoOne POPS)
-  pops-undone = stay (POPS ∷ undoOne POPS) (λ l. refl)
+  record OneUndone : Type 0 where
+    pops : Stays (POPS ∷ undoOne POPS)
+    popd : Stays (POPD ∷ undoOne POPD)
+    popf : Stays (POPF ∷ undoOne POPF)
+    xchs : Stays (XCHS ∷ undoOne XCHS)
+    xchd : Stays (XCHD ∷ undoOne XCHD)
+    xchf : Stays (XCHF ∷ undoOne XCHF)
 
-  popd-undone : Stays (POPD ∷ undoOne POPD)
-  popd-undone = stay (POPD ∷ undoOne POPD) (λ l. refl)
-
-  popf-undone : Stays (POPF ∷ undoOne POPF)
-  popf-undone = stay (POPF ∷ undoOne POPF) (λ l. refl)
-
-  xchs-undone : Stays (XCHS ∷ undoOne XCHS)
-  xchs-undone = stay (XCHS ∷ undoOne XCHS) (λ l. refl)
-
-  xchd-undone : Stays (XCHD ∷ undoOne XCHD)
-  xchd-undone = stay (XCHD ∷ undoOne XCHD) (λ l. refl)
-
-  xchf-undone : Stays (XCHF ∷ undoOne XCHF)
-  xchf-undone = stay (XCHF ∷ undoOne XCHF) (λ l. refl)
+  each-undone : OneUndone
+  each-undone = record {
+    pops = stay (POPS ∷ undoOne POPS) (λ l. refl);
+    popd = stay (POPD ∷ undoOne POPD) (λ l. refl);
+    popf = stay (POPF ∷ undoOne POPF) (λ l. refl);
+    xchs = stay (XCHS ∷ undoOne XCHS) (λ l. refl);
+    xchd = stay (XCHD ∷ undoOne XCHD) (λ l. refl);
+    xchf = stay (XCHF ∷ undoOne XCHF) (λ l. refl);
+  }
 
   eight-stay : Stays eightPops
   eight-stay = stay eightPops (λ l. refl)
@@ -220,12 +216,8 @@ module _ (on : Settings) where
   four-float-stay = stay fourPopf (λ l. refl)
 
   one-undone : (k : Shuffle) → Stays (k ∷ undoOne k)
-  one-undone POPS = pops-undone
-  one-undone POPD = popd-undone
-  one-undone POPF = popf-undone
-  one-undone XCHS = xchs-undone
-  one-undone XCHD = xchd-undone
-  one-undone XCHF = xchf-undone
+  one-undone =
+      let u = each-undone in each (λ k. Stays (k ∷ undoOne k)) (u .pops) (u .popd) (u .popf) (u .xchs) (u .xchd) (u .xchf)
 
   list-undone : (ks : List Shuffle) → Stays (ks ++ undo ks)
   list-undone [] = λ l S. refl

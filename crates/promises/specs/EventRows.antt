@@ -1,13 +1,13 @@
 -- Rows through pundaliket_event, byte by byte: mode, rule, state, kind and byte; the number returned, and the state
--- after. Every command is among them. The bytes were
--- worked out from 01 and 02 and not from the library. Definitions and the statement only: proofs/EventRows.antt
--- computes it. Assumes nothing.
+-- after. Every command is among them. The bytes were worked out from 01 and 02 and not from the library. Definitions
+-- and the statement only: proofs/EventRows.antt computes it. Assumes nothing.
 use Prim.Native.Nat.{ℕ}
 use mathlib.Core.Path.{_≡_}
 use mathlib.Core.List.{List, [], _∷_, _++_, map}
 use lib.ListN.{replicate}
 use Rattle.promises.specs.Subjects.{Signal, signalOf}
 use Rattle.promises.specs.PrintedText.{bytes}
+use Rattle.promises.specs.RunRows.{full, memory, short, behind}
 
 -- what is given and lent, and what the call must return and leave
 pub record EventRow : Type 0 where
@@ -28,79 +28,43 @@ sent mode rule state kind byte result state' = record {
   after = record { result = result; state = state' };
 }
 
+-- refused: the state stays
+abbrev pub refuses : ℕ → ℕ → ℕ → List ℕ → ℕ → ℕ → EventRow
+refuses result mode rule state kind byte = sent mode rule state kind byte result state
+
 -- the rows
 abbrev pub eventTable : List EventRow
 eventTable =
     -- 16, 17, 13, 5, whatever else is wrong; a kind is not taken modulo 256
-    sent 2 2 (bytes "11 92 23 A4 35 B6 47 C8 59 DA 6B EC 7D FE 8F 01 00 41") 9 0x6c
-    4096 (bytes "11 92 23 A4 35 B6 47 C8 59 DA 6B EC 7D FE 8F 01 00 41")
-    ∷ sent 0 2 (bytes "11 92 23 A4 35 B6 47 C8 59 DA 6B EC 7D FE 8F 01 00 41") 9 0x6c
-    4352 (bytes "11 92 23 A4 35 B6 47 C8 59 DA 6B EC 7D FE 8F 01 00 41")
-    ∷ sent 1 1 (bytes "11 92 23 A4 35 B6 47 C8 59 DA 6B EC 7D FE 8F 01 00 41") 9 0x6c
-    3328 (bytes "11 92 23 A4 35 B6 47 C8 59 DA 6B EC 7D FE 8F 01 00 41")
-    ∷ sent 1 1 (bytes "11 92 23 A4 35 B6 47 C8 59 DA 6B EC 7D FE 8F 01 00 41 01") 9 0x6c
-    1280 (bytes "11 92 23 A4 35 B6 47 C8 59 DA 6B EC 7D FE 8F 01 00 41 01")
-    ∷ sent 0 0 (bytes "11 92 23 A4 35 B6 47 C8 59 DA 6B EC 7D FE 8F 01 00 41 01 12 6F") 0 0x00
-    1280 (bytes "11 92 23 A4 35 B6 47 C8 59 DA 6B EC 7D FE 8F 01 00 41 01 12 6F")
-    ∷ sent 0 0 (bytes "11 92 23 A4 35 B6 47 C8 59 DA 6B EC 7D FE 8F 01 00 41 01 12 6F") 257 0xa5
-    1280 (bytes "11 92 23 A4 35 B6 47 C8 59 DA 6B EC 7D FE 8F 01 00 41 01 12 6F")
-    ∷ sent 0 0 (bytes "11 92 23 A4 35 B6 47 C8 59 DA 6B EC 7D FE 8F 01 00 41 01 12 6F") 4294967295 0xa5
-    1280 (bytes "11 92 23 A4 35 B6 47 C8 59 DA 6B EC 7D FE 8F 01 00 41 01 12 6F")
+    refuses 4096 2 2 short 9 0x6c ∷ refuses 4352 0 2 short 9 0x6c ∷ refuses 3328 1 1 short 9 0x6c
+    ∷ refuses 1280 1 1 full 9 0x6c ∷ refuses 1280 0 0 (full ++ memory) 0 0x00
+    ∷ refuses 1280 0 0 (full ++ memory) 257 0xa5 ∷ refuses 1280 0 0 (full ++ memory) 4294967295 0xa5
     -- 13 for a memory
-    ∷ sent 0 0 (bytes "11 92 23 A4 35 B6 47 C8 59 DA 6B EC 7D FE 8F 01 00 41 01 32 6F") 7 0x00
-    3328 (bytes "11 92 23 A4 35 B6 47 C8 59 DA 6B EC 7D FE 8F 01 00 41 01 32 6F")
-    ∷ sent 0 0 (bytes "11 92 23 A4 35 B6 47 C8 59 DA 6B EC 7D FE 8F 01 00 41 01 12 00") 7 0x00
-    3328 (bytes "11 92 23 A4 35 B6 47 C8 59 DA 6B EC 7D FE 8F 01 00 41 01 12 00")
-    ∷ sent 0 0 (bytes "11 92 23 A4 35 B6 47 C8 59 DA 6B EC 7D FE 8F 01 00 41 01 12 6F 00") 7 0x00
-    3328 (bytes "11 92 23 A4 35 B6 47 C8 59 DA 6B EC 7D FE 8F 01 00 41 01 12 6F 00")
+    ∷ refuses 3328 0 0 (behind "00 41 01 32 6F") 7 0x00 ∷ refuses 3328 0 0 (behind "00 41 01 12 00") 7 0x00
+    ∷ refuses 3328 0 0 (behind "00 41 01 12 6F 00") 7 0x00
     -- push, pop, status read, acknowledge, recall and forget, on 19 and 21 bytes; the byte is ignored but for a push
     -- and a command
-    ∷ sent 0 0 (bytes "11 92 23 A4 35 B6 47 C8 59 DA 6B EC 7D FE 8F 01 00 41 01") 1 0xd3
-    0 (bytes "D3 11 92 23 A4 35 B6 47 C8 59 DA 6B EC 7D FE 8F 01 41 01")
-    ∷ sent 1 1 (bytes "11 92 23 A4 35 B6 47 C8 59 DA 6B EC 7D FE 8F 01 00 41 01 12 6F") 1 0xd3
-    0 (bytes "D3 11 92 23 A4 35 B6 47 C8 59 DA 6B EC 7D FE 8F 01 41 01 12 6F")
-    ∷ sent 0 0 (bytes "11 92 23 A4 35 B6 47 C8 59 DA 6B EC 7D FE 8F 01 00 41 01") 2 0xff
-    17 (bytes "92 23 A4 35 B6 47 C8 59 DA 6B EC 7D FE 8F 01 11 01 41 01")
-    ∷ sent 1 1 (bytes "11 92 23 A4 35 B6 47 C8 59 DA 6B EC 7D FE 8F 01 01 41 01 12 6F") 2 0x00
+    ∷ sent 0 0 full 1 0xd3 0 (bytes "D3 11 92 23 A4 35 B6 47 C8 59 DA 6B EC 7D FE 8F 01 41 01")
+    ∷ sent 1 1 (full ++ memory) 1 0xd3 0 (bytes "D3 11 92 23 A4 35 B6 47 C8 59 DA 6B EC 7D FE 8F 01 41 01 12 6F")
+    ∷ sent 0 0 full 2 0xff 17 (bytes "92 23 A4 35 B6 47 C8 59 DA 6B EC 7D FE 8F 01 11 01 41 01")
+    ∷ sent 1 1 (behind "01 41 01 12 6F") 2 0x00
     17 (bytes "92 23 A4 35 B6 47 C8 59 DA 6B EC 7D FE 8F 01 11 00 41 01 12 6F")
-    ∷ sent 0 1 (bytes "11 92 23 A4 35 B6 47 C8 59 DA 6B EC 7D FE 8F 01 00 41 01 12 6F") 4 0x07
-    65 (bytes "11 92 23 A4 35 B6 47 C8 59 DA 6B EC 7D FE 8F 01 00 41 01 12 6F")
-    ∷ sent 1 0 (bytes "11 92 23 A4 35 B6 47 C8 59 DA 6B EC 7D FE 8F 01 00 41 01 12 6F") 6 0x07
-    0 (bytes "11 92 23 A4 35 B6 47 C8 59 DA 6B EC 7D FE 8F 01 00 41 00 12 6F")
-    ∷ sent 0 0 (bytes "11 92 23 A4 35 B6 47 C8 59 DA 6B EC 7D FE 8F 01 00 41 01 12 6F") 7 0x07
-    18 (bytes "11 92 23 A4 35 B6 47 C8 59 DA 6B EC 7D FE 8F 01 00 41 01 12 6F")
-    ∷ sent 0 0 (bytes "11 92 23 A4 35 B6 47 C8 59 DA 6B EC 7D FE 8F 01 00 41 01") 7 0x07
-    0 (bytes "11 92 23 A4 35 B6 47 C8 59 DA 6B EC 7D FE 8F 01 00 41 01")
-    ∷ sent 0 0 (bytes "11 92 23 A4 35 B6 47 C8 59 DA 6B EC 7D FE 8F 01 00 41 01 12 6F") 8 0x07
-    0 (bytes "11 92 23 A4 35 B6 47 C8 59 DA 6B EC 7D FE 8F 01 00 41 01 00 00")
-    ∷ sent 0 0 (bytes "11 92 23 A4 35 B6 47 C8 59 DA 6B EC 7D FE 8F 01 00 41 01") 8 0x07
-    0 (bytes "11 92 23 A4 35 B6 47 C8 59 DA 6B EC 7D FE 8F 01 00 41 01")
+    ∷ sent 0 1 (full ++ memory) 4 0x07 65 (full ++ memory)
+    ∷ sent 1 0 (full ++ memory) 6 0x07 0 (behind "00 41 00 12 6F")
+    ∷ sent 0 0 (full ++ memory) 7 0x07 18 (full ++ memory) ∷ sent 0 0 full 7 0x07 0 full
+    ∷ sent 0 0 (full ++ memory) 8 0x07 0 (behind "00 41 01 00 00") ∷ sent 0 0 full 8 0x07 0 full
     -- reset: both modes, nothing pending and half a word
-    ∷ sent 0 1 (bytes "11 92 23 A4 35 B6 47 C8 59 DA 6B EC 7D FE 8F 01 00 41 01 12 6F") 5 0x01
-    0 (replicate 21 0x00)
-    ∷ sent 1 1 (bytes "11 92 23 A4 35 B6 47 C8 59 DA 6B EC 7D FE 8F 01 00 41 01 12 6F") 5 0x01
-    0 (bytes "11 92 23 A4 35 B6 47 C8 59 DA 6B EC 7D FE 8F 01 00 00 00 00 00")
-    ∷ sent 0 0 (bytes "11 92 23 A4 35 B6 47 C8 59 DA 6B EC 7D FE 8F 01 01 41 01 12 6F") 5 0x01
-    0 (replicate 21 0x00)
-    ∷ sent 1 0 (bytes "11 92 23 A4 35 B6 47 C8 59 DA 6B EC 7D FE 8F 01 01 41 01") 5 0x01
-    0 (bytes "92 23 A4 35 B6 47 C8 59 DA 6B EC 7D FE 8F 00 00 00 00 00")
+    ∷ sent 0 1 (full ++ memory) 5 0x01 0 (replicate 21 0x00)
+    ∷ sent 1 1 (full ++ memory) 5 0x01 0 (behind "00 00 00 00 00")
+    ∷ sent 0 0 (behind "01 41 01 12 6F") 5 0x01 0 (replicate 21 0x00)
+    ∷ sent 1 0 (behind "01 41 01") 5 0x01 0 (bytes "92 23 A4 35 B6 47 C8 59 DA 6B EC 7D FE 8F 00 00 00 00 00")
     -- 1 and 2 with half a word pending, then 3; 4 of B, of A, of A alone
-    ∷ sent 0 0 (bytes "11 92 23 A4 35 B6 47 C8 59 DA 6B EC 7D FE 8F 01 01 41 01") 3 0x8c
-    256 (bytes "11 92 23 A4 35 B6 47 C8 59 DA 6B EC 7D FE 8F 01 01 41 01")
-    ∷ sent 0 0 (bytes "11 92 23 A4 35 B6 47 C8 59 DA 6B EC 7D FE 8F 01 01 41 01") 3 0x8b
-    512 (bytes "11 92 23 A4 35 B6 47 C8 59 DA 6B EC 7D FE 8F 01 01 41 01")
-    ∷ sent 0 0 (bytes "11 92 23 A4 35 B6 47 C8 59 DA 6B EC 7D FE 8F 01 01 41 01") 3 0x00
-    768 (bytes "11 92 23 A4 35 B6 47 C8 59 DA 6B EC 7D FE 8F 01 01 41 01")
-    ∷ sent 0 0 (bytes "11 92 23 A4 35 B6 47 C8 59 DA 6B EC 7D FE 8F 01 01 41 01") 3 0x81
-    768 (bytes "11 92 23 A4 35 B6 47 C8 59 DA 6B EC 7D FE 8F 01 01 41 01")
-    ∷ sent 0 0 (bytes "04 B6 DB 6D 01 59 AB CD 12 34 56 78 9A BC DE F1 00 41 00") 3 0x90
-    1024 (bytes "04 B6 DB 6D 01 59 AB CD 12 34 56 78 9A BC DE F1 00 41 00")
-    ∷ sent 0 1 (bytes "01 59 AB CD 83 E5 A5 A7 12 34 56 78 9A BC DE F1 00 41 00") 3 0x13
-    1024 (bytes "01 59 AB CD 83 E5 A5 A7 12 34 56 78 9A BC DE F1 00 41 00")
-    ∷ sent 0 0 (bytes "01 59 AB CD 83 E5 A5 A7 12 34 56 78 9A BC DE F1 00 41 00") 3 0x1e
-    1024 (bytes "01 59 AB CD 83 E5 A5 A7 12 34 56 78 9A BC DE F1 00 41 00")
-    ∷ sent 0 0 (bytes "01 59 AB CD 83 E5 A5 A7 12 34 56 78 9A BC DE F1 00 41 00") 3 0x01
-    1024 (bytes "01 59 AB CD 83 E5 A5 A7 12 34 56 78 9A BC DE F1 00 41 00")
+    ∷ refuses 256 0 0 (behind "01 41 01") 3 0x8c ∷ refuses 512 0 0 (behind "01 41 01") 3 0x8b
+    ∷ refuses 768 0 0 (behind "01 41 01") 3 0x00 ∷ refuses 768 0 0 (behind "01 41 01") 3 0x81
+    ∷ refuses 1024 0 0 (bytes "04 B6 DB 6D 01 59 AB CD 12 34 56 78 9A BC DE F1 00 41 00") 3 0x90
+    ∷ refuses 1024 0 1 (bytes "01 59 AB CD 83 E5 A5 A7 12 34 56 78 9A BC DE F1 00 41 00") 3 0x13
+    ∷ refuses 1024 0 0 (bytes "01 59 AB CD 83 E5 A5 A7 12 34 56 78 9A BC DE F1 00 41 00") 3 0x1e
+    ∷ refuses 1024 0 0 (bytes "01 59 AB CD 83 E5 A5 A7 12 34 56 78 9A BC DE F1 00 41 00") 3 0x01
     -- the commands: 16 bits, with and without sr
     ∷ sent 0 0 (bytes "7A 5C 6B 3D 83 E5 A5 A7 12 34 56 78 9A BC DE F1 00 41 00") 3 0x6c
     0 (bytes "E5 99 83 E5 A5 A7 12 34 56 78 9A BC DE F1 7A 5C 00 42 00")
@@ -126,12 +90,9 @@ eventTable =
     0 (bytes "80 00 A5 C3 83 E5 A5 A7 12 34 56 78 9A BC DE F1 00 42 00")
     ∷ sent 0 0 (bytes "5A 5C A5 C3 83 E5 A5 A7 12 34 56 78 9A BC DE F1 00 41 00") 3 0xf4
     0 (bytes "A5 A4 A5 C3 83 E5 A5 A7 12 34 56 78 9A BC DE F1 00 40 01")
-    ∷ sent 0 0 (bytes "11 92 23 A4 35 B6 47 C8 59 DA 6B EC 7D FE 8F 01 00 41 01") 3 0x77
-    0 (bytes "11 92 11 92 23 A4 35 B6 47 C8 59 DA 6B EC 7D FE 00 00 00")
-    ∷ sent 0 0 (bytes "11 92 23 A4 35 B6 47 C8 59 DA 6B EC 7D FE 8F 01 00 41 01") 3 0xf8
-    0 (bytes "23 A4 35 B6 47 C8 59 DA 6B EC 7D FE 8F 01 11 92 00 00 01")
-    ∷ sent 0 0 (bytes "11 92 23 A4 35 B6 47 C8 59 DA 6B EC 7D FE 8F 01 00 41 01") 3 0x79
-    0 (bytes "23 A4 11 92 35 B6 47 C8 59 DA 6B EC 7D FE 8F 01 00 00 00")
+    ∷ sent 0 0 full 3 0x77 0 (bytes "11 92 11 92 23 A4 35 B6 47 C8 59 DA 6B EC 7D FE 00 00 00")
+    ∷ sent 0 0 full 3 0xf8 0 (bytes "23 A4 35 B6 47 C8 59 DA 6B EC 7D FE 8F 01 11 92 00 00 01")
+    ∷ sent 0 0 full 3 0x79 0 (bytes "23 A4 11 92 35 B6 47 C8 59 DA 6B EC 7D FE 8F 01 00 00 00")
     -- 32 bits
     ∷ sent 0 0 (bytes "7A 5C 6B 3D 7E 5A 5A 5A 12 34 56 78 9A BC DE F1 00 41 00") 3 0x2c
     0 (bytes "F8 B6 C5 97 12 34 56 78 9A BC DE F1 7A 5C 6B 3D 00 42 00")
@@ -149,12 +110,9 @@ eventTable =
     0 (bytes "7A 5C 6B 3D 12 34 56 78 9A BC DE F1 00 00 00 00 00 10 01")
     ∷ sent 0 0 (bytes "80 00 00 00 83 E5 A5 A7 12 34 56 78 9A BC DE F1 00 41 00") 3 0x34
     0 (bytes "80 00 00 00 83 E5 A5 A7 12 34 56 78 9A BC DE F1 00 42 00")
-    ∷ sent 0 0 (bytes "11 92 23 A4 35 B6 47 C8 59 DA 6B EC 7D FE 8F 01 00 41 01") 3 0x37
-    0 (bytes "11 92 23 A4 11 92 23 A4 35 B6 47 C8 59 DA 6B EC 00 00 00")
-    ∷ sent 0 0 (bytes "11 92 23 A4 35 B6 47 C8 59 DA 6B EC 7D FE 8F 01 00 41 01") 3 0xb8
-    0 (bytes "35 B6 47 C8 59 DA 6B EC 7D FE 8F 01 11 92 23 A4 00 00 01")
-    ∷ sent 0 0 (bytes "11 92 23 A4 35 B6 47 C8 59 DA 6B EC 7D FE 8F 01 00 41 01") 3 0x39
-    0 (bytes "35 B6 47 C8 11 92 23 A4 59 DA 6B EC 7D FE 8F 01 00 00 00")
+    ∷ sent 0 0 full 3 0x37 0 (bytes "11 92 23 A4 11 92 23 A4 35 B6 47 C8 59 DA 6B EC 00 00 00")
+    ∷ sent 0 0 full 3 0xb8 0 (bytes "35 B6 47 C8 59 DA 6B EC 7D FE 8F 01 11 92 23 A4 00 00 01")
+    ∷ sent 0 0 full 3 0x39 0 (bytes "35 B6 47 C8 11 92 23 A4 59 DA 6B EC 7D FE 8F 01 00 00 00")
     -- floats, under the cut and under nearest
     ∷ sent 0 0 (bytes "04 B6 DB 6D 83 E5 A5 A7 12 34 56 78 9A BC DE F1 00 41 00") 3 0x10
     0 (bytes "03 88 11 33 12 34 56 78 9A BC DE F1 00 00 00 00 00 00 00")
@@ -200,16 +158,11 @@ eventTable =
     0 (bytes "03 E5 A5 A7 04 B6 DB 6D 12 34 56 78 9A BC DE F1 00 00 01")
     ∷ sent 0 0 (bytes "01 59 AB CD 04 B6 DB 6D 12 34 56 78 9A BC DE F1 00 41 00") 3 0x15
     0 (bytes "01 59 AB CD 04 B6 DB 6D 12 34 56 78 9A BC DE F1 00 00 00")
-    ∷ sent 0 0 (bytes "11 92 23 A4 35 B6 47 C8 59 DA 6B EC 7D FE 8F 01 00 41 01") 3 0x17
-    0 (bytes "11 92 23 A4 11 92 23 A4 35 B6 47 C8 59 DA 6B EC 00 00 00")
-    ∷ sent 0 0 (bytes "11 92 23 A4 35 B6 47 C8 59 DA 6B EC 7D FE 8F 01 00 41 01") 3 0x98
-    0 (bytes "35 B6 47 C8 59 DA 6B EC 7D FE 8F 01 11 92 23 A4 00 00 01")
-    ∷ sent 0 0 (bytes "11 92 23 A4 35 B6 47 C8 59 DA 6B EC 7D FE 8F 01 00 41 01") 3 0x19
-    0 (bytes "35 B6 47 C8 11 92 23 A4 59 DA 6B EC 7D FE 8F 01 00 00 00")
-    ∷ sent 0 0 (bytes "11 92 23 A4 35 B6 47 C8 59 DA 6B EC 7D FE 8F 01 00 41 01 12 6F") 3 0x1a
-    0 (bytes "02 C9 0F DA 11 92 23 A4 35 B6 47 C8 59 DA 6B EC 00 00 00 12 6F")
-    ∷ sent 1 1 (bytes "11 92 23 A4 35 B6 47 C8 59 DA 6B EC 7D FE 8F 01 00 41 01 12 6F") 3 0x9a
-    0 (bytes "02 C9 0F DB 11 92 23 A4 35 B6 47 C8 59 DA 6B EC 00 00 01 12 6F")
+    ∷ sent 0 0 full 3 0x17 0 (bytes "11 92 23 A4 11 92 23 A4 35 B6 47 C8 59 DA 6B EC 00 00 00")
+    ∷ sent 0 0 full 3 0x98 0 (bytes "35 B6 47 C8 59 DA 6B EC 7D FE 8F 01 11 92 23 A4 00 00 01")
+    ∷ sent 0 0 full 3 0x19 0 (bytes "35 B6 47 C8 11 92 23 A4 59 DA 6B EC 7D FE 8F 01 00 00 00")
+    ∷ sent 0 0 (full ++ memory) 3 0x1a 0 (bytes "02 C9 0F DA 11 92 23 A4 35 B6 47 C8 59 DA 6B EC 00 00 00 12 6F")
+    ∷ sent 1 1 (full ++ memory) 3 0x9a 0 (bytes "02 C9 0F DB 11 92 23 A4 35 B6 47 C8 59 DA 6B EC 00 00 01 12 6F")
     -- conversions
     ∷ sent 0 0 (bytes "7A 5C 6B 3D 83 E5 A5 A7 12 34 56 78 9A BC DE F1 00 41 00") 3 0x1c
     0 (bytes "1F F4 B8 D6 83 E5 A5 A7 12 34 56 78 00 00 00 00 00 00 00")
@@ -231,9 +184,7 @@ eventTable =
     0 (bytes "F1 A6 83 E5 A5 A7 12 34 56 78 00 00 00 00 00 00 00 40 01")
     ∷ sent 0 0 (bytes "10 E5 A5 A7 83 E5 A5 A7 12 34 56 78 9A BC DE F1 00 41 00 00 00") 3 0x9f
     0 (bytes "10 E5 A5 A7 83 E5 A5 A7 12 34 56 78 00 00 00 00 00 02 01 02 1F")
-    ∷ sent 0 0 (bytes "11 92 23 A4 35 B6 47 C8 59 DA 6B EC 7D FE 8F 01 00 41 01 12 6F") 3 0x80
-    0 (bytes "11 92 23 A4 35 B6 47 C8 59 DA 6B EC 7D FE 8F 01 00 00 01 12 6F")
-    ∷ []
+    ∷ sent 0 0 (full ++ memory) 3 0x80 0 (behind "00 00 01 12 6F") ∷ []
 
 -- ---- the statement
 abbrev pub EventRows : Type 0
