@@ -66,17 +66,8 @@ is-record s l room =
 -- a run that ends at once, with this refusal
 none-taken : (s : Card) (l : List ℕ) (room refusal : ℕ) → (refusal ≡ 0 → l ≡ [])
     → ((refusal ≡ 0 → ⊥) → runOf s l (room - 0) ≡ ended refusal s) → Split s l room (ended refusal s)
-none-taken s l room refusal c g = record {
-  records = [];
-  rest = l;
-  parts = refl;
-  each = tt;
-  replies = refl;
-  taken = refl;
-  written = refl;
-  complete = c;
-  stopped = g;
-}
+none-taken s l room refusal c g =
+    record { records = []; rest = l; parts = refl; each = tt; replies = refl; taken = refl; written = refl; complete = c; stopped = g }
 
 pub counted : Counted
 counted =

@@ -146,47 +146,38 @@ abbrev pub allLetters : List ℕ
 allLetters = bytes "02 C9 0F DA 01 B6 5B 6D 7F A5 5A C3 83 E1 D2 B4 05 9B 37 6E 41 F0 1E 2D BE 87 65 43 04 FE 7D AC"
 
 abbrev pub badLetters : List ℕ
-badLetters = bytes "02 C9 0F DA 01 B6 5B 6D 7F A5 5A C3 83 E1 D2 B4 05 9B 37 6E 41 F0 1E 2D BE 87 65 43 04 7F 7D AC"
+badLetters = take 29 allLetters ++ bytes "7F 7D AC"
 
--- the records that push a, b and c
-abbrev pub pushA : List ℕ
-pushA = bytes "06 00 01 00 DA 0F C9 02"
+-- the records that push a word, low byte first, and that give a command
+abbrev pub put : String → List ℕ
+put word = bytes "06 00 01 00" ++ bytes word
 
-abbrev pub pushB : List ℕ
-pushB = bytes "06 00 01 00 6D 5B B6 01"
-
-abbrev pub pushC : List ℕ
-pushC = bytes "06 00 01 00 C3 5A A5 7F"
-
--- eight sign changes
-abbrev pub eightSigns : List ℕ
-eightSigns = timesOver 8 (bytes "03 00 03 00 15")
+abbrev pub command : String → List ℕ
+command code = bytes "03 00 03 00" ++ bytes code
 
 -- the rows
 abbrev pub formulaTable : List FormulaRow
 formulaTable =
     -- each operation and sign
-    translated "a+b" allLetters 22 21 (pushA ++ (pushB ++ bytes "03 00 03 00 10"))
-    ∷ translated "a-b" allLetters 21 21 (pushA ++ (pushB ++ bytes "03 00 03 00 11"))
-    ∷ translated "a*b" allLetters 21 21 (pushA ++ (pushB ++ bytes "03 00 03 00 12"))
-    ∷ translated "c/d" allLetters 21 21 (pushC ++ bytes "06 00 01 00 B4 D2 E1 83 03 00 03 00 13")
-    ∷ translated "-e" allLetters 14 13 (bytes "06 00 01 00 6E 37 9B 05 03 00 03 00 15")
-    ∷ translated "f--g" allLetters 27 26
-    (bytes "06 00 01 00 2D 1E F0 41 06 00 01 00 43 65 87 BE 03 00 03 00 15 03 00 03 00 11")
-    ∷ translated "(h)" allLetters 8 8 (bytes "06 00 01 00 AC 7D FE 04")
+    translated "a+b" allLetters 22 21 (put "DA 0F C9 02" ++ (put "6D 5B B6 01" ++ command "10"))
+    ∷ translated "a-b" allLetters 21 21 (put "DA 0F C9 02" ++ (put "6D 5B B6 01" ++ command "11"))
+    ∷ translated "a*b" allLetters 21 21 (put "DA 0F C9 02" ++ (put "6D 5B B6 01" ++ command "12"))
+    ∷ translated "c/d" allLetters 21 21 (put "C3 5A A5 7F" ++ (put "B4 D2 E1 83" ++ command "13"))
+    ∷ translated "-e" allLetters 14 13 (put "6E 37 9B 05" ++ command "15")
+    ∷ translated "f--g" allLetters 27 26 (put "2D 1E F0 41" ++ (put "43 65 87 BE" ++ (command "15" ++ command "11")))
+    ∷ translated "(h)" allLetters 8 8 (put "AC 7D FE 04")
     -- all eight letters, left to right, * and / before + and -
     ∷ translated "a+b-c*d/e+f-g*h" allLetters 100 99
-    (pushA ++ (pushB ++ (bytes "03 00 03 00 10" ++ (pushC
-    ++ (bytes "06 00 01 00 B4 D2 E1 83 03 00 03 00 12 06 00 01 00 6E 37 9B 05 03 00 03 00 13 03 00 03 00 11"
-    ++ (bytes "06 00 01 00 2D 1E F0 41 03 00 03 00 10 06 00 01 00 43 65 87 BE 06 00 01 00 AC 7D FE 04"
-    ++ bytes "03 00 03 00 12 03 00 03 00 11"))))))
+    (put "DA 0F C9 02" ++ (put "6D 5B B6 01" ++ (command "10" ++ (put "C3 5A A5 7F" ++ (put "B4 D2 E1 83"
+    ++ (command "12" ++ (put "6E 37 9B 05" ++ (command "13" ++ (command "11" ++ (put "2D 1E F0 41" ++ (command "10"
+    ++ (put "43 65 87 BE" ++ (put "AC 7D FE 04" ++ (command "12" ++ command "11"))))))))))))))
     -- all sixteen digits
     ∷ translated "#0189ABCD+#02C76543-#03FEDCBA" allLetters 34 34
-    (bytes "06 00 01 00 CD AB 89 01 06 00 01 00 43 65 C7 02 03 00 03 00 10 06 00 01 00 BA DC FE 03 03 00 03 00 11")
+    (put "CD AB 89 01" ++ (put "43 65 C7 02" ++ (command "10" ++ (put "BA DC FE 03" ++ command "11"))))
     -- 02's own shape with other words
     ∷ translated "(a-b)/c*#0189ABCD" allLetters 48 47
-    (pushA ++ (pushB ++ (bytes "03 00 03 00 11" ++ (pushC
-    ++ bytes "03 00 03 00 13 06 00 01 00 CD AB 89 01 03 00 03 00 12"))))
+    (put "DA 0F C9 02" ++ (put "6D 5B B6 01" ++ (command "11" ++ (put "C3 5A A5 7F" ++ (command "13"
+    ++ (put "CD AB 89 01" ++ command "12"))))))
     -- 30: 31 and 33 bytes of letters, no text, a lower-case digit, seven digits, a blank, a sign first, a bracket open,
     -- no letter
     ∷ unwritten "a" (take 31 allLetters) 8 1966080 ∷ unwritten "a" (allLetters ++ bytes "00") 8 1966080
@@ -198,11 +189,12 @@ formulaTable =
     ∷ unwritten "a-(b-(c-(d-h)))" badLetters 0 2031616 ∷ unwritten "a-(b-(c-(d-e)))" badLetters 0 2097152
     ∷ unwritten "a-(b-(c-d))" badLetters 0 2162688 ∷ unwritten "a-(b-(c-d))" badLetters 46 2162688
     ∷ translated "a-(b-(c-d))" badLetters 47 47
-    (pushA ++ (pushB ++ (pushC ++ bytes "06 00 01 00 B4 D2 E1 83 03 00 03 00 11 03 00 03 00 11 03 00 03 00 11")))
+    (put "DA 0F C9 02" ++ (put "6D 5B B6 01" ++ (put "C3 5A A5 7F" ++ (put "B4 D2 E1 83" ++ (command "11"
+    ++ (command "11" ++ command "11"))))))
     -- 16 levels and 17
-    ∷ translated "-(-(-(-(-(-(-(-a)))))))" allLetters 60 48 (pushA ++ eightSigns)
-    ∷ translated "(-(-(-(-(-(-(-(-b))))))))" allLetters 50 48 (pushB ++ eightSigns)
-    ∷ translated "((((((((((((((((c))))))))))))))))" allLetters 9 8 pushC
+    ∷ translated "-(-(-(-(-(-(-(-a)))))))" allLetters 60 48 (put "DA 0F C9 02" ++ timesOver 8 (command "15"))
+    ∷ translated "(-(-(-(-(-(-(-(-b))))))))" allLetters 50 48 (put "6D 5B B6 01" ++ timesOver 8 (command "15"))
+    ∷ translated "((((((((((((((((c))))))))))))))))" allLetters 9 8 (put "C3 5A A5 7F")
     ∷ unwritten "(((((((((((((((((c)))))))))))))))))" allLetters 9 1966080
     ∷ unwritten "-----------------d" allLetters 99 1966080
     ∷ []

@@ -9,23 +9,17 @@ use Rattle.host_floats.specs.declared.buffer.Entry.{Entry}
 use Rattle.promises.specs.Subjects.{Turn, wordsTurn, floatsTurn}
 use Rattle.promises.specs.Doubles.{outward, inward, turned}
 
--- a word, and what it says outward: 0, 1, -1, -2.5, pi cut, the largest, the least, the largest below it; three that
--- are not proper
-pub record OutRow : Type 0 where
-  pub word : ℕ
-  pub refusal : ℕ
-  pub bits : ℕ
-
-abbrev pub goesOut : ℕ → ℕ → ℕ → OutRow
-goesOut word refusal bits = record { word = word; refusal = refusal; bits = bits }
+-- a word, and what it says outward, refusal and bits: 0, 1, -1, -2.5, pi cut, the largest, the least, the largest below
+-- it; three that are not proper
+abbrev pub OutRow : Type 0
+OutRow = ℕ × ℕ × ℕ
 
 abbrev pub outTable : List OutRow
 outTable =
-    goesOut 0x00000000 0 0x0000000000000000 ∷ goesOut 0x01800000 0 0x3ff0000000000000
-    ∷ goesOut 0x81800000 0 0xbff0000000000000 ∷ goesOut 0x82a00000 0 0xc004000000000000
-    ∷ goesOut 0x02c90fda 0 0x400921fb40000000 ∷ goesOut 0x3fffffff 0 0x43dfffffe0000000
-    ∷ goesOut 0x40800000 0 0x3be0000000000000 ∷ goesOut 0xc0ffffff 0 0xbbefffffe0000000 ∷ goesOut 0x01400000 4 0
-    ∷ goesOut 0x80000000 4 0 ∷ goesOut 0x007fffff 4 0 ∷ []
+    (0x00000000, 0, 0x0000000000000000) ∷ (0x01800000, 0, 0x3ff0000000000000) ∷ (0x81800000, 0, 0xbff0000000000000)
+    ∷ (0x82a00000, 0, 0xc004000000000000) ∷ (0x02c90fda, 0, 0x400921fb40000000) ∷ (0x3fffffff, 0, 0x43dfffffe0000000)
+    ∷ (0x40800000, 0, 0x3be0000000000000) ∷ (0xc0ffffff, 0, 0xbbefffffe0000000) ∷ (0x01400000, 4, 0)
+    ∷ (0x80000000, 4, 0) ∷ (0x007fffff, 4, 0) ∷ []
 
 -- an f64 by its bits, and what it says inward under cut, then under nearest: refusal, word, 1 where it was rounded
 pub record InRow : Type 0 where
@@ -119,8 +113,8 @@ expected =
     ∷ []
 
 pub record DoublesBench : Type 0 where
-  pub outward-rows : map (λ (r : OutRow). outward (r .word)) outTable
-      ≡ map (λ (r : OutRow). gives (r .refusal) (r .bits) 0) outTable
+  pub outward-rows : map (λ (r : OutRow). outward (r .0)) outTable
+      ≡ map (λ (r : OutRow). gives (r .1) (r .2) 0) outTable
   pub cut-rows : map (λ (r : InRow). inward Cut (r .float)) inTable ≡ map (λ (r : InRow). r .by-cut) inTable
   pub nearest-rows : map (λ (r : InRow). inward Nearest (r .float)) inTable ≡ map (λ (r : InRow). r .by-nearest) inTable
   pub call-rows : called ≡ expected

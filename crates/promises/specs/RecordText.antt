@@ -56,35 +56,30 @@ RecordTextReadsBack =
     → lineOf rule (recordText kind payload) ≡ Record (bytesOfRecord kind payload)
 
 -- ---- lines by the letter: a rule, the text, and what it is read as
-pub record LineRow : Type 0 where
-  pub rule : Rule
-  pub text : String
-  pub read : Said
-
-abbrev pub reads : Rule → String → Said → LineRow
-reads rule text line = record { rule = rule; text = text; read = line }
+abbrev pub LineRow : Type 0
+LineRow = Rule × String × Said
 
 -- words low byte first, a number with a point as a float word
 abbrev pub pushLines : List LineRow
 pushLines =
-    reads Cut "push 7.5 2.5" (Record (bytes "0A 00 01 00 00 00 F0 03 00 00 A0 02"))
-    ∷ reads Cut "push 0.1" (Record (bytes "06 00 01 00 CC CC CC 7D"))
-    ∷ reads Nearest "push 0.1" (Record (bytes "06 00 01 00 CD CC CC 7D"))
-    ∷ reads Cut "push 02A00000" (Record (bytes "06 00 01 00 00 00 A0 02"))
-    ∷ reads Cut "push 0003 0105" (Record (bytes "06 00 01 00 03 00 05 01"))
-    ∷ reads Cut "push 03 00" (Record (bytes "04 00 01 00 03 00")) ∷ []
+    (Cut, "push 7.5 2.5", Record (bytes "0A 00 01 00 00 00 F0 03 00 00 A0 02"))
+    ∷ (Cut, "push 0.1", Record (bytes "06 00 01 00 CC CC CC 7D"))
+    ∷ (Nearest, "push 0.1", Record (bytes "06 00 01 00 CD CC CC 7D"))
+    ∷ (Cut, "push 02A00000", Record (bytes "06 00 01 00 00 00 A0 02"))
+    ∷ (Cut, "push 0003 0105", Record (bytes "06 00 01 00 03 00 05 01"))
+    ∷ (Cut, "push 03 00", Record (bytes "04 00 01 00 03 00")) ∷ []
 
 -- commands, sr as bit 7, other kinds, a comment
 abbrev pub otherLines : List LineRow
 otherLines =
-    reads Cut "FMUL" (Record (bytes "03 00 03 00 12")) ∷ reads Cut "FMUL sr" (Record (bytes "03 00 03 00 92"))
-    ∷ reads Cut "command 7F" (Record (bytes "03 00 03 00 7F")) ∷ reads Cut "pop 4" (Record (bytes "03 00 02 00 04"))
-    ∷ reads Cut "open 258" (Record (bytes "06 00 00 01 02 01 00 00"))
-    ∷ reads Cut " status # all" (Record (bytes "02 00 04 00")) ∷ reads Cut "# only a comment" Empty ∷ []
+    (Cut, "FMUL", Record (bytes "03 00 03 00 12")) ∷ (Cut, "FMUL sr", Record (bytes "03 00 03 00 92"))
+    ∷ (Cut, "command 7F", Record (bytes "03 00 03 00 7F")) ∷ (Cut, "pop 4", Record (bytes "03 00 02 00 04"))
+    ∷ (Cut, "open 258", Record (bytes "06 00 00 01 02 01 00 00")) ∷ (Cut, " status # all", Record (bytes "02 00 04 00"))
+    ∷ (Cut, "# only a comment", Empty) ∷ []
 
 abbrev pub LinesRead : List LineRow → Type 0
 LinesRead table =
-    map (λ (r : LineRow). lineOf (r .rule) (written (r .text))) table ≡ map (λ (r : LineRow). r .read) table
+    map (λ (r : LineRow). lineOf (r .0) (written (r .1))) table ≡ map (λ (r : LineRow). r .2) table
 
 pub record RecordTextRows : Type 0 where
   pub pushes : LinesRead pushLines

@@ -68,7 +68,11 @@ RootOrder =
     (rule : Rule) (a b : ℕ) → FloatWord a → FloatWord b → negative a ≡ false → negative b ≡ false → Le a b
     → Le ((sqrt rule a) .word) ((sqrt rule b) .word)
 
--- ---- A on three other words; the word on top and the one at the bottom after
+-- ---- A on zeros: its root, and the status
+abbrev pub root : ℕ → ℕ → ℕ → BenchRow
+root a r status = one 0x01 Double a Double r status
+
+-- A on three other words; the word on top and the one at the bottom after
 abbrev pub onThree : ℕ → ℕ → ℕ → ℕ → BenchRow
 onThree a r bottom status =
     leaves (pushesOf 4 0x44444444 ++ (pushesOf 4 0x33333333 ++ (pushesOf 4 0x22222222 ++ pushesOf 4 a))) 0x01
@@ -88,13 +92,14 @@ improperRoot = record {
 -- refusals 3 and 4
 abbrev pub rootTable : List BenchRow
 rootTable =
-    one 0x01 Double 0x00000000 Double 0x00000000 0x20 ∷ one 0x01 Double 0x01800000 Double 0x01800000 0x00
-    ∷ one 0x01 Double 0x02800000 Double 0x01b504f3 0x00 ∷ one 0x81 Double 0x03800000 Double 0x02800000 0x00
-    ∷ one 0x01 Double 0x04900000 Double 0x02c00000 0x00 ∷ one 0x01 Double 0x7f800000 Double 0x00800000 0x00
-    ∷ one 0x01 Double 0x40800000 Double 0x60b504f3 0x00 ∷ one 0x01 Double 0x3fffffff Double 0x20b504f2 0x00
-    ∷ one 0x01 Double 0x00ffffff Double 0x00ffffff 0x00 ∷ one 0x01 Double 0x01ffffff Double 0x01b504f2 0x00
-    ∷ onThree 0x03800000 0x02800000 0 0x00 ∷ onThree 0x81800000 0x81800000 0x44444444 0x48
-    ∷ turnedAway 0x01 (0x55 ∷ []) 3 ∷ improperRoot ∷ []
+    root 0x00000000 0x00000000 0x20 ∷ root 0x01800000 0x01800000 0x00 ∷ root 0x02800000 0x01b504f3 0x00
+    ∷ one 0x81 Double 0x03800000 Double 0x02800000 0x00 ∷ root 0x04900000 0x02c00000 0x00
+    ∷ root 0x7f800000 0x00800000 0x00 ∷ root 0x40800000 0x60b504f3 0x00 ∷ root 0x3fffffff 0x20b504f2 0x00
+    ∷ root 0x00ffffff 0x00ffffff 0x00 ∷ root 0x01ffffff 0x01b504f2 0x00 ∷ onThree 0x03800000 0x02800000 0 0x00
+    ∷ onThree 0x81800000 0x81800000 0x44444444 0x48
+    ∷ turnedAway 0x01 (0x55
+    ∷ []) 3
+    ∷ improperRoot ∷ []
 
 abbrev pub RootBench : Type 0
 RootBench = RowsHold Cut rootTable

@@ -7,12 +7,12 @@ use mathlib.Core.Path.{_≡_}
 use mathlib.Core.List.{List, [], _∷_, _++_, map}
 use lib.ListN.{length, replicate}
 use Rattle.promises.specs.Subjects.{Called, callOf}
+use Rattle.promises.specs.Given.{Given, runCall}
 use Rattle.promises.specs.PrintedText.{bytes}
 
 -- what is given and lent, and what the call must return and leave
 pub record RunRow : Type 0 where
-  pub mode : ℕ
-  pub rule : ℕ
+  pub numbers : Given
   pub state : List ℕ
   pub input : List ℕ
   pub replies : List ℕ
@@ -28,8 +28,7 @@ reportLent n = replicate n 0x77
 
 abbrev pub row : ℕ → ℕ → List ℕ → List ℕ → List ℕ → List ℕ → ℕ → List ℕ → List ℕ → List ℕ → RunRow
 row mode rule state input replies report result state' replies' report' = record {
-  mode = mode;
-  rule = rule;
+  numbers = record { mode = mode; rule = rule };
   state = state;
   input = input;
   replies = replies;
@@ -250,7 +249,7 @@ Long13 = callOf 1 1 [] tooLong [] (reportLent 9)
 
 -- ---- the statement
 pub record RunRows : Type 0 where
-  pub rows : map (λ (r : RunRow). callOf (r .mode) (r .rule) (r .state) (r .input) (r .replies) (r .report)) runTable
+  pub rows : map (λ (r : RunRow). runCall (r .numbers) (r .state) (r .input) (r .replies) (r .report)) runTable
       ≡ map (λ (r : RunRow). r .after) runTable
   -- 9 comes last: after 14, 16, 17 and 13
   pub long-14 : callOf 2 2 [] tooLong [] [] ≡ record { result = 14; state = []; replies = []; report = [] }

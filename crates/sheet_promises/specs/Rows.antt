@@ -6,17 +6,13 @@ use mathlib.Core.Path.{_≡_}
 use mathlib.Core.List.{List, [], _∷_, _++_, map}
 use lib.ListN.{length, replicate}
 use Rattle.sheet_promises.specs.Bytes.{zeros, bytes}
-use Rattle.sheet_promises.specs.Subjects.{SheetsAnswer, sheetsCall}
+use Rattle.sheet_promises.specs.OwnWords.{Job, answerTo}
+use Rattle.sheet_promises.specs.Subjects.{SheetsAnswer}
 
 -- what a call is given, and what it returns and leaves in the slices
 pub record Row : Type 0 where
-  pub mode : ℕ
-  pub rule : ℕ
-  pub state : List ℕ
+  pub job : Job
   pub sheets : List ℕ
-  pub input : List ℕ
-  pub replies : List ℕ
-  pub report : List ℕ
   pub after : SheetsAnswer
 
 -- so many bytes, as they are lent for replies
@@ -27,13 +23,15 @@ lent n = replicate n 0xee
 -- report
 abbrev pub ran : ℕ → ℕ → List ℕ → List ℕ → List ℕ → ℕ → ℕ → List ℕ → List ℕ → List ℕ → List ℕ → Row
 ran mode rule state sheets input room result state' sheets' written report = record {
-  mode = mode;
-  rule = rule;
-  state = state;
+  job = record {
+    mode = mode;
+    rule = rule;
+    state = state;
+    input = input;
+    replies = lent room;
+    report = zeros 9;
+  };
   sheets = sheets;
-  input = input;
-  replies = lent room;
-  report = zeros 9;
   after = record {
     result = result;
     state = state';
@@ -196,13 +194,8 @@ aPush = bytes "03 00 01 00 01"
 -- 14 writes nothing, whatever else is wrong
 abbrev pub noReport : Row
 noReport = record {
-  mode = 2;
-  rule = 2;
-  state = badState;
+  job = record { mode = 2; rule = 2; state = badState; input = aPush; replies = lent 5; report = zeros 8 };
   sheets = zeros 1303;
-  input = aPush;
-  replies = lent 5;
-  report = zeros 8;
   after = record { result = 14; state = badState; sheets = zeros 1303; replies = lent 5; report = zeros 8 };
 }
 
@@ -229,7 +222,4 @@ rows =
 
 -- every call gives what its row says
 abbrev pub SheetsRows : Type 0
-SheetsRows =
-    map (λ (r : Row).
-    sheetsCall (r .mode) (r .rule) (r .state) (r .sheets) (r .input) (r .replies) (r .report)) rows
-    ≡ map (λ (r : Row). r .after) rows
+SheetsRows = map (λ (r : Row). answerTo (r .job) (r .sheets)) rows ≡ map (λ (r : Row). r .after) rows

@@ -9,7 +9,7 @@ use Rattle.sheet_promises.specs.Subjects.{sheetsText}
 -- three inputs
 pub record TextRows : Type 0 where
   -- two closed sheets, one serial twice, and one open
-  pub two-closed : sheetsText 0 0 (twoClosed .input)
+  pub two-closed : sheetsText 0 0 (twoClosed .job .input)
       ≡ (textLines "1 256 0/2 1 0/3 257 0/4 1 0/5 257 0/6 3 0/7 257 0/8 3 0/9 257 0/10 258 0/11 256 0/12 257 0"
       ++ (textLines "13 257 0/14 1 0/15 257 0/16 257 0/17 1 0/18 257 0/19 258 0/20 256 0/21 1 0/22 257 0/end 0 132"
       ++ (textLines "sheet 67305985 05A7C3E9 7B91D246 02C90FDA 02CA337E"
