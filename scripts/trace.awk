@@ -1,5 +1,5 @@
 # A run for people: of each record its words, what it read or why it was refused, and the state after it. Reads four files:
-# the record bytes as `od -A n -v -t x1` shows them, the listing with words, the states of the program `trace`, and what the
+# the record bytes as `od -A n -v -t x1` shows them, the listing with words, the states of `buslist --trace`, and what the
 # program `word` tells of each word of a stack. Listing, states and decimals are proved; the words beside them are not.
 
 BEGIN {

@@ -6,7 +6,7 @@ use Prim.Native.Nat.{ℕ, _+_, _/_, _%_, _≤_, min}
 use native.Mathlib.Omega.{arith}
 use native.Mathlib.Nat.{add-zero, zero-add}
 use lib.ListN.{length, take, length-append, length-take}
-use lib.Seq.{paste, take-paste, take-length, take-all}
+use lib.Seq.{paste, take-paste, take-length, take-all, length-take-le}
 use lib.Dec.{leb}
 use borrow.Author.Tests.{leb-true, leb-false}
 use Rattle.io.specs.Counts.{Counts}
@@ -26,6 +26,20 @@ both {x} {y} {a} {b} {c} {p} {q} {r} h k = record {
 -- text that is another text
 pub told-as : {x y a b : List ℕ} {p q : ℕ} → x ≡ y → Adds x a b p q → Adds y a b p q
 told-as {a = a} {b = b} {p = p} {q = q} e h = subst (λ (t : List ℕ). Adds t a b p q) e h
+
+-- where all of a text is what stands before a place and a rest: with no rest it is added, and what the rest begins with comes next
+module _ {all rest after : List ℕ} {place : ℕ} (so-far : all ≡ take place after ++ rest) where
+  pub all-added : {before : List ℕ} → place ≤ length after → rest ≡ [] → Adds all before after 0 place
+  all-added h e =
+      let is : all ≡ take place after = so-far ∙ ap (λ (l : List ℕ). take place after ++ l) e ∙ append-nil (take place after) in
+      record { moved = rw is (omega (arith, length-take-le place after h)); reads = sym is }
+
+  pub next-added : (line tail : List ℕ) {out : List ℕ} {new : ℕ} → rest ≡ line ++ tail → Adds line after out place new → all ≡ take new out ++ tail
+  next-added line tail e a =
+      so-far
+      ∙ ap (λ (l : List ℕ). take place after ++ l) e
+      ∙ sym (append-assoc (take place after) line tail)
+      ∙ ap (λ (l : List ℕ). l ++ tail) (sym (a .reads))
 
 -- a copy adds what is copied
 pub copied : (t l : List ℕ) (place : ℕ) → place + length t ≤ length l → Adds t l (paste l place t (length t)) place (place + length t)

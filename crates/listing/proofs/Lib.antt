@@ -7,3 +7,4 @@ pub mod Lines
 pub mod Replies
 pub mod Listed
 pub mod Examples
+pub mod Texts

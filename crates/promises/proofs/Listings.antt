@@ -26,11 +26,12 @@ use Rattle.promises.proofs.PrintedText.{decimal-is}
 use Rattle.listing.specs.Listing.{dataText, lineOf, endOf, replyKind, replyRefusal, replySize, replyData, linesUpTo, hasReply, linesOf, listingOf, printedOf}
 use Rattle.little.proofs.Exact.{two-bytes}
 use Rattle.listing.proofs.Listed.{reply-listed, core-kind}
-use Rattle.options.specs.declared.Asked.{Asked}
-use Rattle.options.specs.declared.Asked.the-variants.{Under, Nothing}
-use Rattle.options.specs.Options.{sameText, am9511Text, nearestText, askedOf}
-use Rattle.options.proofs.Texts.{same-is}
-use Rattle.list_text.specs.Printout.{callUnder, printoutUnder, textOf, toldOf}
+use Rattle.listing.specs.declared.options.Asked.{Asked}
+use Rattle.listing.specs.declared.options.Asked.the-variants.{Under, Nothing}
+use Rattle.listing.specs.Options.{sameText, am9511Text, nearestText, askedOf, textFor}
+use Rattle.listing.proofs.Texts.{same-is}
+use Rattle.list_text.specs.Trace.{traceOf}
+use Rattle.list_text.specs.Printout.{callUnder, printoutUnder, traceText, isTrace, toldOf}
 use Rattle.promises.proofs.RecordFiles.{theirs-record}
 use Rattle.promises.specs.Records.{joined, EachTaken, repliesOf, total, lengths}
 use Rattle.promises.specs.PrintedText.{written}
@@ -132,9 +133,30 @@ asked (older e f) = rw (e, f)
 asked (nearest e f) = rw (e, f)
 asked (both e f s) = rw (e, f, s)
 
-told-is : {words : ℕ} {first second : List ℕ} {g : Given} → (input : List ℕ) → Asks words first second g
-    → toldOf words first second input ≡ printoutUnder (g .mode) (g .rule) input
-told-is input A = ap (λ (a : Asked). textOf a input) (asked A)
+-- none of them is `--trace`, and behind it they ask for the same
+no-trace : {words : ℕ} {first second : List ℕ} {g : Given} → Asks words first second g → isTrace words first ≡ false
+unfolding isTrace sameText
+no-trace (neither e) = rw e
+no-trace (older e f) = rw (e, f)
+no-trace (nearest e f) = rw (e, f)
+no-trace (both e f s) = rw (e, f)
+
+told-is : {words : ℕ} {first second : List ℕ} {g : Given} → (third input : List ℕ) → Asks words first second g
+    → toldOf words first second third input ≡ printoutUnder (g .mode) (g .rule) input
+told-is third input A = rw (no-trace A) (ap (λ (a : Asked). textFor printoutUnder a input) (asked A))
+
+is-trace : {words : ℕ} {first second : List ℕ} {g : Given} → Asks words first second g → isTrace (words + 1) traceText ≡ true
+unfolding isTrace sameText
+is-trace (neither e) = rw e
+is-trace (older e f) = rw e
+is-trace (nearest e f) = rw e
+is-trace (both e f s) = rw e
+
+traced-is : {words : ℕ} {first second : List ℕ} {g : Given} → (input : List ℕ) → Asks words first second g
+    → toldOf (words + 1) traceText first second input ≡ traceOf (g .mode) (g .rule) input
+traced-is {words} input A =
+    let n : words + 1 - 1 ≡ words = omega arith in
+    rw (is-trace A, n) (ap (λ (a : Asked). textFor traceOf a input) (asked A))
 
 usage-is : (words : ℕ) (first second : List ℕ) → ((g : Given) → Asks words first second g → ⊥) → askedOf words first second ≡ Nothing
 unfolding askedOf
@@ -153,6 +175,23 @@ usage-is words first second h =
     by false e false f true i true j q k false l = refl
     by false e false f true i false j q k r l = refl
     by false e false f false i p j q k r l = refl
+
+-- a call that is none of these, with `--trace` before them or not
+other-is : (words : ℕ) (first second third input : List ℕ) → ((g : Given) → Asks words first second g → ⊥)
+    → ((n : ℕ) (g : Given) → words ≡ n + 1 → first ≡ traceText → Asks n second third g → ⊥)
+    → toldOf words first second third input ≡ written "usage" ++ (10 ∷ [])
+unfolding isTrace
+other-is words first second third input h k = by (ltb words 2) refl (sameText first traceText) refl
+  where
+    by : (a : Bool) → ltb words 2 ≡ a → (b : Bool) → sameText first traceText ≡ b
+        → cond (cond a false b) (textFor traceOf (askedOf (words - 1) second third) input) (textFor printoutUnder (askedOf words first second) input)
+        ≡ written "usage" ++ (10 ∷ [])
+    by true e b f = ap (λ (a : Asked). textFor printoutUnder a input) (usage-is words first second h)
+    by false e false f = ap (λ (a : Asked). textFor printoutUnder a input) (usage-is words first second h)
+    by false e true f =
+        let two = ltb-false words 2 e in
+        ap (λ (a : Asked). textFor traceOf a input)
+        (usage-is (words - 1) second third (λ g. k (words - 1) g (omega arith) (same-is first traceText f)))
 
 -- ---- characters
 value-snoc : (n : ℕ) (l : List ℕ) (c : ℕ) → valueOf n (l ++ (c ∷ [])) ≡ valueOf n l * 10 + (c - 48)
@@ -210,14 +249,15 @@ read-back kind refusal bytes rest h =
 
 pub listings : Listings
 listings = record {
-  printed = λ words first second input g A h p.
+  printed = λ words first second third input g A h p.
       let r = runOf (fresh g) input 65536 in
-      told-is input A
+      told-is third input A
       ∙ text-is g (chosen A) input h
       ∙ ap₂ (λ (l : List ℕ) (n : ℕ). linesOf 1 l ++ endOf (r .refusal) n) (p .replies) (p .taken)
       ∙ ap₂ (λ (l m : List ℕ). l ++ m) (lines-are (p .records) (fresh g) 65536 1 (p .each)) (last-is (r .refusal) (total (lengths (p .records))));
-  long = λ words first second input g A h. told-is input A ∙ long-is g (chosen A) input h;
-  usage = λ words first second input h. ap (λ (a : Asked). textOf a input) (usage-is words first second h);
+  long = λ words first second third input g A h. told-is third input A ∙ long-is g (chosen A) input h;
+  traced = λ words first second input g A. traced-is input A;
+  usage = λ words first second third input h k. other-is words first second third input h k;
   read-back = λ kind refusal bytes rest h. read-back kind refusal bytes rest h;
   characters = record { decimals = λ n h. spells 20 n h; hex-digits = refl };
 }

@@ -45,7 +45,7 @@ use Rattle.step_text.specs.declared.asked.Found.{Found}
 use Rattle.step_text.specs.declared.asked.Found.the-variants.{Operation as Named, Nothing as Unnamed}
 use Rattle.listing.specs.Text.{spelled as their-spelled, decimal as their-decimal}
 use Rattle.listing.specs.Hex.{digitValue, hexFrom, digitsTo}
-use Rattle.options.specs.Options.{sameText}
+use Rattle.listing.specs.Options.{sameText}
 use Rattle.step_text.specs.Lines.{stepLine, answerLine, statusFor}
 use Rattle.step_text.specs.Steps.{productLines, quotientLines, workingsOf, leftAfter, partialAfter, linesAfter}
 use Rattle.step_text.specs.Asked.{readHex, operationAt, ruleFor}

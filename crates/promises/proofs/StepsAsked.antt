@@ -20,8 +20,8 @@ use Rattle.step_text.specs.declared.asked.Given.{Given}
 use Rattle.step_text.specs.declared.asked.Given.the-variants.{Under, Nothing as Unruled}
 use Rattle.step_text.specs.Steps.{workingsOf}
 use Rattle.listing.specs.Hex.{digitValue, hexFrom}
-use Rattle.options.specs.Options.{sameText, nearestText}
-use Rattle.options.proofs.Texts.{same-is}
+use Rattle.listing.specs.Options.{sameText, nearestText}
+use Rattle.listing.proofs.Texts.{same-is}
 use Rattle.step_text.specs.Asked.{readHex, operationAt, operationIn, ruleFor, withNumbers, askedWith, textOf, toldOf, usageText}
 use Rattle.promises.specs.SerialWork.{hexDigit, AllHex, hexNumber, IsHex, Ruled, cut, nearest, Asks}
 

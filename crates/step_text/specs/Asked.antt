@@ -21,7 +21,7 @@ use Rattle.step_text.specs.declared.asked.Asked.{Asked}
 use Rattle.step_text.specs.declared.asked.Asked.the-variants.{Work, Nothing as Unasked}
 use Rattle.listing.specs.Listing.{newline}
 use Rattle.listing.specs.Hex.{hexFrom, hexOf}
-use Rattle.options.specs.Options.{sameText, nearestText}
+use Rattle.listing.specs.Options.{sameText, nearestText}
 use Rattle.step_text.specs.Steps.{workingsOf}
 
 -- the number that exactly so many hex digits stand for
