@@ -3,12 +3,14 @@
 use mathlib.Core.Path.{_≡_, refl, sym, ap, subst, _∙_}
 use mathlib.Core.Logic.{inl, inr, ⊎-elim}
 use mathlib.Core.Bool.{Bool, true, false, not, cond}
-use mathlib.Core.List.{List}
+use mathlib.Core.List.{List, [], _∷_}
 use Prim.Native.Nat.{ℕ, zero, suc, _*_, _/_, _%_, _≤_, _<_}
 use native.Mathlib.Omega.{arith}
 use borrow.Author.Tests.{lt-leb, lt-ltb, le-ltb}
 use lib.Dec.{ltb}
 use lib.Ieee.{unlike}
+use types.Run.{OneOf, miss}
+use denote.Enum.Declared.{tagOf}
 use Rattle.terms.specs.declared.Mode.{Mode}
 use Rattle.terms.specs.declared.Mode.the-variants.{Am9511A, Am9511}
 use Rattle.terms.specs.declared.Rule.{Rule}
@@ -18,6 +20,9 @@ use Rattle.terms.specs.Refusal.{numberOf}
 use Rattle.stack.specs.declared.Stack.{Stack}
 use Rattle.stack.specs.Words.{bytesIn}
 use Rattle.codes.specs.declared.Kind.{Kind as Coded}
+use Rattle.codes.specs.declared.Kind.the-variants.{Nop as NopCode, Fixed as FixedCode, Float as FloatCode, Chsf as ChsfCode, Flt as FltCode, Fix as FixCode}
+use Rattle.codes.specs.declared.Kind.the-variants.{Move as MoveCode, Pupi as PupiCode, Sqrt as SqrtCode, Derived as DerivedKind, Unknown as UnknownKind}
+use Rattle.codes.proofs.Kind.{the-type as kind-type}
 use Rattle.codes.specs.declared.FixedOp.{FixedOp}
 use Rattle.codes.specs.declared.FixedOp.the-variants.{Add as AddOp, Sub as SubOp, Mul as MulOp, Muu as MuuOp, Div as DivOp, Chs as ChsOp}
 use Rattle.codes.specs.declared.MoveOp.{MoveOp}
@@ -27,7 +32,7 @@ use Rattle.codes.specs.Codes.{sr, decoded}
 use Rattle.chip.specs.State.{State, left, afterReset, acknowledged, settled}
 use Rattle.chip.specs.declared.commands.Obeyed.{Obeyed}
 use Rattle.chip.specs.Commands.{outcomeOf, properOperands}
-use Rattle.chip.specs.Step.{done, refused, resetOf, acknowledgeOf, readOf, carried, commandUnder}
+use Rattle.chip.specs.Step.{done, refused, resetOf, acknowledgeOf, carried, commandUnder}
 use Rattle.chip.specs.Held.{held, flipped, Settles, SettlesEither, Obeys, Performs, halfWord, refusalOf, answerAs, Commanded}
 use Rattle.chip.proofs.Answers.{carried-half, carried-improper, carried-done, command-by}
 use Rattle.chip.proofs.InTurn.{turned}
@@ -53,10 +58,6 @@ turned-if false false = refl
 
 -- ---- events of a state that is not busy
 module _ (s : State) (h : s .status < 128) where
-  pub read-done : readOf s ≡ done (s .status) s
-  unfolding readOf
-  read-done = rw (lt-leb 128 (s .status) h)
-
   pub reset-done : (mode : Mode) → resetOf mode s ≡ done 0 (afterReset mode s)
   unfolding resetOf
   reset-done mode = rw (lt-leb 128 (s .status) h)
@@ -112,12 +113,23 @@ module _ (s : State) (code : ℕ) (o : Obeyed) where
   turned-down rule Derived ep h e w = command-by rule s code h e refl (as-number (numberOf DerivedCode * 256) w)
   turned-down rule Unknown ep h e w = command-by rule s code h e refl (as-number (numberOf UnknownCode * 256) w)
 
+-- the kinds that are neither derived nor unknown
+pub half-known : (k : Coded) → OneOf (0 ∷ 1 ∷ 2 ∷ 3 ∷ 4 ∷ 5 ∷ 6 ∷ 7 ∷ 8 ∷ []) (tagOf kind-type k) → HalfWord ≡ halfWord (kindIn k)
+half-known NopCode h = refl
+half-known (FixedCode op w) h = refl
+half-known (FloatCode op) h = refl
+half-known ChsfCode h = refl
+half-known (FltCode w) h = refl
+half-known (FixCode w) h = refl
+half-known (MoveCode op w) h = refl
+half-known PupiCode h = refl
+half-known SqrtCode h = refl
+half-known DerivedKind h = absurd (miss (0 ∷ 1 ∷ 2 ∷ 3 ∷ 4 ∷ 5 ∷ 6 ∷ 7 ∷ 8 ∷ []) 9 tt h)
+half-known UnknownKind h = absurd (miss (0 ∷ 1 ∷ 2 ∷ 3 ∷ 4 ∷ 5 ∷ 6 ∷ 7 ∷ 8 ∷ []) 10 tt h)
+
 -- what was found of a kind, an operation or a rule holds of it under its own name
 pub performs-as : (rule : Rule) (s : Stack) (o : Obeyed) {k l : Coded} → k ≡ l → Performs rule (kindIn l) s o → Performs rule (kindIn k) s o
 performs-as rule s o e = subst (λ (x : Coded). Performs rule (kindIn x) s o) (sym e)
-
-pub works-as : (w : Width) (s : Stack) (o : Obeyed) {k l : FixedOp} → k ≡ l → SettlesEither (fixedIn l w) s o → SettlesEither (fixedIn k w) s o
-works-as w s o e = subst (λ (x : FixedOp). SettlesEither (fixedIn x w) s o) (sym e)
 
 pub moves-as : (w : Width) (s : Stack) (o : Obeyed) {k l : MoveOp} → k ≡ l → SettlesEither (moveIn l w) s o → SettlesEither (moveIn k w) s o
 moves-as w s o e = subst (λ (x : MoveOp). SettlesEither (moveIn x w) s o) (sym e)

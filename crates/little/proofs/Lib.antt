@@ -1,3 +1,4 @@
 -- The laws of numbers as bytes.
 pub mod Laid
 pub mod Exact
+pub mod Reversed

@@ -1,6 +1,6 @@
--- Numbers as bytes, little-endian. Definitions only. Assumes nothing.
+-- Numbers as bytes, the low one first, and the other way round. Definitions only. Assumes nothing.
 use Prim.Native.Nat.{ℕ, _+_, _*_, _/_, _%_, _^_}
-use mathlib.Core.List.{List, [], _∷_, _++_}
+use mathlib.Core.List.{List, [], _∷_, _++_, reverse}
 use lib.ListN.{getD}
 
 -- the two-byte number at a place
@@ -30,3 +30,13 @@ eightAt l i = fourAt l i + fourAt l (i + 4) * 2 ^ 32
 -- a number as eight bytes
 abbrev pub le8 : ℕ → List ℕ
 le8 n = le4 n ++ le4 (n / 2 ^ 32)
+
+-- two, four and eight bytes with the high one first
+abbrev pub high2 : ℕ → List ℕ
+high2 n = n / 256 % 256 ∷ n % 256 ∷ []
+
+abbrev pub high4 : ℕ → List ℕ
+high4 n = reverse (le4 n)
+
+abbrev pub high8 : ℕ → List ℕ
+high8 n = reverse (le8 n)

@@ -1,8 +1,10 @@
-// Numbers as bytes, the low one first, as records, the report, the calls and buffers have them.
+// Numbers as bytes, the low one first, as records, the report, the calls and buffers have them; and the other way round,
+// as the stack has them.
 ghost use mathlib.Core.Path.{_≡_};
 ghost use Prim.Native.Nat.{_+_, _*_, _≤_};
 ghost use lib.ListN.{length};
-ghost use Rattle.little.specs.Little.{wordBytes, le4, fourAt, eightAt, le8};
+ghost use lib.Seq.{paste};
+ghost use Rattle.little.specs.Little.{wordBytes, le4, fourAt, eightAt, le8, high2, high4, high8};
 
 // The bytes of a slice that takes a word or an f32.
 pub const WORD_BYTES: usize = 4;
@@ -57,4 +59,47 @@ pub fn put_eight(out: &mut [u8], n: u64)
     out[5] = (high / 0x100 % 0x100) as u8;
     out[6] = (high / 0x1_0000 % 0x100) as u8;
     out[7] = (high / 0x100_0000 % 0x100) as u8;
+}
+
+// The number of two bytes.
+pub fn two(lo: u8, hi: u8) -> u16
+    ensures { λ r. ⌜ r ≡ lo + hi * 256 ⌝ }
+{
+    lo as u16 + hi as u16 * 256
+}
+
+// Four bytes the other way round.
+fn reversed_4(w: u32) -> u32
+    ensures { λ r. ⌜ le4 r ≡ high4 w ⌝ }
+{
+    w % 0x100 * 0x100_0000
+        + w / 0x100 % 0x100 * 0x1_0000
+        + w / 0x1_0000 % 0x100 * 0x100
+        + w / 0x100_0000
+}
+
+// Eight bytes the other way round.
+pub fn reversed_8(w: u64) -> u64
+    ensures { λ r. ⌜ le8 r ≡ high8 w ⌝ }
+{
+    let high = reversed_4((w / 0x1_0000_0000) as u32);
+    let low = reversed_4((w % 0x1_0000_0000) as u32);
+    high as u64 + low as u64 * 0x1_0000_0000
+}
+
+// The bytes of a number from a place on, the high one first: four, and two.
+pub fn put_high_4(s: &mut [u8], at: usize, r: u32)
+    requires { ⌜ at + 4 ≤ length (now s) ⌝ }
+    ensures { λ _. ⌜ now (s .exit) ≡ paste (now (s .entry)) at (high4 r) 4 ⌝ }
+{
+    let end = at + 4;
+    put_word(&mut s[at..end], reversed_4(r) as usize);
+}
+
+pub fn put_high_2(s: &mut [u8], at: usize, r: u32)
+    requires { ⌜ at + 2 ≤ length (now s) ⌝ }
+    ensures { λ _. ⌜ now (s .exit) ≡ paste (now (s .entry)) at (high2 r) 2 ⌝ }
+{
+    s[at] = (r / 256 % 256) as u8;
+    s[at + 1] = (r % 256) as u8;
 }

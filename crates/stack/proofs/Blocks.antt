@@ -132,10 +132,3 @@ byte-laid room b i v h e =
     set-split room i v h
     ∙ ap₂ (λ (x y : ℕ). take i room ++ (x ∷ drop y room)) e (sym (add-one i))
     ∙ sym (append-assoc (take i room) (topByte b ∷ []) (drop (i + 1) room))
-
--- n bytes written over part of a list
-pub part-laid : (room x y : List ℕ) (i k n : ℕ) → k ≡ n → length y ≡ n → x ≡ y → take i room ++ (x ++ drop k (drop i room)) ≡ paste room i y n
-part-laid room x y i k n f h e =
-    ap (λ (m : ℕ). take i room ++ (x ++ drop m (drop i room))) f
-    ∙ ap₂ (λ (l m : List ℕ). take i room ++ (l ++ m)) (e ∙ sym (take-all n y (omega (arith, h)))) (drop-drop n i room)
-    ∙ sym (append-assoc (take i room) (take n y) (drop (i + n) room))

@@ -142,7 +142,7 @@ pub fn rule_of(number: u32) -> Rule
 
 // The bytes of a word.
 pub fn size(width: Width) -> usize
-    ensures { λ r. ⌜ (r ≡ sizeOf width) × (r ≤ 4) ⌝ }
+    ensures { λ r. ⌜ (r ≡ sizeOf width) × (r ≤ 4) × (2 ≤ r) ⌝ }
 {
     match width {
         Width::Single => 2,

@@ -15,8 +15,8 @@ use Rattle.stack.proofs.Stack.push_all.Reads as reads
 use Rattle.stack.proofs.Stack.push_all.Lts as lts
 use Rattle.little.proofs.eight_at.Reads as eight-at-reads
 use Rattle.little.proofs.four_at.Reads as four-at-reads
+use Rattle.little.proofs.two.Reads as two-reads
 use Rattle.stack.proofs.Stack.push.Reads as push-reads
-use Rattle.stack.proofs.lent.two.Reads as two-reads
 use borrow.Author.Needs.{needs}
 use Rattle.stack.proofs.Stack.push_all.Statement.{statement}
 use Rattle.stack.proofs.Stack.push_all.Tie as tie

@@ -1,4 +1,4 @@
--- `stack::lent::put_2` meets its contract: two bytes stored are the word's bytes. Assumes nothing.
+-- `little::put_high_2` meets its contract: two bytes stored are the word's bytes. Assumes nothing.
 use mathlib.Core.Path.{_∙_, ap}
 use Prim.Native.Nat.{ℕ, _/_, _%_}
 use mathlib.Core.List.{[], _∷_}
@@ -8,8 +8,8 @@ use lib.ListN.{length-set, set}
 use lib.Seq.{sets-eq}
 use denote.Ref.{now}
 use borrow.Author.Needs.{needs}
-use Rattle.stack.proofs.lent.put_2.Statement.{statement}
-use Rattle.stack.proofs.lent.put_2.Tie as tie
+use Rattle.little.proofs.put_high_2.Statement.{statement}
+use Rattle.little.proofs.put_high_2.Tie as tie
 
 slice-write-s-2 : tie.Need-slice-write-s-2
 slice-write-s-2 c = simp length-set (omega (arith, c .pre))
@@ -21,8 +21,8 @@ returns c =
     let r = c .args .r in
     ap (λ (i : ℕ). set (set s at (r / 256 % 256)) i (r % 256)) (add-one at) ∙ sets-eq (r / 256 % 256 ∷ r % 256 ∷ []) s at (c .pre)
 
-pub put-2-spec : {M : Type 1} → statement M
-put-2-spec =
+pub put-high-2-spec : {M : Type 1} → statement M
+put-high-2-spec =
     tie.close
     (tie.spec (λ c. search needs) (λ c. search needs) (λ c. search needs) (λ c. search needs) slice-write-s-2
     (λ c. search needs) returns)

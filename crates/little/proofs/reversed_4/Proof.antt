@@ -1,8 +1,8 @@
--- `stack::lent::reversed_4` meets its contract: four bytes, each at its place. Assumes nothing.
-use Rattle.stack.proofs.Reversed.{four}
+-- `little::reversed_4` meets its contract: four bytes, each at its place. Assumes nothing.
+use Rattle.little.proofs.Reversed.{four}
 use borrow.Author.Needs.{needs}
-use Rattle.stack.proofs.lent.reversed_4.Statement.{statement}
-use Rattle.stack.proofs.lent.reversed_4.Tie as tie
+use Rattle.little.proofs.reversed_4.Statement.{statement}
+use Rattle.little.proofs.reversed_4.Tie as tie
 
 returns : tie.Need-returns
 returns c = four (c .args .w) (search needs)
