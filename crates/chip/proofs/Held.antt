@@ -33,7 +33,7 @@ use Rattle.chip.specs.State.{State, left, afterReset, acknowledged, sett
 use Rattle.chip.specs.declared.commands.Obeyed.{Obeyed}
 use Rattle.chip.specs.Commands.{outcomeOf, properOperands}
 use Rattle.chip.specs.Step.{done, refused, resetOf, acknowledgeOf, carried, commandUnder}
-use Rattle.chip.specs.Held.{held, flipped, Settles, SettlesEither, Obeys, Performs, halfWord, refusalOf, answerAs, Commanded}
+use Rattle.chip.specs.Held.{held, flipped, Settles, Obeys, Performs, halfWord, refusalOf, answerAs, Commanded}
 use Rattle.chip.proofs.Answers.{carried-half, carried-improper, carried-done, command-by}
 use Rattle.chip.proofs.InTurn.{turned}
 
@@ -127,12 +127,9 @@ half-known SqrtCode h = refl
 half-known DerivedKind h = absurd (miss (0 ∷ 1 ∷ 2 ∷ 3 ∷ 4 ∷ 5 ∷ 6 ∷ 7 ∷ 8 ∷ []) 9 tt h)
 half-known UnknownKind h = absurd (miss (0 ∷ 1 ∷ 2 ∷ 3 ∷ 4 ∷ 5 ∷ 6 ∷ 7 ∷ 8 ∷ []) 10 tt h)
 
--- what was found of a kind, an operation or a rule holds of it under its own name
+-- what was found of a kind or a rule holds of it under its own name
 pub performs-as : (rule : Rule) (s : Stack) (o : Obeyed) {k l : Coded} → k ≡ l → Performs rule (kindIn l) s o → Performs rule (kindIn k) s o
 performs-as rule s o e = subst (λ (x : Coded). Performs rule (kindIn x) s o) (sym e)
-
-pub moves-as : (w : Width) (s : Stack) (o : Obeyed) {k l : MoveOp} → k ≡ l → SettlesEither (moveIn l w) s o → SettlesEither (moveIn k w) s o
-moves-as w s o e = subst (λ (x : MoveOp). SettlesEither (moveIn x w) s o) (sym e)
 
 pub by-rule : (pending : Bool) (code : ℕ) (stack : Stack) {rule r : Rule} {o x : Obeyed} → rule ≡ r → o ≡ x → Commanded r pending code stack x
     → Commanded rule pending code stack o

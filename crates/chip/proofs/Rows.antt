@@ -23,14 +23,16 @@ use Rattle.float.specs.Convert.{flts, fltd, fixs, fixd, chsf}
 use Rattle.float.specs.Root.{sqrt}
 use Rattle.float.proofs.Results.{flts-result, fltd-result}
 use Rattle.stack.specs.declared.Stack.{Stack}
-use Rattle.stack.specs.Stack.{tos, overA, overZero, replaced, converted}
+use Rattle.stack.specs.Stack.{tos, overA, overZero, replaced, rotated, copied, exchanged, converted}
 use Rattle.stack.specs.Words.{eight, bytesIn, overEight}
 use Rattle.stack.proofs.TwoWords.{word-law}
 use Rattle.codes.specs.declared.FixedOp.{FixedOp}
 use Rattle.codes.specs.declared.FixedOp.the-variants.{Add as AddOp, Sub as SubOp, Mul as MulOp, Muu as MuuOp, Div as DivOp, Chs as ChsOp}
 use Rattle.codes.proofs.FixedOp.{the-type as op-type}
 use Rattle.codes.specs.declared.FloatOp.{FloatOp}
-use Rattle.codes.specs.Command.{Flt, Fix, Sqrt, fixedIn}
+use Rattle.codes.specs.declared.MoveOp.{MoveOp}
+use Rattle.codes.specs.declared.MoveOp.the-variants.{Pto as PtoOp, Pop as PopOp, Xch as XchOp}
+use Rattle.codes.specs.Command.{Flt, Fix, Sqrt, fixedIn, moveIn}
 use Rattle.chip.specs.declared.commands.Obeyed.{Obeyed}
 use Rattle.chip.specs.State.{CommandOutcome, left}
 use Rattle.chip.specs.Status.{sign, statusOf}
@@ -222,7 +224,25 @@ pub chsf-row : (s : List ℕ) {t : List ℕ} {a x y : ℕ} → a ≡ wordA Doubl
     → left t x ≡ moves Double (replaced 4 s (chsf (wordA Double s)))
 chsf-row s ea ey et ex = rw (ex, et, ey, ea)
 
--- words moved, copied or pushed
+-- ---- the moves
+abbrev pub movedOf : MoveOp → ℕ → List ℕ → List ℕ
+movedOf PtoOp n s = copied n s
+movedOf PopOp n s = rotated n s
+movedOf XchOp n s = exchanged n s
+
+move-is : (op : MoveOp) (w : Width) (s : List ℕ) (rule : Rule) → moves w (movedOf op (sizeOf w) s) ≡ outcomeOf rule (moveIn op w) s
+move-is PtoOp w s rule = refl
+move-is PopOp w s rule = refl
+move-is XchOp w s rule = refl
+
+pub moved : (op : MoveOp) (w : Width) (s : Stack) (o : Obeyed) {k : MoveOp} {t : List ℕ} → k ≡ op → t ≡ movedOf op (sizeOf w) (bytesIn s)
+    → Settles (moves w t) o → SettlesEither (moveIn k w) s o
+moved op w s o ek et h rule = (
+  h .0 ∙ ap (moves w) et ∙ move-is op w (bytesIn s) rule ∙ ap (λ (x : MoveOp). outcomeOf rule (moveIn x w) (bytesIn s)) (sym ek),
+  h .1,
+)
+
+-- words pushed
 pub move-row : (w : Width) (t : List ℕ) {u : List ℕ} {x : ℕ} → u ≡ t → x ≡ statusOf w u 0 false → left u x ≡ moves w t
 move-row w t eu ex = rw (ex, eu)
 

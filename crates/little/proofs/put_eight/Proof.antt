@@ -8,13 +8,11 @@ use borrow.Author.Needs.{needs}
 use Rattle.little.proofs.put_eight.Statement.{statement}
 use Rattle.little.proofs.put_eight.Tie as tie
 
-returns : tie.Need-returns
-returns c = filled (le8 (c .args .n)) (now (c .args .out)) (c .pre)
-
 pub put-eight-spec : {M : Type 1} → statement M
 put-eight-spec =
     tie.close
     (tie.spec (λ c. search needs) (λ c. search needs) (λ c. search needs) (λ c. search needs) (λ c. search needs)
     (λ c. search needs) (λ c. search needs) (λ c. search needs) (λ c. search needs) (λ c. simp length-set (omega arith))
     (λ c. search needs) (λ c. simp length-set (omega arith)) (λ c. search needs) (λ c. simp length-set (omega arith))
-    (λ c. search needs) (λ c. simp length-set (omega arith)) (λ c. search needs) returns)
+    (λ c. search needs) (λ c. simp length-set (omega arith)) (λ c. search needs)
+    (λ c. filled (le8 (c .args .n)) (now (c .args .out)) (c .pre)))

@@ -6,11 +6,9 @@ use borrow.Author.Needs.{needs}
 use Rattle.little.proofs.put_word.Statement.{statement}
 use Rattle.little.proofs.put_word.Tie as tie
 
-returns : tie.Need-returns
-returns c = filled (le4 (c .args .n)) (now (c .args .out)) (c .pre)
-
 pub put-word-spec : {M : Type 1} → statement M
 put-word-spec =
     tie.close
     (tie.spec (λ c. search needs) (λ c. search needs) (λ c. search needs) (λ c. search needs) (λ c. search needs)
-    (λ c. search needs) (λ c. search needs) (λ c. search needs) (λ c. search needs) returns)
+    (λ c. search needs) (λ c. search needs) (λ c. search needs) (λ c. search needs)
+    (λ c. filled (le4 (c .args .n)) (now (c .args .out)) (c .pre)))

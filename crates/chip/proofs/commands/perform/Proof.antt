@@ -36,11 +36,6 @@ returns-3 c =
     performs-as (a .rule) (a .s) (c .work-32 .result) (at-kind .kind .given .1 ∙ ap (FixedCode op) (c .before .enum-told3 .given .1))
     (done-by (a .rule) (fixedIn op Double) (a .s) (c .work-32 .result) (fixed-proper op Double (bytesIn (a .s))) (c .work-32 .ensures (a .rule)))
 
-returns-4 : tie.Need-returns-4
-returns-4 c =
-    let a = c .before .before .before .before .args in
-    performs-as (a .rule) (a .s) (c .float-work .result) (c .before .before .kind2 .given .1) (c .float-work .ensures)
-
 returns-5 : tie.Need-returns-5
 returns-5 c =
     let a = c .before .before .before .args in
@@ -52,11 +47,6 @@ returns-6 c =
     let a = c .before .before .before .before .args in
     performs-as (a .rule) (a .s) (c .to-float .result) (c .before .before .kind3 .given .1)
     (done-by (a .rule) (Flt (c .before .before .kind3 .given .0 .0)) (a .s) (c .to-float .result) refl (c .to-float .ensures))
-
-returns-7 : tie.Need-returns-7
-returns-7 c =
-    let a = c .before .before .before .before .args in
-    performs-as (a .rule) (a .s) (c .to-fixed .result) (c .before .before .kind4 .given .1) (c .to-fixed .ensures)
 
 returns-8 : tie.Need-returns-8
 returns-8 c =
@@ -76,21 +66,6 @@ returns-9 c =
     (done-by (a .rule) Pupi (a .s) (c .settled .result) refl
     (c .settled .ensures .0 ∙ move-row Double (pushedWord (bytesIn (a .s)) pi) pushed refl, c .settled .ensures .1))
 
-returns-10 : tie.Need-returns-10
-returns-10 c =
-    let a = c .before .before .before .args in
-    performs-as (a .rule) (a .s) (c .take-root .result) (c .before .enum-told6 .given .1) (c .take-root .ensures)
-
-returns-11 : tie.Need-returns-11
-returns-11 c =
-    let a = c .before .before .before .args in
-    performs-as (a .rule) (a .s) (c .refused .result) (c .before .enum-told7 .given .1) (c .refused .ensures)
-
-returns-12 : tie.Need-returns-12
-returns-12 c =
-    let a = c .before .before .before .args in
-    performs-as (a .rule) (a .s) (c .refused2 .result) (c .before .enum-told8 .given .1) (c .refused2 .ensures)
-
 pub perform-spec : {M : Type 1} → statement M
 perform-spec =
     tie.close
@@ -98,5 +73,9 @@ perform-spec =
     (λ c κs. search needs) (λ c. search needs) (λ c κs. search needs) (λ c. search needs) (λ c κs. search needs) (λ c. search needs)
     (λ c κs. search needs) (λ c. search needs) (λ c κs. search needs) (λ c. search needs) (λ c κs. search needs) (λ c. search needs)
     (λ c κs. search needs) (λ c. search needs) (λ c κs. search needs) (λ c κs. search needs) (λ c. search needs) (λ c κs. search needs)
-    (λ c. search needs) (λ c κs. search needs) (λ c. search needs) (λ c κs. search needs) returns returns-2 returns-3 returns-4
-    returns-5 returns-6 returns-7 returns-8 returns-9 returns-10 returns-11 returns-12)
+    (λ c. search needs) (λ c κs. search needs) (λ c. search needs) (λ c κs. search needs)
+    returns returns-2 returns-3 (λ c. performs-as _ _ _ (c .before .before .kind2 .given .1) (c .float-work .ensures)) returns-5 returns-6
+    (λ c. performs-as _ _ _ (c .before .before .kind4 .given .1) (c .to-fixed .ensures)) returns-8 returns-9
+    (λ c. performs-as _ _ _ (c .before .enum-told6 .given .1) (c .take-root .ensures))
+    (λ c. performs-as _ _ _ (c .before .enum-told7 .given .1) (c .refused .ensures))
+    (λ c. performs-as _ _ _ (c .before .enum-told8 .given .1) (c .refused2 .ensures)))

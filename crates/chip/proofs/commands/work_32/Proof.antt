@@ -22,32 +22,32 @@ returns-3 : tie.Need-returns-3
 returns-3 c =
     let x = c .before in
     let y = x .before .before .before in
-    worked MulOp Double _ _ (x .before .enum-told3 .given .1) (y .before .nos .ensures .0) (y .tos .ensures .0) (x .mul32 .ensures) (c .laid3 .ensures)
+    worked MulOp Double _ _ (x .before .enum-told3 .given .1) (y .before .nos .ensures .0) (y .tos .ensures .0) (x .mul .ensures) (c .laid3 .ensures)
 
 returns-4 : tie.Need-returns-4
 returns-4 c =
     let x = c .before in
     let y = x .before .before .before in
-    worked MuuOp Double _ _ (x .before .enum-told4 .given .1) (y .before .nos .ensures .0) (y .tos .ensures .0) (x .muu32 .ensures) (c .laid4 .ensures)
+    worked MuuOp Double _ _ (x .before .enum-told4 .given .1) (y .before .nos .ensures .0) (y .tos .ensures .0) (x .muu .ensures) (c .laid4 .ensures)
 
 returns-5 : tie.Need-returns-5
 returns-5 c =
     let x = c .before in
     let y = x .before .before .before in
-    worked DivOp Double _ _ (x .before .enum-told5 .given .1) (y .before .nos .ensures .0) (y .tos .ensures .0) (x .div32 .ensures) (c .laid5 .ensures)
+    worked DivOp Double _ _ (x .before .enum-told5 .given .1) (y .before .nos .ensures .0) (y .tos .ensures .0) (x .div .ensures) (c .laid5 .ensures)
 
 returns-6 : tie.Need-returns-6
 returns-6 c =
     let x = c .before in
     let y = x .before .before .before in
-    worked ChsOp Double _ _ (x .before .enum-told6 .given .1) (y .before .nos .ensures .0) (y .tos .ensures .0) (x .chs32 .ensures) (c .laid6 .ensures)
+    worked ChsOp Double _ _ (x .before .enum-told6 .given .1) (y .before .nos .ensures .0) (y .tos .ensures .0) (x .chs .ensures) (c .laid6 .ensures)
 
 pub work-32-spec : {M : Type 1} → statement M
 work-32-spec =
     tie.close
     (tie.spec (λ c κs. search needs) (λ c κs. search needs) (λ c. search needs) (λ c κs. search needs)
     (λ c κs. few AddOp _ _ _ (c .add32 .ensures)) (λ c. search needs) (λ c κs. search needs) (λ c κs. few SubOp _ _ _ (c .sub32 .ensures))
-    (λ c. search needs) (λ c κs. search needs) (λ c κs. few MulOp _ _ _ (c .mul32 .ensures)) (λ c. search needs) (λ c κs. search needs)
-    (λ c κs. few MuuOp _ _ _ (c .muu32 .ensures)) (λ c. search needs) (λ c κs. search needs) (λ c κs. few DivOp _ _ _ (c .div32 .ensures))
-    (λ c. search needs) (λ c κs. search needs) (λ c κs. few ChsOp _ 0 _ (c .chs32 .ensures)) returns returns-2 returns-3 returns-4 returns-5
+    (λ c. search needs) (λ c κs. search needs) (λ c κs. few MulOp _ _ _ (c .mul .ensures)) (λ c. search needs) (λ c κs. search needs)
+    (λ c κs. few MuuOp _ _ _ (c .muu .ensures)) (λ c. search needs) (λ c κs. search needs) (λ c κs. few DivOp _ _ _ (c .div .ensures))
+    (λ c. search needs) (λ c κs. search needs) (λ c κs. few ChsOp _ 0 _ (c .chs .ensures)) returns returns-2 returns-3 returns-4 returns-5
     returns-6)

@@ -17,16 +17,35 @@ use Rattle.stack.proofs.TwoWords.{turn-eight}
 use Rattle.stack.proofs.Blocks.{left, eight-handed, word-handed, byte-laid, Popped, pop-none, pop-more, pop-not, pop-all}
 use Rattle.stack.proofs.Stack.pop_all.Reads as reads
 use Rattle.stack.proofs.Stack.pop_all.Lts as lts
-use Rattle.little.proofs.put_eight.Reads as put-eight-reads
-use Rattle.little.proofs.put_high_2.Reads as put-2-reads
-use Rattle.little.proofs.put_high_4.Reads as put-4-reads
-use Rattle.little.proofs.reversed_8.Reads as reversed-8-reads
-use Rattle.stack.proofs.Stack.top_byte.Reads as top-byte-reads
-use Rattle.stack.proofs.Stack.tos.Reads as tos-reads
-use Rattle.stack.proofs.Stack.turn.Reads as turn-reads
+use Rattle.little.proofs.put_eight.Reads as put-8
+use Rattle.little.proofs.put_high_2.Reads as put-2
+use Rattle.little.proofs.put_high_4.Reads as put-4
+use Rattle.little.proofs.reversed_8.Reads as reversed
+use Rattle.stack.proofs.Stack.top_byte.Reads as top
+use Rattle.stack.proofs.Stack.tos.Reads as tos
+use Rattle.stack.proofs.Stack.turn.Reads as turn
 use borrow.Author.Needs.{needs}
 use Rattle.stack.proofs.Stack.pop_all.Statement.{statement}
 use Rattle.stack.proofs.Stack.pop_all.Tie as tie
+
+-- what is asked and learnt at each call
+abbrev contracts : lts.Claims
+contracts = (
+  reversed.Asked,
+  reversed.Learnt,
+  put-8.Asked,
+  put-8.Learnt,
+  tos.Asked,
+  tos.Learnt,
+  put-4.Asked,
+  put-4.Learnt,
+  turn.Asked,
+  turn.Learnt,
+  put-2.Asked,
+  put-2.Learnt,
+  top.Asked,
+  top.Learnt,
+)
 
 abbrev Inv-loop : tie.InvT-loop
 Inv-loop n room₀ s₀ i₀ room s i = Popped n n (bytesIn s₀) room₀ (bytesIn s) i room
@@ -52,22 +71,7 @@ loop-again c =
     (left (l .s .top) (l .s .rest) 8 (lit≤ tt) (turn-eight (l .s .top) (l .s .rest))) laid refl
 
 -- after four bytes, or none
-four : (c : lts.Joined1 (
-  reversed-8-reads.Asked,
-  reversed-8-reads.Learnt,
-  put-eight-reads.Asked,
-  put-eight-reads.Learnt,
-  tos-reads.Asked,
-  tos-reads.Learnt,
-  put-4-reads.Asked,
-  put-4-reads.Learnt,
-  turn-reads.Asked,
-  turn-reads.Learnt,
-  put-2-reads.Asked,
-  put-2-reads.Learnt,
-  top-byte-reads.Asked,
-  top-byte-reads.Learnt,
-) reads.Pre reads.Post Inv-loop μ-loop)
+four : (c : lts.Joined1 contracts reads.Pre reads.Post Inv-loop μ-loop)
     → let a = c .before .before .before .before .args in
     Popped 3 (a .n) (bytesIn (a .self)) (now (a .room)) (bytesIn (c .if1 .s)) (c .if1 .i) (c .if1 .room)
 four c =
@@ -90,22 +94,7 @@ four c =
     (c .if1 .came)
 
 -- after two more, or none
-two : (c : lts.Joined2 (
-  reversed-8-reads.Asked,
-  reversed-8-reads.Learnt,
-  put-eight-reads.Asked,
-  put-eight-reads.Learnt,
-  tos-reads.Asked,
-  tos-reads.Learnt,
-  put-4-reads.Asked,
-  put-4-reads.Learnt,
-  turn-reads.Asked,
-  turn-reads.Learnt,
-  put-2-reads.Asked,
-  put-2-reads.Learnt,
-  top-byte-reads.Asked,
-  top-byte-reads.Learnt,
-) reads.Pre reads.Post Inv-loop μ-loop)
+two : (c : lts.Joined2 contracts reads.Pre reads.Post Inv-loop μ-loop)
     → let a = c .before .before .before .before .before .before .args in
     Popped 1 (a .n) (bytesIn (a .self)) (now (a .room)) (bytesIn (c .if2 .s)) (c .if2 .i) (c .if2 .room)
 two c =
