@@ -41,7 +41,7 @@ use Rattle.record_runs.proofs.Prefix.{lawful}
 use Rattle.record_runs.proofs.Ready.{run-ready}
 use Rattle.state_bytes.specs.Bytes.{isState, memoryIn, cardIn, laidOut}
 use Rattle.state_bytes.proofs.Cards.{card-returns, card-ready, laid-length, laid-state}
-use Rattle.record_runs.specs.declared.head.EventKind.{EventKind}
+use Rattle.terms.specs.declared.EventKind.{EventKind}
 use Rattle.state_bytes.specs.Calls.{Called, ranOf, callOf, Signal, signalOf, signalBy, unsent, answerToKind, answeredBy}
 use Rattle.pundaliket.specs.Calls.{Sent, sentOf}
 use Rattle.state_bytes.proofs.Calling.{bad-state, too-long, good}

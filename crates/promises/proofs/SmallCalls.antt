@@ -26,7 +26,7 @@ use Rattle.state_bytes.specs.Bytes.{isState, stateOf, memoryIn, cardIn, flagOf,
 use Rattle.record_files.proofs.Tests.{either-eq}
 use Rattle.state_bytes.proofs.States.{short-memory, long-memory}
 use Rattle.state_bytes.proofs.Cards.{flag-back, laid-is}
-use Rattle.record_runs.specs.declared.head.EventKind.{EventKind}
+use Rattle.terms.specs.declared.EventKind.{EventKind}
 use Rattle.state_bytes.specs.Calls.{Signal, settingsOf, signalBy, unsent, signalUnder, signalOf, answerToKind, answeredBy}
 use Rattle.pundaliket.specs.Calls.{sentOf}
 use Rattle.state_bytes.proofs.Calling.{event-chosen}

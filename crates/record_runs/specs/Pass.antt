@@ -2,10 +2,11 @@
 use Prim.Native.Nat.{ℕ, _+_, _≤_, _<_}
 use mathlib.Core.Path.{_≡_}
 use mathlib.Core.List.{List, []}
-use mathlib.Core.Bool.{cond}
+use mathlib.Core.Bool.{Bool, cond}
 use lib.Dec.{ltb}
 use lib.ListN.{length, take, drop, getD}
 use Rattle.terms.specs.declared.Refusal.{Refusal}
+use Rattle.terms.specs.declared.Refusal.the-variants.{Done, BadLength, NoRoom}
 use Rattle.terms.specs.declared.Mode.{Mode}
 use Rattle.terms.specs.declared.Rule.{Rule}
 use Rattle.terms.specs.Refusal.{numberOf}
@@ -18,7 +19,7 @@ use Rattle.error_memory.specs.declared.Card.{Card}
 use Rattle.error_memory.specs.Memory.{Card as CardOf}
 use Rattle.error_memory.specs.Held.{cardUnder}
 use Rattle.record_files.specs.Run.{Turns, Runs}
-use Rattle.record_runs.specs.declared.head.EventKind.{EventKind}
+use Rattle.terms.specs.declared.EventKind.{EventKind}
 use Rattle.record_runs.specs.declared.step.Pass.{Pass}
 use Rattle.record_runs.specs.declared.step.Place.{Place}
 use Rattle.record_runs.specs.Record.{Event, kindOf, payloadOf, answeredOf, exactly, rowBy, answerOf, dataOf, Turned, turnBy}
@@ -48,6 +49,10 @@ pub record Stands (p : Place) (room : ℕ) : Type 0 where
   pub low : p .written ≤ mostReplies
   pub none : (k : ℕ) → k ≤ 5 + mostPayload → p .most < p .written + k → room < k
   pub some : (k : ℕ) → k ≤ 5 + mostPayload → p .written + k ≤ p .most → k ≤ room
+
+-- whether a record is done: 7 where its payload is not right, then 8 where a reply of so many bytes has no room
+abbrev pub readyAt : Bool → Place → ℕ → Refusal
+readyAt right p m = cond right (cond (ltb (p .most) (p .written + m)) NoRoom Done) BadLength
 
 -- nothing of a record is done; a record is done
 abbrev pub unchanged : Refusal → Card → Place → Pass

@@ -19,11 +19,12 @@ use Rattle.record_runs.specs.Record.{Push, Pop, Command, Status, Reset, Acknowl
 use Rattle.record_runs.specs.declared.head.Frame.{Frame}
 use Rattle.record_runs.specs.Record.{Head}
 use Rattle.record_runs.specs.Record.{Whole, Stop}
-use Rattle.record_runs.specs.declared.head.EventKind.{EventKind}
-use Rattle.record_runs.specs.declared.head.EventKind.the-variants.{Push as PushKind, Pop as PopKind, Command as CommandKind, Status as StatusKind}
-use Rattle.record_runs.specs.declared.head.EventKind.the-variants.{Reset as ResetKind, Acknowledge as AcknowledgeKind, Recall as RecallKind}
-use Rattle.record_runs.specs.declared.head.EventKind.the-variants.{Forget as ForgetKind, Unknown as UnknownKind}
-use Rattle.record_runs.specs.Record.{exactly, kindNamed, rowBy, rowUnder, headIn, headUnder, headNumber, frameUnder, answeredOf, turnBy, turnUnder, turnOf}
+use Rattle.terms.specs.declared.EventKind.{EventKind}
+use Rattle.terms.specs.declared.EventKind.the-variants.{Push as PushKind, Pop as PopKind, Command as CommandKind, Status as StatusKind}
+use Rattle.terms.specs.declared.EventKind.the-variants.{Reset as ResetKind, Acknowledge as AcknowledgeKind, Recall as RecallKind}
+use Rattle.terms.specs.declared.EventKind.the-variants.{Forget as ForgetKind, Unknown as UnknownKind}
+use Rattle.terms.specs.Kind.{kindNamed}
+use Rattle.record_runs.specs.Record.{exactly, rowBy, rowUnder, headIn, headUnder, headNumber, frameUnder, answeredOf, turnBy, turnUnder, turnOf}
 use Rattle.sheet_bytes.specs.Ledger.{isSheets, closedIn, isOpen}
 use Rattle.sheet_bytes.proofs.Ledgers.{is-long}
 use Rattle.sheets.specs.Step.{Held, held, lineOf, runOf}

@@ -22,13 +22,14 @@ use Rattle.record_files.specs.Run.{Turned, Outcome, idle}
 use Rattle.record_files.proofs.Append.{alone, first-stops}
 use Rattle.record_files.proofs.Tests.{either-lt, either-eq}
 use Rattle.record_files.proofs.Through.{Tally, tally}
-use Rattle.record_runs.specs.declared.head.EventKind.{EventKind}
-use Rattle.record_runs.specs.declared.head.EventKind.the-variants.{Push as PushKind, Pop as PopKind, Command as CommandKind, Status as StatusKind}
-use Rattle.record_runs.specs.declared.head.EventKind.the-variants.{Reset as ResetKind, Acknowledge as AcknowledgeKind, Recall as RecallKind}
-use Rattle.record_runs.specs.declared.head.EventKind.the-variants.{Forget as ForgetKind, Unknown as UnknownKind}
+use Rattle.terms.specs.declared.EventKind.{EventKind}
+use Rattle.terms.specs.declared.EventKind.the-variants.{Push as PushKind, Pop as PopKind, Command as CommandKind, Status as StatusKind}
+use Rattle.terms.specs.declared.EventKind.the-variants.{Reset as ResetKind, Acknowledge as AcknowledgeKind, Recall as RecallKind}
+use Rattle.terms.specs.declared.EventKind.the-variants.{Forget as ForgetKind, Unknown as UnknownKind}
+use Rattle.terms.specs.Kind.{kindNamed}
 use Rattle.record_runs.specs.Record.{Head}
 use Rattle.record_runs.specs.Record.{Whole, Stop}
-use Rattle.record_runs.specs.Record.{payloadOf as payloadIn, answeredOf, answerOf, worked, kindNamed, rowBy, rowUnder, headUnder, turnBy, turnUnder, turnOf}
+use Rattle.record_runs.specs.Record.{payloadOf as payloadIn, answeredOf, answerOf, worked, rowBy, rowUnder, headUnder, turnBy, turnUnder, turnOf}
 use Rattle.record_runs.specs.Record.{stopped as stoppedAt}
 use Rattle.record_runs.specs.Run.{runOf as coreRun}
 use Rattle.record_runs.proofs.Heads.{short, low, high, cut, whole}

@@ -7,9 +7,10 @@ use lib.ListN.{drop, length-drop}
 use lib.Seq.{length-take-le}
 use denote.Ref.{now}
 use Rattle.terms.specs.Limits.{mostPayload}
+use Rattle.terms.specs.Kind.{kindNamed}
 use Rattle.chip.specs.Step.{given}
 use Rattle.record_runs.specs.declared.head.Frame.the-variants.{Framed}
-use Rattle.record_runs.specs.Record.{kindNamed, frameUnder}
+use Rattle.record_runs.specs.Record.{frameUnder}
 use Rattle.record_runs.proofs.Heads.{Fits, fits}
 use Rattle.record_runs.proofs.Turning.{framed, broken}
 use borrow.Author.Needs.{needs}
