@@ -1,10 +1,10 @@
--- `pundaliket::formulas::pundaliket_formula` meets its contract: the translation's refusal by its number, and its file. Assumes nothing.
+-- `pundaliket::pundaliket_formula` meets its contract: the translation's refusal by its number, and its file. Assumes nothing.
 use mathlib.Core.Path.{ap, ap₂, _∙_}
 use Prim.Native.Nat.{ℕ, _+_, _*_}
 use Rattle.formula.specs.Translation.{numberOf}
 use borrow.Author.Needs.{needs}
-use Rattle.pundaliket.proofs.formulas.pundaliket_formula.Statement.{statement}
-use Rattle.pundaliket.proofs.formulas.pundaliket_formula.Tie as tie
+use Rattle.pundaliket.proofs.pundaliket_formula.Statement.{statement}
+use Rattle.pundaliket.proofs.pundaliket_formula.Tie as tie
 
 returns : tie.Need-returns
 returns c =
