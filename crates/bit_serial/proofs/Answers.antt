@@ -27,8 +27,8 @@ use Rattle.bit_serial.specs.declared.divide.Division.{Division}
 use Rattle.bit_serial.specs.declared.Answer.the-variants.{Word, Refused}
 use Rattle.bit_serial.specs.Product.{product}
 use Rattle.bit_serial.specs.Quotient.{division}
-use Rattle.bit_serial.specs.Engine.{sizesMultiplied, sizesDivided, leastAnswer, lowHalf, upperHalf, mulAnswer, muuAnswer, halfAnswer, divAnswer, after, marked}
-use Rattle.bit_serial.specs.Engine.{mantissasMultiplied, mantissasDivided, fmulAnswer, fdivAnswer}
+use Rattle.bit_serial.specs.Engine.{sizesMultiplied, sizesDivided, leastAnswer, lowHalf, upperHalf, mulAnswer, muuAnswer, halfAnswer, divAnswer}
+use Rattle.bit_serial.specs.Engine.{after, marked, mantissasMultiplied, mantissasDivided, fmulAnswer, fdivAnswer}
 use Rattle.bit_serial.proofs.Products.{below}
 
 -- ---- a row that names the operands

@@ -17,7 +17,8 @@ abbrev pub lastPlace : ℤ → ℤ
 lastPlace e = e -ℤ pos 24
 
 -- "m and e are the one pair, e unbounded, with m the whole part of magnitude times 2^(24-e) and 2^23 <= m < 2^24": m * 2 ^ (e - 24) reaches n / d, and
--- (m + 1) * 2 ^ (e - 24) passes it. 2 ^ x is the fraction up x / down x, so products are compared. For 1 / 3, m = AAAAAA and e = -1: 2 ^ 25 / 3 is AAAAAA and 2 / 3
+-- (m + 1) * 2 ^ (e - 24) passes it. 2 ^ x is the fraction up x / down x, so products are compared. For 1 / 3, m = AAAAAA and e = -1, since 2 ^ 25 / 3
+-- is AAAAAA and 2 / 3
 pub record Pair (n d m : ℕ) (e : ℤ) : Type 0 where
   pub low : 2 ^ 23 ≤ m
   pub high : m < 2 ^ 24

@@ -68,8 +68,8 @@ ExactlyRoot a r = ExactlyRootBy Cut a r
 
 -- ---- a function that finds it, under either rule, in whole numbers alone
 
--- the whole part of the root of an n below 4 ^ k, digit by digit: that of n / 4, doubled, and one more where the square of that is at most n. The root of 10 is 3:
--- that of 10 / 4 = 2 is 1, doubled 2, and 3 * 3 is at most 10
+-- the whole part of the root of an n below 4 ^ k, digit by digit: that of n / 4, doubled, and one more where the square of that is at most n.
+-- The root of 10 is 3: that of 10 / 4 = 2 is 1, doubled 2, and 3 * 3 is at most 10
 unfoldable pub rootBelow : ℕ → ℕ → ℕ
 rootBelow zero n = 0
 rootBelow (suc k) n = let s = 2 * rootBelow k (n / 4) in cond (leb ((s + 1) * (s + 1)) n) (s + 1) s
@@ -79,8 +79,8 @@ unfoldable pub wholeRoot : ℕ → ℕ
 unfolding rootBelow
 wholeRoot n = rootBelow (size n) n
 
--- round to odd: a root counted in halves, 2 * s where it is the whole number s, 2 * s + 1 where it lies between s and s + 1. So the root of 9 is 6 halves, that of
--- 10 is 7. No word and no middle of two words lies between s and s + 1, so all that lies there is cut, and brought to the nearest word, as the half is
+-- round to odd: a root counted in halves, 2 * s where it is the whole number s, 2 * s + 1 where it lies between s and s + 1. The root of 9 is 6
+-- halves, that of 10 is 7. No word and no middle of two words lies between s and s + 1, so all that lies there is cut, and rounded, as the half is
 unfoldable pub rootHalves : ℕ → ℕ
 unfolding wholeRoot
 rootHalves n = 2 * wholeRoot n + cond (eqb (wholeRoot n * wholeRoot n) n) 0 1

@@ -78,21 +78,21 @@ module _ (rule : ℕ) (floats out : List ℕ) where
     no-room-floats r h l =
         gone (floatsTurn rule floats out) r 8 out (rw (good, eq-eqb (length floats % 8) 0 h, lt-ltb (length out) (length floats / 8 * 4) l))
 
-    module _ (r : BufferReply) (whole : length floats % 8 ≡ 0) (room : length floats / 8 * 4 ≤ length out) (said : r ≡ replyTo (floatEntries (ruleOf rule) floats))
-      where
-        looked-floats : floatsTurn rule floats out ≡ filledBy r (bytesOf le4 (floatEntries (ruleOf rule) floats)) out
-        unfolding floatsTurn
-        looked-floats =
-            rw (good, eq-eqb (length floats % 8) 0 whole, le-ltb (length out) (length floats / 8 * 4) room)
-            (ap (λ (s : BufferReply). filledBy s (bytesOf le4 (floatEntries (ruleOf rule) floats)) out) (sym said))
+    module _ (r : BufferReply) (whole : length floats % 8 ≡ 0) (room : length floats / 8 * 4 ≤ length out)
+        (said : r ≡ replyTo (floatEntries (ruleOf rule) floats)) where
+      looked-floats : floatsTurn rule floats out ≡ filledBy r (bytesOf le4 (floatEntries (ruleOf rule) floats)) out
+      unfolding floatsTurn
+      looked-floats =
+          rw (good, eq-eqb (length floats % 8) 0 whole, le-ltb (length out) (length floats / 8 * 4) room)
+          (ap (λ (s : BufferReply). filledBy s (bytesOf le4 (floatEntries (ruleOf rule) floats)) out) (sym said))
 
-        pub bad-float : (r .refusal ≡ 0 → ⊥) → TurnsBy (floatsTurn rule floats out) r out
-        bad-float n = turned (floatsTurn rule floats out) r out (looked-floats ∙ refused r (bytesOf le4 (floatEntries (ruleOf rule) floats)) out n)
+      pub bad-float : (r .refusal ≡ 0 → ⊥) → TurnsBy (floatsTurn rule floats out) r out
+      bad-float n = turned (floatsTurn rule floats out) r out (looked-floats ∙ refused r (bytesOf le4 (floatEntries (ruleOf rule) floats)) out n)
 
-        pub floats-written : (after : List ℕ) → r .refusal ≡ 0 → after ≡ bytesOf le4 (floatEntries (ruleOf rule) floats) ++ drop (length floats / 8 * 4) out
-            → TurnsBy (floatsTurn rule floats out) r after
-        floats-written after z e =
-            turned (floatsTurn rule floats out) r after
-            (looked-floats
-            ∙ filled r (bytesOf le4 (floatEntries (ruleOf rule) floats)) out after (length floats / 8 * 4) z
-            (first-length 4 le4 (λ x. refl) (floatEntry (ruleOf rule) floats) (length floats / 8)) e)
+      pub floats-written : (after : List ℕ) → r .refusal ≡ 0 → after ≡ bytesOf le4 (floatEntries (ruleOf rule) floats) ++ drop (length floats / 8 * 4) out
+          → TurnsBy (floatsTurn rule floats out) r after
+      floats-written after z e =
+          turned (floatsTurn rule floats out) r after
+          (looked-floats
+          ∙ filled r (bytesOf le4 (floatEntries (ruleOf rule) floats)) out after (length floats / 8 * 4) z
+          (first-length 4 le4 (λ x. refl) (floatEntry (ruleOf rule) floats) (length floats / 8)) e)

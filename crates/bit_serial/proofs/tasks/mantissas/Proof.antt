@@ -27,8 +27,8 @@ returns-3 c =
     let y = c .before .before in
     let t = y .before .before in
     let a = t .before .before .args in (
-      mantissas-zero (a .b) (a .a) _ (t .before .both-proper .ensures) (not-false _ (t .if1 .left)) _ _ (y .before .mantissa-of .ensures .0) (y .mantissa-of2 .ensures
-          .0) (a .over) (not-false _ (c .before .if2 .left)) (c .if3 .taken),
+      mantissas-zero (a .b) (a .a) _ (t .before .both-proper .ensures) (not-false _ (t .if1 .left)) _ _ (y .before .mantissa-of .ensures .0)
+          (y .mantissa-of2 .ensures .0) (a .over) (not-false _ (c .before .if2 .left)) (c .if3 .taken),
       tt,
     )
 

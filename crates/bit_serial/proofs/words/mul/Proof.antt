@@ -25,8 +25,8 @@ returns-2 c =
     let m = c .before .before .before in
     let t = m .before .before .before in
     let a = t .before .before .args in
-    muu-rest (a .h) (a .n) (a .b) (a .a) _ (t .before .either-least .ensures) (t .if1 .left) _ _ _ (c .before .before .unlike-signs .ensures) (m .before .before .magnitude
-    .ensures .0) (m .before .magnitude2 .ensures .0)
+    muu-rest (a .h) (a .n) (a .b) (a .a) _ (t .before .either-least .ensures) (t .if1 .left) _ _ _ (c .before .before .unlike-signs .ensures)
+    (m .before .before .magnitude .ensures .0) (m .before .magnitude2 .ensures .0)
     (m .multiplied .result) (m .multiplied .ensures) _ (a .upper) (c .upper-bits .ensures) (c .before .if2 .taken)
 
 returns-3 : tie.Need-returns-3
@@ -35,8 +35,9 @@ returns-3 c =
     let m = u .before in
     let t = m .before .before .before in
     let a = t .before .before .args in
-    mul-rest (a .h) (a .n) (a .b) (a .a) _ (t .before .either-least .ensures) (t .if1 .left) _ _ _ (u .unlike-signs .ensures) (m .before .before .magnitude .ensures .0)
-    (m .before .magnitude2 .ensures .0) (m .multiplied .result) (m .multiplied .ensures) _ _ _ (a .upper) (c .before .before .low-bits .ensures)
+    mul-rest (a .h) (a .n) (a .b) (a .a) _ (t .before .either-least .ensures) (t .if1 .left) _ _ _ (u .unlike-signs .ensures)
+    (m .before .before .magnitude .ensures .0) (m .before .magnitude2 .ensures .0)
+    (m .multiplied .result) (m .multiplied .ensures) _ _ _ (a .upper) (c .before .before .low-bits .ensures)
     (c .before .exceeds .ensures) (c .overflow-bit .ensures) (c .before .before .before .if2 .left)
 
 pub mul-spec : {M : Type 1} → statement M

@@ -10,7 +10,8 @@ returns c =
     let y = c .before .before in
     let first = y .before .before in
     let a = first .before .args in
-    c .add-lower .ensures ∙ sum-law (a .rule) (a .b) (a .a) _ _ _ (a .neg) (first .is-negative .ensures) (y .before .addend-of .ensures) (y .addend-of2 .ensures)
+    c .add-lower .ensures
+    ∙ sum-law (a .rule) (a .b) (a .a) _ _ _ (a .neg) (first .is-negative .ensures) (y .before .addend-of .ensures) (y .addend-of2 .ensures)
 
 returns-2 : tie.Need-returns-2
 returns-2 c =
