@@ -79,7 +79,7 @@ pub fn exceeds(h: u32, neg: bool, m: u64) -> bool
 pub fn either_least(h: u32, b: u32, a: u32) -> bool
     ensures { λ r. ⌜ r ≡ eitherLeast h b a ⌝ }
 {
-    b == h || a == h
+    (b == h) | (a == h)
 }
 
 // What 01's rows give for a least operand: the least word, and overflow.
