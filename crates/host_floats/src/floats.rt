@@ -22,11 +22,12 @@ ghost use Rattle.host_floats.specs.Double.{inwardOf};
 ghost use Rattle.host_floats.specs.Buffers.{wordSize, floatSize, inwardEntry, floatEntries, replyTo, bytesOf};
 ghost use Rattle.host_floats.specs.Buffers.{floatsTurn, Turns};
 
-// What an f64 says under a rule.
-fn entry(rule: Rule, bits: u64) -> Entry
-    ensures { λ r. ⌜ (r ≡ inwardEntry (inwardOf rule bits)) × (r .rounded ≤ 1) ⌝ }
+// What the f64 at a place says under a rule.
+fn entry_at(rule: Rule, floats: &[u8], at: usize) -> Entry
+    requires { ⌜ at + floatSize ≤ length (now floats) ⌝ }
+    ensures { λ r. ⌜ (r ≡ inwardEntry (inwardOf rule (eightAt (now (floats .entry)) at))) × (r .rounded ≤ 1) ⌝ }
 {
-    match f64_to_word(rule, bits) {
+    match f64_to_word(rule, eight_at(floats, at)) {
         Inward::Exact(word) => Entry {
             refusal: 0,
             bits: word as u64,
@@ -43,14 +44,6 @@ fn entry(rule: Rule, bits: u64) -> Entry
             rounded: 0,
         },
     }
-}
-
-// What the f64 at a place says.
-fn entry_at(rule: Rule, floats: &[u8], at: usize) -> Entry
-    requires { ⌜ at + floatSize ≤ length (now floats) ⌝ }
-    ensures { λ r. ⌜ (r ≡ inwardEntry (inwardOf rule (eightAt (now (floats .entry)) at))) × (r .rounded ≤ 1) ⌝ }
-{
-    entry(rule, eight_at(floats, at))
 }
 
 // The whole buffer looked through.

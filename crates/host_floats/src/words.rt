@@ -19,11 +19,12 @@ ghost use Rattle.host_floats.specs.Double.{outwardOf};
 ghost use Rattle.host_floats.specs.Buffers.{wordSize, floatSize, outwardEntry, wordEntries, replyTo, bytesOf};
 ghost use Rattle.host_floats.specs.Buffers.{wordsTurn, Turns};
 
-// What a word says.
-fn entry(word: u32) -> Entry
-    ensures { λ r. ⌜ r ≡ outwardEntry (outwardOf word) ⌝ }
+// What the word at a place says.
+fn entry_at(words: &[u8], at: usize) -> Entry
+    requires { ⌜ at + wordSize ≤ length (now words) ⌝ }
+    ensures { λ r. ⌜ r ≡ outwardEntry (outwardOf (fourAt (now (words .entry)) at)) ⌝ }
 {
-    match word_to_f64(word) {
+    match word_to_f64(four_at(words, at)) {
         Outward::Float(x) => Entry {
             refusal: 0,
             bits: f64::to_bits(x),
@@ -35,14 +36,6 @@ fn entry(word: u32) -> Entry
             rounded: 0,
         },
     }
-}
-
-// What the word at a place says.
-fn entry_at(words: &[u8], at: usize) -> Entry
-    requires { ⌜ at + wordSize ≤ length (now words) ⌝ }
-    ensures { λ r. ⌜ r ≡ outwardEntry (outwardOf (fourAt (now (words .entry)) at)) ⌝ }
-{
-    entry(four_at(words, at))
 }
 
 // The whole buffer looked through.
