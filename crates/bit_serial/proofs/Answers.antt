@@ -20,8 +20,8 @@ use Rattle.float.specs.declared.Flagged.{Flagged}
 use Rattle.float.specs.Word.{negative, biased, mantissa, proper}
 use Rattle.float.specs.Cut.{cutSize, cut}
 use Rattle.float.proofs.Powers.{parted}
-use Rattle.float.proofs.Jams.{stands-cut}
-use Rattle.float.proofs.Signs.{cut-sign, cut-scaled}
+use Rattle.float.proofs.cut.Jams.{stands-cut}
+use Rattle.float.proofs.cut.Signs.{cut-sign, cut-scaled}
 use Rattle.bit_serial.specs.declared.multiply.Product.{Product}
 use Rattle.bit_serial.specs.declared.divide.Division.{Division}
 use Rattle.bit_serial.specs.declared.Answer.the-variants.{Word, Refused}

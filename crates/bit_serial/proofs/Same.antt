@@ -27,10 +27,10 @@ use Rattle.float.specs.Cut.{cut}
 use Rattle.float.specs.Float.{mul as fmul, div as fdiv}
 use Rattle.float.specs.Jam.{Jammed}
 use Rattle.float.proofs.Powers.{moved, parted}
-use Rattle.float.proofs.Jams.{Stands, stands-cut}
-use Rattle.float.proofs.ProductCut.{stands-scale, stands-of}
-use Rattle.float.proofs.Signs.{cut-sign}
-use Rattle.float.proofs.Proper.{proper-norm}
+use Rattle.float.proofs.cut.Jams.{Stands, stands-cut}
+use Rattle.float.proofs.product.ProductCut.{stands-scale, stands-of}
+use Rattle.float.proofs.cut.Signs.{cut-sign}
+use Rattle.float.proofs.word.Proper.{proper-norm}
 use Rattle.bit_serial.specs.declared.Answer.{Answer}
 use Rattle.bit_serial.specs.declared.Answer.the-variants.{Word, Refused}
 use Rattle.bit_serial.specs.Answer.{stepsIn}

@@ -18,10 +18,10 @@ use Rattle.float.specs.declared.Flagged.{Flagged}
 use Rattle.float.specs.Word.{negative, biased, mantissa, size88}
 use Rattle.float.specs.Cut.{lost, kept, mantissaOf, digitsOf, stored, cutSize, cut}
 use Rattle.float.proofs.Powers.{parted}
-use Rattle.float.proofs.Pair.{cuts-one, kept-le}
-use Rattle.float.proofs.Jams.{stands-cut}
-use Rattle.float.proofs.Signs.{cut-sign}
-use Rattle.float.proofs.Values.{cut-stored, packed-mantissa, packed-biased, error-kept, digits-near}
+use Rattle.float.proofs.cut.Pair.{cuts-one, kept-le}
+use Rattle.float.proofs.cut.Jams.{stands-cut}
+use Rattle.float.proofs.cut.Signs.{cut-sign}
+use Rattle.float.proofs.cut.Values.{cut-stored, packed-mantissa, packed-biased, error-kept, digits-near}
 use Rattle.float.proofs.Results.{kept-big, mantissa-big}
 use Rattle.decimals.specs.declared.bring.Brought.{Brought}
 use Rattle.decimals.specs.declared.bring.Brought.the-variants.{Exact, Rounded, Refused}

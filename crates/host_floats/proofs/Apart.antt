@@ -10,7 +10,7 @@ use lib.Pow.{pow-pos}
 use lib.Ieee.{Float, nan, inf, fin, up, down}
 use lib.Ieee.Fits.{down-pos, up-pos}
 use Rattle.float.specs.Word.{negative, mantissa, size88, value}
-use Rattle.float.proofs.Kept.{same-word}
+use Rattle.float.proofs.cut.Kept.{same-word}
 use Rattle.host_floats.specs.Values.{HasWord, Endless, IsMinusZero, Large, Small}
 use Rattle.host_floats.proofs.Signs.{of-signed, parted}
 use Rattle.host_floats.proofs.WordSizes.{proper-cases, size-zero, size-some, size-lt}

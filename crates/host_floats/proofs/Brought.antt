@@ -27,11 +27,11 @@ use Rattle.float.specs.Cut.{below0}
 use Rattle.float.specs.Exact.{CutsBy}
 use Rattle.float.specs.Float.{Result}
 use Rattle.float.specs.Nearest.{PairBy}
-use Rattle.float.proofs.Signs.{cut-sign}
+use Rattle.float.proofs.cut.Signs.{cut-sign}
 use Rattle.float.proofs.Results.{cut-result}
 use Rattle.float.proofs.Steps.{exactly}
 use Rattle.float.proofs.Moved.{stored-as-is}
-use Rattle.float.proofs.RulePair.{one-pair-by, a-pair-by}
+use Rattle.float.proofs.cut.RulePair.{one-pair-by, a-pair-by}
 use Rattle.host_floats.specs.Values.{HasWord, Endless, IsMinusZero, Small, PairOf, Signed, BroughtTo, LargeBy}
 use Rattle.host_floats.specs.Double.{doubleSign, doubleField, doubleFraction, doubleBits, broughtOf, inwardOf}
 use Rattle.host_floats.specs.declared.entry.Inward.{Inward}

@@ -16,8 +16,8 @@ use Rattle.terms.specs.declared.Refusal.the-variants.{NotFinite, TooLarge, TooS
 use Rattle.terms.specs.declared.Rule.{Rule}
 use Rattle.float.specs.Word.{negative, mantissa, exponent, size88, value, FloatWord}
 use Rattle.float.proofs.Moved.{word-size}
-use Rattle.float.proofs.Kept.{same-word}
-use Rattle.float.proofs.RulePair.{one-pair-by}
+use Rattle.float.proofs.cut.Kept.{same-word}
+use Rattle.float.proofs.cut.RulePair.{one-pair-by}
 use Rattle.host_floats.specs.Values.{HasWord, Endless, IsMinusZero, Small, BroughtTo, LargeBy}
 use Rattle.float.specs.declared.Flagged.{Flagged}
 use Rattle.host_floats.specs.Double.{doubleField, doubleBits, broughtOf, inwardOf}

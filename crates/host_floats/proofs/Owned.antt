@@ -17,8 +17,8 @@ use Rattle.whole.proofs.Differences.{either}
 use Rattle.whole.proofs.Signs.{times}
 use Rattle.terms.specs.declared.Rule.{Rule}
 use Rattle.float.specs.Word.{negative, biased, mantissa, size88, value, FloatWord}
-use Rattle.float.proofs.Signs.{alone}
-use Rattle.float.proofs.Kept.{own-value}
+use Rattle.float.proofs.cut.Signs.{alone}
+use Rattle.float.proofs.cut.Kept.{own-value}
 use Rattle.host_floats.specs.Double.{doubleSign, doubleField, doubleFraction, doubleBits, broughtOf}
 use Rattle.host_floats.proofs.Patterns.{joined, leading-many, bits-value, rejoined}
 use Rattle.host_floats.proofs.WordSizes.{proper-cases}

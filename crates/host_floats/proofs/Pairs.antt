@@ -18,8 +18,8 @@ use Rattle.terms.specs.declared.Rule.the-variants.{Cut, Nearest}
 use Rattle.float.specs.Word.{mantissa, exponent, size88}
 use Rattle.float.specs.Cut.{lastPlace}
 use Rattle.float.specs.Nearest.{belowMark, aboveMark, Between, PairBy}
-use Rattle.float.proofs.Nearest.{mark-least, mark-more, least-or-more}
-use Rattle.float.proofs.RulePair.{rescaled}
+use Rattle.float.proofs.cut.NearPair.{mark-least, mark-more, least-or-more}
+use Rattle.float.proofs.cut.RulePair.{rescaled}
 use Rattle.float.proofs.Moved.{word-size}
 use Rattle.float.proofs.Steps.{size-lt}
 

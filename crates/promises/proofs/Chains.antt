@@ -18,7 +18,7 @@ use Rattle.float.specs.Float.{Result, add, sub, mul, div}
 use Rattle.float.specs.Convert.{chsf}
 use Rattle.float.proofs.Results.{add-result, sub-result, mul-result, div-result}
 use Rattle.float.proofs.Order.{add-keeps, sub-keeps, sub-turns, mul-order, div-order}
-use Rattle.float.proofs.SignChange.{chsf-word, chsf-turns}
+use Rattle.float.proofs.convert.SignChange.{chsf-word, chsf-turns}
 use Rattle.stack.specs.Stack.{tos, bytesOf}
 use Rattle.stack.proofs.Words.{number-bytes}
 use Rattle.codes.specs.declared.FloatOp.the-variants.{Add as FAdd, Sub as FSub, Mul as FMul, Div as FDiv}

@@ -8,7 +8,7 @@ use Rattle.terms.specs.declared.Rule.{Rule}
 use Rattle.terms.specs.declared.Rule.the-variants.{Cut, Nearest}
 use Rattle.float.specs.Word.{value}
 use Rattle.float.specs.Float.{sub}
-use Rattle.float.proofs.Close.{close-difference}
+use Rattle.float.proofs.sum.Close.{close-difference}
 use Rattle.codes.specs.Codes.{decoded}
 use Rattle.chip.specs.Status.{statusOf}
 use Rattle.chip.specs.Commands.{floats}

@@ -26,7 +26,7 @@ use Rattle.float.specs.Cut.{cut, below0}
 use Rattle.float.specs.Exact.{CutsBy}
 use Rattle.float.specs.Float.{Result}
 use Rattle.float.specs.Nearest as near
-use Rattle.float.proofs.Signs.{cut-sign}
+use Rattle.float.proofs.cut.Signs.{cut-sign}
 use Rattle.float.proofs.Results.{cut-result}
 use Rattle.float.proofs.Steps.{exactly}
 use Rattle.float.proofs.Moved.{stored-as-is}

@@ -18,14 +18,14 @@ use Rattle.float.specs.Cut.{cut}
 use Rattle.float.specs.Float.{add, sub, mul, div}
 use Rattle.float.specs.Convert.{fltd, flts, fix, chsf, wholePart as whole-of}
 use Rattle.float.specs.Exact.{Fixes}
-use Rattle.float.proofs.OnePair.{a-pair, one-pair}
-use Rattle.float.proofs.Signs.{times-size}
+use Rattle.float.proofs.cut.OnePair.{a-pair, one-pair}
+use Rattle.float.proofs.cut.Signs.{times-size}
 use Rattle.float.proofs.Order.{size-pos, div-cut}
 use Rattle.float.proofs.Steps.{add-exactly, sub-exactly, mul-exactly, div-exactly, div-by-zero}
 use Rattle.float.proofs.Results.{add-result, sub-result, mul-result, div-result, fltd-result, flts-result}
-use Rattle.float.proofs.SignChange.{chsf-word, chsf-value}
-use Rattle.float.proofs.Kept.{own-value, same-word}
-use Rattle.float.proofs.Conversions.{flts-exact, fltd-exactly, fltd-no-error, flts-no-error, flts-either, whole-part, fix-law}
+use Rattle.float.proofs.convert.SignChange.{chsf-word, chsf-value}
+use Rattle.float.proofs.cut.Kept.{own-value, same-word}
+use Rattle.float.proofs.convert.Conversions.{flts-exact, fltd-exactly, fltd-no-error, flts-no-error, flts-either, whole-part, fix-law}
 use Rattle.promises.specs.FloatWords.{withSign, below0, mantissa, size88, value, FloatWord, exactSum, exactDifference, exactProduct, dividend, divisor}
 use Rattle.promises.specs.FloatResults.{clean, ExactlyBy, integer, wholePart, Truncated}
 use Rattle.promises.specs.Exact.{Operations, ResultWords, Exact}

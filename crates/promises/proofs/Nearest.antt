@@ -3,11 +3,11 @@ use mathlib.Core.Path.{_≡_, refl}
 use mathlib.Core.List.{_++_}
 use Rattle.terms.specs.declared.Rule.{Rule}
 use Rattle.terms.specs.declared.Rule.the-variants.{Cut, Nearest}
-use Rattle.float.proofs.RulePair.{a-pair-by, one-pair-by}
-use Rattle.float.proofs.NoNearer.{no-nearer}
+use Rattle.float.proofs.cut.RulePair.{a-pair-by, one-pair-by}
+use Rattle.float.proofs.cut.NoNearer.{no-nearer}
 use Rattle.float.proofs.Results.{fltd-result}
-use Rattle.float.proofs.Conversions.{fltd-no-error}
-use Rattle.float.proofs.RootExact.{one-root-by, root-exactly}
+use Rattle.float.proofs.convert.Conversions.{fltd-no-error}
+use Rattle.float.proofs.root.RootExact.{one-root-by, root-exactly}
 use Rattle.codes.specs.Codes.{decoded}
 use Rattle.chip.specs.Step.{carried, commandUnder}
 use Rattle.promises.specs.Stack.{bytesOf, zeros}

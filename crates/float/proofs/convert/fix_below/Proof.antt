@@ -4,7 +4,7 @@ use mathlib.Core.Bool.{true, false}
 use Prim.Native.Nat.{ℕ, _-_, _*_, _<_}
 use native.Mathlib.Nat.{mod-lt}
 use native.Mathlib.Omega.{arith}
-use Rattle.float.proofs.Fix.{fix-over, fix-within}
+use Rattle.float.proofs.convert.Fix.{fix-over, fix-within}
 use borrow.Author.Needs.{needs}
 use Rattle.float.proofs.convert.fix_below.Statement.{statement}
 use Rattle.float.proofs.convert.fix_below.Tie as tie

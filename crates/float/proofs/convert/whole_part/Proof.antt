@@ -1,6 +1,6 @@
 -- `float::convert::whole_part` meets its contract: a shift up, a shift down, or nothing left. Assumes nothing.
 use borrow.Author.Needs.{needs}
-use Rattle.float.proofs.Fix.{part-up, part-down, part-none}
+use Rattle.float.proofs.convert.Fix.{part-up, part-down, part-none}
 use Rattle.float.proofs.convert.whole_part.Statement.{statement}
 use Rattle.float.proofs.convert.whole_part.Tie as tie
 

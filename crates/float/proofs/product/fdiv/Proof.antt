@@ -1,7 +1,7 @@
 -- `float::product::fdiv` meets its contract: the quotient to 64 bits stands for the fraction. Assumes nothing.
 use mathlib.Core.Path.{_∙_, ap₂}
 use lib.Ieee.{unlike}
-use Rattle.float.proofs.ProductCut.{div-zero, div-law}
+use Rattle.float.proofs.product.ProductCut.{div-zero, div-law}
 use borrow.Author.Needs.{needs}
 use Rattle.float.proofs.product.fdiv.Statement.{statement}
 use Rattle.float.proofs.product.fdiv.Tie as tie

@@ -4,7 +4,7 @@ use native.Mathlib.Nat.{lt-of-lt-of-le}
 use lib.Dec.{lit≤}
 use lib.Ieee.{unlike}
 use Rattle.float.proofs.Powers.{mul-digits}
-use Rattle.float.proofs.ProductCut.{mul-law}
+use Rattle.float.proofs.product.ProductCut.{mul-law}
 use borrow.Author.Needs.{needs}
 use Rattle.float.proofs.product.fmul.Statement.{statement}
 use Rattle.float.proofs.product.fmul.Tie as tie

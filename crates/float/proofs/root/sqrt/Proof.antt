@@ -5,8 +5,8 @@ use native.Mathlib.Nat.{lt-of-lt-of-le}
 use native.Mathlib.Omega.{arith}
 use lib.Dec.{lit<}
 use lib.Pow.{shl-exact}
-use Rattle.float.proofs.WholeRoot.{root-lt}
-use Rattle.float.proofs.RootCut.{root-negative, root-zero, root-law, raised}
+use Rattle.float.proofs.root.WholeRoot.{root-lt}
+use Rattle.float.proofs.root.RootCut.{root-negative, root-zero, root-law, raised}
 use borrow.Author.Needs.{needs}
 use Rattle.float.proofs.root.sqrt.Statement.{statement}
 use Rattle.float.proofs.root.sqrt.Tie as tie

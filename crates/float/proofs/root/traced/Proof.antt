@@ -1,6 +1,6 @@
 -- `float::root::traced` meets its contract: a root is above s and a half exactly where more than s is left over the square. Assumes nothing.
 use borrow.Author.Needs.{needs}
-use Rattle.float.proofs.Means.{trace-whole, trace-low, trace-high}
+use Rattle.float.proofs.root.Means.{trace-whole, trace-low, trace-high}
 use Rattle.float.proofs.root.traced.Statement.{statement}
 use Rattle.float.proofs.root.traced.Tie as tie
 

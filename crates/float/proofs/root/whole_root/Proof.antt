@@ -1,6 +1,6 @@
 -- `float::root::whole_root` meets its contract: a mean is never below the root, and where it does not fall the last one is the root. Assumes nothing.
 use lib.Dec.{lit<}
-use Rattle.float.proofs.Means.{Falling}
+use Rattle.float.proofs.root.Means.{Falling}
 use Rattle.float.proofs.root.whole_root.Statement.{statement}
 use Rattle.float.proofs.root.whole_root.Tie as tie
 

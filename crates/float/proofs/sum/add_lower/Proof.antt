@@ -1,6 +1,6 @@
 -- `float::sum::add_lower` meets its contract: the smaller addend, shifted, is added to the greater or taken from it. Assumes nothing.
 use mathlib.Core.Path.{_∙_}
-use Rattle.float.proofs.SumCut.{Lower, sum-fits, lower}
+use Rattle.float.proofs.sum.SumCut.{Lower, sum-fits, lower}
 use borrow.Author.Needs.{needs}
 use Rattle.float.proofs.sum.add_lower.Statement.{statement}
 use Rattle.float.proofs.sum.add_lower.Tie as tie

@@ -1,6 +1,6 @@
 -- `float::sum::add_signed` meets its contract: the addends are the words', and a sum does not ask for their order. Assumes nothing.
 use mathlib.Core.Path.{_∙_}
-use Rattle.float.proofs.SumCut.{sum-law, swapped-law}
+use Rattle.float.proofs.sum.SumCut.{sum-law, swapped-law}
 use borrow.Author.Needs.{needs}
 use Rattle.float.proofs.sum.add_signed.Statement.{statement}
 use Rattle.float.proofs.sum.add_signed.Tie as tie

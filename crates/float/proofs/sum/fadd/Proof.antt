@@ -1,6 +1,6 @@
 -- `float::sum::fadd` meets its contract: A's magnitude is added with its own sign. Assumes nothing.
 use mathlib.Core.Path.{_∙_}
-use Rattle.float.proofs.SumCut.{add-law}
+use Rattle.float.proofs.sum.SumCut.{add-law}
 use borrow.Author.Needs.{needs}
 use Rattle.float.proofs.sum.fadd.Statement.{statement}
 use Rattle.float.proofs.sum.fadd.Tie as tie

@@ -1,6 +1,6 @@
 -- `float::sum::fsub` meets its contract: A's magnitude is added with the other sign. Assumes nothing.
 use mathlib.Core.Path.{_∙_}
-use Rattle.float.proofs.SumCut.{sub-law}
+use Rattle.float.proofs.sum.SumCut.{sub-law}
 use borrow.Author.Needs.{needs}
 use Rattle.float.proofs.sum.fsub.Statement.{statement}
 use Rattle.float.proofs.sum.fsub.Tie as tie

@@ -5,7 +5,7 @@ use lib.Pow.{pow-pos}
 use borrow.Author.Needs.{needs}
 use Rattle.terms.specs.declared.Rule.{Rule}
 use Rattle.float.specs.Cut.{whole}
-use Rattle.float.proofs.NearWhole.{closest-up, closest-stays}
+use Rattle.float.proofs.cut.NearWhole.{closest-up, closest-stays}
 use Rattle.host_floats.proofs.entry.steps.Statement.{statement}
 use Rattle.host_floats.proofs.entry.steps.Tie as tie
 

@@ -10,10 +10,10 @@ use lib.Pow.{pow-add, pow-pos, pow-mono}
 use Rattle.float.specs.Nearest.{belowMark, Marks, NearPair, apart, NoNearer}
 use Rattle.float.proofs.Powers.{sub-mul}
 use Rattle.whole.proofs.Differences.{either, above, beneath}
-use Rattle.float.proofs.OnePair.{scaled, other, at-one}
-use Rattle.float.proofs.NearWhole.{sides}
-use Rattle.float.proofs.Nearest.{NearAt, mark-least, mark-more, least-or-more, lessened}
-use Rattle.float.proofs.RulePair.{to-near}
+use Rattle.float.proofs.cut.OnePair.{scaled, other, at-one}
+use Rattle.float.proofs.cut.NearWhole.{sides}
+use Rattle.float.proofs.cut.NearPair.{NearAt, mark-least, mark-more, least-or-more, lessened}
+use Rattle.float.proofs.cut.RulePair.{to-near}
 
 -- ---- on plain numbers: n lies no further than half of u from a, or a quarter
 beyond : (n a c u : ℕ) → a + u ≤ c → 4 * n ≤ 4 * a + 2 * u → apart n a ≤ apart n c

@@ -14,11 +14,11 @@ use Rattle.float.specs.Cut.{cutSize}
 use Rattle.float.specs.Traced.{Traced}
 use Rattle.float.specs.Root.{wholeRoot, rootHalves, radicand, sqrt}
 use Rattle.float.proofs.Powers.{moved}
-use Rattle.float.proofs.Proper.{proper-norm}
-use Rattle.float.proofs.Pair.{cut-zero}
-use Rattle.float.proofs.Jams.{Stands, stands-cut}
-use Rattle.float.proofs.Means.{trace-large}
-use Rattle.float.proofs.WholeRoot.{is-root, root-ge, root-lt, halves-square, halves-cases}
+use Rattle.float.proofs.word.Proper.{proper-norm}
+use Rattle.float.proofs.cut.Pair.{cut-zero}
+use Rattle.float.proofs.cut.Jams.{Stands, stands-cut}
+use Rattle.float.proofs.root.Means.{trace-large}
+use Rattle.float.proofs.root.WholeRoot.{is-root, root-ge, root-lt, halves-square, halves-cases}
 
 squared : (a p : ℕ) → (a * p) * (a * p) ≡ a * a * (p * p)
 squared a p = mul-mul-mul-comm a p a p

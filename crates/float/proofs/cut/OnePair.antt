@@ -14,7 +14,7 @@ use lib.Ieee.Digits.{size-lt}
 use Rattle.whole.proofs.Differences.{either, sub-lt, sub-ge, same, above, beneath, parts}
 use Rattle.terms.specs.declared.Rule.the-variants.{Cut}
 use Rattle.float.specs.Cut.{lastPlace, Pair, kept, lost}
-use Rattle.float.proofs.Pair.{PairAt, cuts-only, cuts-one}
+use Rattle.float.proofs.cut.Pair.{PairAt, cuts-only, cuts-one}
 
 -- ---- 2 ^ (k - J), as a fraction
 pub scale : (k J : ℕ) → up (subℕ k J) * 2 ^ J ≡ 2 ^ k * down (subℕ k J)

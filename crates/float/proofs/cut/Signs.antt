@@ -13,8 +13,8 @@ use Rattle.whole.proofs.Differences.{above, beneath, le-differences, le-parts}
 use Rattle.whole.proofs.Signs.{sign-difference, times}
 use Rattle.terms.specs.declared.Rule.{Rule}
 use Rattle.float.specs.Cut.{below0, cutSize, cut}
-use Rattle.float.proofs.Pair.{cut-zero}
-use Rattle.float.proofs.Jams.{stands-cut}
+use Rattle.float.proofs.cut.Pair.{cut-zero}
+use Rattle.float.proofs.cut.Jams.{stands-cut}
 
 pub signed-parts : (z : ℤ) → z ≡ withSign (below0 z) (natAbs z)
 signed-parts (pos n) = refl

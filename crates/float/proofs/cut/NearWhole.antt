@@ -11,7 +11,7 @@ use lib.Dec.{ltb}
 use borrow.Author.Tests.{ltb-true, ltb-false}
 use lib.Ieee.{nearest}
 use lib.Ieee.Nearest.{closest}
-use Rattle.float.proofs.Jams.{compare-lt, compare-eq, compare-gt}
+use Rattle.float.proofs.cut.Jams.{compare-lt, compare-eq, compare-gt}
 
 -- q is the nearest whole number to n / u, of two the even one
 pub record Nearby (n u q : ℕ) : Type 0 where

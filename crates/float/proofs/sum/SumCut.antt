@@ -17,10 +17,10 @@ use Rattle.float.specs.Cut.{cutSize, cut}
 use Rattle.float.specs.Float.{add, sub}
 use Rattle.float.specs.Jam.{Jammed}
 use Rattle.float.specs.Addend.{Addend, AddendOf, addendSize}
-use Rattle.float.proofs.Jams.{stands-cut}
-use Rattle.float.proofs.Signs.{cut-scaled}
-use Rattle.float.proofs.SumStands.{Normal, sum-stands, diff-stands}
-use Rattle.float.proofs.Proper.{proper-cases}
+use Rattle.float.proofs.cut.Jams.{stands-cut}
+use Rattle.float.proofs.cut.Signs.{cut-scaled}
+use Rattle.float.proofs.sum.SumStands.{Normal, sum-stands, diff-stands}
+use Rattle.float.proofs.word.Proper.{proper-cases}
 
 pub addend-zero : (w : ℕ) → w ≡ 0 → AddendOf w 0
 unfolding size88

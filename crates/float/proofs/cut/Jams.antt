@@ -18,7 +18,7 @@ use Rattle.terms.specs.declared.Rule.the-variants.{Cut, Nearest}
 use Rattle.float.specs.Cut.{whole, lost, kept, cutSize}
 use Rattle.float.specs.Jam.{Jammed}
 use Rattle.float.proofs.Powers.{sub-mul}
-use Rattle.float.proofs.Pair.{whole-same, lost-is, cuts-one}
+use Rattle.float.proofs.cut.Pair.{whole-same, lost-is, cuts-one}
 
 -- t stands for n in units of u: n is t units, or t is odd and n lies strictly between t - 1 and t + 1 units
 abbrev pub Jam : ℕ → ℕ → ℕ → Type 0

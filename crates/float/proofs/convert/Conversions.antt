@@ -23,10 +23,10 @@ use Rattle.float.specs.Cut.{below0, cutSize, cut}
 use Rattle.float.specs.Convert.{integer, fltd, flts, wholePart, complement, fix}
 use Rattle.float.specs.Exact.{ExactlyBy, Truncated, Fixes}
 use Rattle.float.proofs.Powers.{parted}
-use Rattle.float.proofs.Signs.{signed-parts, alone, times-size, cut-sign}
-use Rattle.float.proofs.Values.{grid, cut-value}
+use Rattle.float.proofs.cut.Signs.{signed-parts, alone, times-size, cut-sign}
+use Rattle.float.proofs.cut.Values.{grid, cut-value}
 use Rattle.float.proofs.Steps.{exactly, no-error-within}
-use Rattle.float.proofs.Kept.{fits-exact, own-value}
+use Rattle.float.proofs.cut.Kept.{fits-exact, own-value}
 use Rattle.float.proofs.Results.{flts-result}
 
 -- ---- FLTD and FLTS

@@ -18,9 +18,9 @@ use Rattle.float.specs.Cut.{cutSize, cut}
 use Rattle.float.specs.Float.{mul, div}
 use Rattle.float.specs.Jam.{Jammed}
 use Rattle.float.proofs.Powers.{moved, parted}
-use Rattle.float.proofs.Jams.{Jam, Stands, stands-cut, jam-of, jam-scale}
-use Rattle.float.proofs.Signs.{cut-sign, cut-scaled}
-use Rattle.float.proofs.Proper.{proper-norm}
+use Rattle.float.proofs.cut.Jams.{Jam, Stands, stands-cut, jam-of, jam-scale}
+use Rattle.float.proofs.cut.Signs.{cut-sign, cut-scaled}
+use Rattle.float.proofs.word.Proper.{proper-norm}
 
 pub stands-scale : (n u t c : ℕ) → 0 < c → Stands n u t → Stands (n * c) (u * c) t
 stands-scale n u t c C (inl e) = inl (ap (λ (z : ℕ). z * c) e ∙ mul-assoc t u c)

@@ -25,18 +25,18 @@ use Rattle.float.specs.Float.{Result}
 use Rattle.float.specs.Order.{Le}
 use Rattle.float.specs.Root.{wholeRoot, rootHalves, radicand, sqrt, squareExponent, RootPair, SquareMarks, RootBy, RootCutsBy, ExactlyRootBy}
 use Rattle.float.proofs.Powers.{parted}
-use Rattle.float.proofs.Signs.{signed-le, le-signed, cut-scaled}
-use Rattle.float.proofs.Pair.{PairAt, kept-le, cuts-only, cuts-one, grid-mono}
-use Rattle.float.proofs.Jams.{stands-cut}
-use Rattle.float.proofs.OnePair.{to-le, from-le, to-lt, from-lt}
-use Rattle.float.proofs.Values.{packed-mantissa, packed-sign, digits-near, cut-stored, cut-value}
+use Rattle.float.proofs.cut.Signs.{signed-le, le-signed, cut-scaled}
+use Rattle.float.proofs.cut.Pair.{PairAt, kept-le, cuts-only, cuts-one, grid-mono}
+use Rattle.float.proofs.cut.Jams.{stands-cut}
+use Rattle.float.proofs.cut.OnePair.{to-le, from-le, to-lt, from-lt}
+use Rattle.float.proofs.cut.Values.{packed-mantissa, packed-sign, digits-near, cut-stored, cut-value}
 use Rattle.float.proofs.Steps.{steps, lost-least, place-most, size-lt, size-ge}
 use Rattle.float.proofs.Results.{zero-result, cut-result, kept-big, mantissa-big}
-use Rattle.float.proofs.Nearest.{near-one}
-use Rattle.float.proofs.NearRoot.{squares-of, near-at, one-near-root}
-use Rattle.float.proofs.Kept.{own-value}
-use Rattle.float.proofs.WholeRoot.{is-root, root-ge, root-lt, halves-square, halves-near, halves-mono}
-use Rattle.float.proofs.RootCut.{root-negative, root-cut, root-none}
+use Rattle.float.proofs.cut.NearPair.{near-one}
+use Rattle.float.proofs.root.NearRoot.{squares-of, near-at, one-near-root}
+use Rattle.float.proofs.cut.Kept.{own-value}
+use Rattle.float.proofs.root.WholeRoot.{is-root, root-ge, root-lt, halves-square, halves-near, halves-mono}
+use Rattle.float.proofs.root.RootCut.{root-negative, root-cut, root-none}
 
 -- ---- the pair of the root of n * 2 ^ (j + j), at k digits
 abbrev pub RootAt : ℕ → ℕ → ℕ → ℕ → Type 0

@@ -11,7 +11,7 @@ use Rattle.terms.specs.declared.Rule.{Rule}
 use Rattle.float.specs.Cut.{cutSize, cut}
 use Rattle.float.specs.Convert.{integer, wholePart, complement, fix}
 use Rattle.float.proofs.Powers.{parted}
-use Rattle.float.proofs.Signs.{cut-sign}
+use Rattle.float.proofs.cut.Signs.{cut-sign}
 
 module _ (w m e : ℕ) (M : m ≡ mantissa w) (E : e ≡ biased w) (few : m < 16777216) (near : e < 128) where
   value : wholePart w ≡ m * 2 ^ e / 2 ^ 88

@@ -18,14 +18,14 @@ use Rattle.float.specs.Cut.{lost, kept, mantissaOf, digitsOf, packed, ze
 use Rattle.float.specs.Float.{exactDifference, sub}
 use Rattle.float.specs.Close.{Close, Lossless}
 use Rattle.float.proofs.Powers.{parted, sub-mul}
-use Rattle.float.proofs.Pair.{kept-le, cut-zero}
+use Rattle.float.proofs.cut.Pair.{kept-le, cut-zero}
 use Rattle.whole.specs.Signed.{withSign}
 use Rattle.whole.proofs.Differences.{either}
 use Rattle.whole.proofs.Signs.{zero-signed, opposite, sum-unlike, times}
-use Rattle.float.proofs.Proper.{proper-cases}
-use Rattle.float.proofs.Signs.{alone, cut-scaled}
-use Rattle.float.proofs.Values.{packed-mantissa, packed-biased, packed-sign, size-kept, error-in, error-under, settled, cut-stored}
-use Rattle.float.proofs.Kept.{fits-exact}
+use Rattle.float.proofs.word.Proper.{proper-cases}
+use Rattle.float.proofs.cut.Signs.{alone, cut-scaled}
+use Rattle.float.proofs.cut.Values.{packed-mantissa, packed-biased, packed-sign, size-kept, error-in, error-under, settled, cut-stored}
+use Rattle.float.proofs.cut.Kept.{fits-exact}
 use Rattle.float.proofs.Steps.{place-most}
 
 -- ---- fewer than 2 ^ 24 steps of 2 ^ k fine units are kept whole: the word has them, or with underflow 2 ^ 128 times as many

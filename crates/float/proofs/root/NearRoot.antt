@@ -11,10 +11,10 @@ use Rattle.float.specs.Nearest.{belowMark, aboveMark, Marks}
 use Rattle.float.specs.Root.{wholeRoot, rootHalves, squareExponent, SquareMarks, NearRoot}
 use Rattle.float.proofs.Powers.{parted}
 use Rattle.whole.proofs.Differences.{either, sum-differences, same, above, beneath, parts}
-use Rattle.float.proofs.OnePair.{scaled, other, down-pos}
-use Rattle.float.proofs.Nearest.{NearAt, near-only}
-use Rattle.float.proofs.RulePair.{rescaled}
-use Rattle.float.proofs.WholeRoot.{is-root, root-ge, halves-cases, halves-near}
+use Rattle.float.proofs.cut.OnePair.{scaled, other, down-pos}
+use Rattle.float.proofs.cut.NearPair.{NearAt, near-only}
+use Rattle.float.proofs.cut.RulePair.{rescaled}
+use Rattle.float.proofs.root.WholeRoot.{is-root, root-ge, halves-cases, halves-near}
 
 -- ---- the halves of a root beside 2 * y, and its square beside y * y
 halves-ge : (n y : ℕ) → y * y ≤ n → 2 * y ≤ rootHalves n

@@ -21,11 +21,11 @@ use Rattle.terms.specs.declared.Rule.{Rule}
 use Rattle.terms.specs.declared.Rule.the-variants.{Cut, Nearest}
 use Rattle.float.specs.Cut.{whole, lost, packed, stored, below0, cutSize, cut}
 use Rattle.float.proofs.Powers.{parted}
-use Rattle.float.proofs.Proper.{proper-cases}
-use Rattle.float.proofs.Pair.{whole-same, lost-is, cut-of, cut-zero}
-use Rattle.float.proofs.Jams.{same-cut, stands-cut}
-use Rattle.float.proofs.Signs.{signed-parts, nought, times-size, cut-sign}
-use Rattle.float.proofs.Values.{grid, error-in}
+use Rattle.float.proofs.word.Proper.{proper-cases}
+use Rattle.float.proofs.cut.Pair.{whole-same, lost-is, cut-of, cut-zero}
+use Rattle.float.proofs.cut.Jams.{same-cut, stands-cut}
+use Rattle.float.proofs.cut.Signs.{signed-parts, nought, times-size, cut-sign}
+use Rattle.float.proofs.cut.Values.{grid, error-in}
 
 -- ---- under either rule a whole number stays
 whole-one : (r : Rule) (q : ℕ) → whole r q 1 ≡ q

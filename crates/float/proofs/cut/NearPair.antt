@@ -11,9 +11,9 @@ use lib.Ieee.Nearest.{closest}
 use Rattle.terms.specs.declared.Rule.the-variants.{Cut, Nearest}
 use Rattle.float.specs.Cut.{lost, kept, mantissaOf, digitsOf}
 use Rattle.float.specs.Nearest.{belowMark, Marks}
-use Rattle.float.proofs.Pair.{PairAt, kept-le, lost-is, cuts-one}
+use Rattle.float.proofs.cut.Pair.{PairAt, kept-le, lost-is, cuts-one}
 use Rattle.float.proofs.Results.{kept-big}
-use Rattle.float.proofs.NearWhole.{Nearby, sides, closest-near, closest-only}
+use Rattle.float.proofs.cut.NearWhole.{Nearby, sides, closest-near, closest-only}
 
 -- ---- the marks of m, by m
 pub mark-least : (m : ℕ) → m ≡ 8388608 → belowMark m ≡ 4 * m - 1

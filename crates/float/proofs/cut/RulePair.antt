@@ -12,8 +12,8 @@ use Rattle.terms.specs.declared.Rule.the-variants.{Cut, Nearest}
 use Rattle.float.specs.Cut.{lastPlace, kept, lost, mantissaOf, digitsOf}
 use Rattle.float.specs.Nearest.{belowMark, aboveMark, Between, Marks, NearPair, PairBy}
 use Rattle.whole.proofs.Differences.{same, above, beneath, parts}
-use Rattle.float.proofs.OnePair.{scaled, other, down-pos, one-pair, a-pair}
-use Rattle.float.proofs.Nearest.{NearAt, near-one, near-only}
+use Rattle.float.proofs.cut.OnePair.{scaled, other, down-pos, one-pair, a-pair}
+use Rattle.float.proofs.cut.NearPair.{NearAt, near-one, near-only}
 
 -- ---- all three by one factor
 between-up : (n lo hi m c : ℕ) → 0 < c → Between n lo hi m → Between (n * c) (lo * c) (hi * c) m

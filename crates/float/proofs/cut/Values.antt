@@ -15,7 +15,7 @@ use Rattle.terms.specs.declared.Rule.{Rule}
 use Rattle.terms.specs.declared.Rule.the-variants.{Cut, Nearest}
 use Rattle.float.specs.Cut.{whole, lost, kept, mantissaOf, digitsOf, packed, errorAt, stored, cutSize}
 use Rattle.float.proofs.Powers.{parted}
-use Rattle.float.proofs.Pair.{whole-same, kept-le, normed, cut-zero}
+use Rattle.float.proofs.cut.Pair.{whole-same, kept-le, normed, cut-zero}
 
 -- ---- the fields of a packed word
 pub packed-mantissa : (s : Bool) (m k : ℕ) → m < 16777216 → mantissa (packed s m k) ≡ m

@@ -11,7 +11,7 @@ use lib.Dec.{T, ltb, ltb→lt, nltb→le}
 use lib.Pow.{pow-add, pow-pos, pow-mono}
 use Rattle.float.specs.Jam.{Jammed}
 use Rattle.float.proofs.Powers.{moved, parted, sub-mul}
-use Rattle.float.proofs.Jams.{Jam, Stands, jam-of, jam-scale, jam-add, jam-sub, jam-le}
+use Rattle.float.proofs.cut.Jams.{Jam, Stands, jam-of, jam-scale, jam-add, jam-sub, jam-le}
 
 -- m has 24 digits, or m and e are 0
 abbrev pub Normal : ℕ → ℕ → Type 0
