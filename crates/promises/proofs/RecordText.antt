@@ -36,4 +36,7 @@ record-text-reads-back rule Unknown payload h B = absurd h
 pub record-text-rows : RecordTextRows
 unfolding lineOf takeWords wordsFrom kindFrom codeFrom nameOf bytesOf numberFor codeOf hexFrom digitValue
     parseOf scanFrom bringOf size88 cut cutSize packed errorAt size
-record-text-rows = record { pushes = refl; others = refl }
+record-text-rows = record {
+  pushes = refl;
+  others = refl;
+}
