@@ -23,9 +23,9 @@ both {x} {y} {a} {b} {c} {p} {q} {r} h k = record {
   reads = k .reads ∙ ap (λ (l : List ℕ). l ++ y) (h .reads) ∙ append-assoc (take p a) x y;
 }
 
--- text that is another text
-pub told-as : {x y a b : List ℕ} {p q : ℕ} → x ≡ y → Adds x a b p q → Adds y a b p q
-told-as {a = a} {b = b} {p = p} {q = q} e h = subst (λ (t : List ℕ). Adds t a b p q) e h
+-- text added by another name
+pub told-as : {x y before after : List ℕ} {place new : ℕ} → x ≡ y → Adds x before after place new → Adds y before after place new
+told-as {before = before} {after = after} {place = place} {new = new} e h = subst (λ (t : List ℕ). Adds t before after place new) e h
 
 -- where all of a text is what stands before a place and a rest: with no rest it is added, and what the rest begins with comes next
 module _ {all rest after : List ℕ} {place : ℕ} (so-far : all ≡ take place after ++ rest) where
@@ -60,6 +60,10 @@ pub counted : {text before after : List ℕ} {new : ℕ} → Adds text before af
 counted {text} {before} {after} {new} h =
     let e : length (take new after) ≡ new = ap length (h .reads) ∙ sym (h .moved ∙ zero-add (length text)) in
     (omega (arith, e, length-take new after), sym e)
+
+-- and is what they hold, by another name
+pub at-front : {x y before after : List ℕ} {new : ℕ} → x ≡ y → Adds x before after 0 new → Counts new after × (take new after ≡ y)
+at-front e h = (counted h, h .reads ∙ e)
 
 -- as many as there are, where more are asked for
 pub take-least : (l : List ℕ) (n most : ℕ) → length l ≡ most → take (min n most) l ≡ take n l

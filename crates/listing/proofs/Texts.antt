@@ -1,12 +1,13 @@
--- A comparison of two texts that tells whether they are equal is `sameText`. Assumes nothing.
-use mathlib.Core.Path.{_≡_, refl, sym, ap₂, _∙_, subst}
+-- A comparison of two texts that tells whether they are equal is `sameText`, and the text for what is asked. Assumes nothing.
+use mathlib.Core.Path.{_≡_, refl, sym, ap, ap₂, _∙_, subst}
 use mathlib.Core.Bool.{Bool, true, false, _&&_}
 use mathlib.Core.List.{List, [], _∷_}
 use Prim.Native.Nat.{ℕ}
 use native.Mathlib.Omega.{arith}
 use borrow.Author.Tests.{eq-eqb, eqb-true}
 use lib.Dec.{eqb}
-use Rattle.listing.specs.Options.{sameText}
+use Rattle.listing.specs.declared.options.Asked.{Asked}
+use Rattle.listing.specs.Options.{sameText, textFor}
 
 and-both : (s t : Bool) → (s && t) ≡ true → (s ≡ true) × (t ≡ true)
 and-both true t e = (refl, e)
@@ -40,3 +41,8 @@ is-other l m r f e = go (sameText l m) (same-is l m)
 pub tells : (l m : List ℕ) (r : Bool) → (r ≡ true → l ≡ m) → (l ≡ m → r ≡ true) → sameText l m ≡ r
 tells l m true f g = is-same l m (f refl)
 tells l m false f g = is-other l m false g refl
+
+-- the text for what is asked, where that is known
+pub asked-as : (under : ℕ → ℕ → List ℕ → List ℕ) (input : List ℕ) {asked known : Asked} → asked ≡ known
+    → textFor under known input ≡ textFor under asked input
+asked-as under input e = ap (λ (a : Asked). textFor under a input) (sym e)

@@ -3,7 +3,7 @@ use mathlib.Core.Path.{sym, _∙_}
 use native.Mathlib.Omega.{arith}
 use borrow.Author.Needs.{needs}
 use denote.Ref.{now}
-use Rattle.listing.proofs.Adding.{counted, told-as}
+use Rattle.listing.proofs.Adding.{at-front}
 use Rattle.list_text.proofs.Printing.{trace-words, traces, lists}
 use Rattle.list_text.proofs.told.Statement.{statement}
 use Rattle.list_text.proofs.told.Tie as tie
@@ -18,20 +18,14 @@ returns c =
     let at-test = c .before .before .before in
     let at-word = at-test .before in
     let a = at-word .before .before .before .before .before .args in
-    let text = traces (a .words) (now (a .first)) (now (a .second)) (now (a .third)) (now (a .input))
-    (sym (at-word .is-trace .ensures) ∙ at-test .if1 .taken) (c .before .before .asked-of .ensures) in
-    let all = told-as text (c .trace .ensures) in
-    (counted all, all .reads)
+    at-front (traces (a .words) (now (a .first)) (now (a .second)) (now (a .third)) (now (a .input))
+    (sym (at-word .is-trace .ensures) ∙ at-test .if1 .taken) (c .before .before .asked-of .ensures)) (c .trace .ensures)
 
 returns-2 : tie.Need-returns-2
 returns-2 c =
-    let at-test = c .before .before .before in
-    let at-word = at-test .before in
-    let a = at-word .before .before .before .before .before .args in
-    let text = lists (a .words) (now (a .first)) (now (a .second)) (now (a .third)) (now (a .input))
-    (sym (at-word .is-trace .ensures) ∙ at-test .if1 .left) (c .before .before .asked-of2 .ensures) in
-    let all = told-as text (c .list .ensures) in
-    (counted all, all .reads)
+    let a = c .before .before .before .before .before .before .before .before .before .args in
+    at-front (lists (a .words) (now (a .first)) (now (a .second)) (now (a .third)) (now (a .input))
+    (sym (c .before .before .before .before .is-trace .ensures) ∙ c .before .before .before .if1 .left) (c .before .before .asked-of2 .ensures)) (c .list .ensures)
 
 pub told-spec : {M : Type 1} → statement M
 told-spec =
