@@ -3,6 +3,8 @@ use Prim.Native.Nat.{ℕ}
 use mathlib.Core.Bool.{Bool, true, false, _&&_, cond}
 use mathlib.Core.List.{List, [], _∷_}
 use lib.Dec.{eqb}
+use Rattle.terms.specs.declared.Rule.{Rule}
+use Rattle.terms.specs.declared.Rule.the-variants.{Cut, Nearest}
 use Rattle.listing.specs.Listing.{newline}
 use Rattle.listing.specs.declared.options.Asked.{Asked}
 use Rattle.listing.specs.declared.options.Asked.the-variants.{Under, Nothing}
@@ -18,9 +20,12 @@ sameText (x ∷ xs) (y ∷ ys) = eqb x y && sameText xs ys
 abbrev pub am9511Text : List ℕ
 am9511Text = 45 ∷ 45 ∷ 97 ∷ 109 ∷ 57 ∷ 53 ∷ 49 ∷ 49 ∷ []
 
--- `--nearest`
+-- `nearest`, and `--nearest`
+abbrev pub nearestWord : List ℕ
+nearestWord = 110 ∷ 101 ∷ 97 ∷ 114 ∷ 101 ∷ 115 ∷ 116 ∷ []
+
 abbrev pub nearestText : List ℕ
-nearestText = 45 ∷ 45 ∷ 110 ∷ 101 ∷ 97 ∷ 114 ∷ 101 ∷ 115 ∷ 116 ∷ []
+nearestText = 45 ∷ 45 ∷ nearestWord
 
 -- one option: the older part's mode, or the rule that rounds to nearest
 abbrev pub oneOf : List ℕ → Asked
@@ -45,3 +50,7 @@ usageText = 117 ∷ 115 ∷ 97 ∷ 103 ∷ 101 ∷ newline ∷ []
 abbrev pub textFor : (ℕ → ℕ → List ℕ → List ℕ) → Asked → List ℕ → List ℕ
 textFor under (Under mode rule) input = under mode rule input
 textFor under Nothing input = usageText
+
+-- the rule that a word names: `nearest`, else the cut
+abbrev pub ruleNamed : List ℕ → Rule
+ruleNamed word = cond (sameText word nearestWord) Nearest Cut

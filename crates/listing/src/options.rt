@@ -1,7 +1,8 @@
 // What the words behind the name of a listing program ask for: `--am9511` is mode 1 and `--nearest`
 // is rule 1; without them both are 0.
 ghost use mathlib.Core.Path.{_≡_};
-ghost use Rattle.listing.specs.Options.{askedOf};
+ghost use Rattle.listing.specs.Options.{askedOf, ruleNamed};
+use terms::Rule;
 
 // The numbers of a mode and a rule, or nothing that the programs do.
 pub enum Asked {
@@ -35,4 +36,14 @@ pub fn asked_of(words: usize, first: &[u8], second: &[u8]) -> Asked
         }
     }
     Asked::Nothing
+}
+
+// The rule that a word names: `nearest`, else the cut.
+pub fn rule_named(word: &[u8]) -> Rule
+    ensures { λ r. ⌜ r ≡ ruleNamed (now (word .entry)) ⌝ }
+{
+    if check::same(word, b"nearest") {
+        return Rule::Nearest;
+    }
+    Rule::Cut
 }

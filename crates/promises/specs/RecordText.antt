@@ -7,11 +7,10 @@ use mathlib.Core.List.{List, [], _∷_, map}
 use lib.ListN.{length, getD}
 use Rattle.terms.specs.declared.Rule.{Rule}
 use Rattle.terms.specs.declared.Rule.the-variants.{Cut, Nearest}
-use Rattle.record_text.specs.declared.kinds.Kind.{Kind}
-use Rattle.record_text.specs.declared.kinds.Kind.the-variants.{Push, Pop, Command, Status, Reset, Acknowledge}
-use Rattle.record_text.specs.declared.kinds.Kind.the-variants.{Recall, Forget, Open, Keep, Close, Unknown}
+use Rattle.record_text.specs.Kinds.{Kind, Push, Pop, Command, Status, Reset, Acknowledge, Recall, Forget}
+use Rattle.record_text.specs.Kinds.{Open, Keep, Close, Unknown}
 use Rattle.record_text.specs.Told.{recordText}
-use Rattle.record_text.specs.Line.{Said, Record, Empty, lineOf}
+use Rattle.record_text.specs.Line.{Said, Record, Empty, saidOf}
 use Rattle.promises.specs.PrintedText.{written, bytes}
 
 -- the number of a kind: 01's, 02's of the error memory and of module sheets
@@ -53,7 +52,7 @@ bytesOfRecord kind payload =
 abbrev pub RecordTextReadsBack : Type 0
 RecordTextReadsBack =
     (rule : Rule) (kind : Kind) (payload : List ℕ) → HasPayload kind payload → ((i : ℕ) → getD payload i 0 < 256)
-    → lineOf rule (recordText kind payload) ≡ Record (bytesOfRecord kind payload)
+    → saidOf rule (recordText kind payload) ≡ Record (bytesOfRecord kind payload)
 
 -- ---- lines by the letter: a rule, the text, and what it is read as
 abbrev pub LineRow : Type 0
@@ -79,7 +78,7 @@ otherLines =
 
 abbrev pub LinesRead : List LineRow → Type 0
 LinesRead table =
-    map (λ (r : LineRow). lineOf (r .0) (written (r .1))) table ≡ map (λ (r : LineRow). r .2) table
+    map (λ (r : LineRow). saidOf (r .0) (written (r .1))) table ≡ map (λ (r : LineRow). r .2) table
 
 pub record RecordTextRows : Type 0 where
   pub pushes : LinesRead pushLines

@@ -1,4 +1,5 @@
 -- Laws of records in words: how they are told, how lines are read, and that both fit.
+pub mod Tests
 pub mod Same
 pub mod Tables
 pub mod Telling

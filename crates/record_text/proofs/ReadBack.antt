@@ -1,55 +1,50 @@
 -- The words of a record's text are the words that it was told in, and each is read as what it was written from: hex digits as bytes, decimal digits as a
 -- number, a name as its code. Assumes nothing.
 use mathlib.Core.Path.{_≡_, refl, sym, ap, ap₂, _∙_, subst}
-use mathlib.Core.Bool.{Bool, true, false, cond, not}
+use mathlib.Core.Bool.{Bool, true, false, cond}
 use mathlib.Core.List.{List, [], _∷_, _++_, append-nil, append-assoc}
 use Prim.Native.Nat.{ℕ, zero, suc, _+_, _-_, _*_, _/_, _%_, _^_, _≤_, _<_}
-use native.Mathlib.Nat.{mod-eq-of-lt, mod-lt, add-zero, zero-add, mul-le-mul-left}
+use native.Mathlib.Nat.{mod-eq-of-lt, mod-lt, add-zero}
 use native.Mathlib.Omega.{arith}
-use borrow.Author.Tests.{eq-eqb, ne-eqb, eqb-true, lt-ltb, le-ltb, ltb-true, ltb-false, le-leb, lt-leb, leb-true, leb-false, eqb-false}
+use borrow.Author.Tests.{eq-eqb, ne-eqb, eqb-true, lt-ltb, le-ltb, ltb-false, leb-true, leb-false, eqb-false}
 use lib.Dec.{eqb, ltb, leb}
-use lib.ListN.{length, take, drop, getD, length-append}
+use lib.ListN.{length, take, getD, length-append}
 use Rattle.terms.specs.declared.Rule.{Rule}
 use Rattle.little.specs.Little.{le4, fourAt}
 use Rattle.little.proofs.Exact.{same-bytes, four-lt}
-use Rattle.listing.specs.Text.{digit, spelled, decimal, hex}
+use Rattle.listing.specs.Text.{digit, decimal, hex}
 use Rattle.listing.specs.Listing.{blank}
 use Rattle.listing.specs.Hex.{hexOf}
 use Rattle.listing.specs.Hex.{digitsTo}
-use Rattle.decimals.specs.Meaning.{allDigits, numberFrom, numberIn}
-use Rattle.decimals.specs.Read.{isDigit, scanFrom, scanOf}
-use Rattle.listing.specs.declared.hex.Hex.the-variants.{Number as Hexed}
+use Rattle.decimals.specs.Meaning.{allDigits, numberIn}
+use Rattle.decimals.specs.Read.{isDigit, scanOf}
 use Rattle.decimals.specs.declared.read.Scanned.the-variants.{Digits}
 use Rattle.listing.proofs.Digits.{digits-length}
 use Rattle.listing.proofs.Digits.{hex-back}
-use Rattle.decimals.proofs.Fractions.{Spells, spells, number-on}
-use Rattle.decimals.proofs.Quotients.{ten-pos}
-use Rattle.record_text.specs.Letters.{same}
+use Rattle.decimals.proofs.Fractions.{spells}
+use Rattle.decimals.proofs.Texts.{scans-all}
 use Rattle.record_text.specs.Names.{nameOf}
-use Rattle.record_text.specs.Kinds.{kindOf, kindName, numberOf, formOf}
-use Rattle.record_text.specs.Told.{spaced, joined, groupText, groups, srWord, srWords, commandWords, recordText}
-use Rattle.record_text.proofs.Tables.{agree}
-use Rattle.record_text.specs.declared.kinds.Kind.{Kind}
-use Rattle.record_text.specs.declared.kinds.Kind.the-variants.{Push, Pop, Command, Status, Reset, Acknowledge, Recall, Forget, Open, Keep, Close, Unknown}
+use Rattle.record_text.specs.Kinds.{Command, numberAt, kindAt, kindName, formOf}
+use Rattle.record_text.specs.Told.{spaced, joined, groupText, groups, srWord, srWords, commandWords, wordsBy}
+use Rattle.record_text.specs.Words.{Word, word, ended, wordsFrom}
+use Rattle.record_text.specs.Held.{passes}
+use Rattle.record_text.specs.Named.{placeFrom, placeNamed}
+use Rattle.record_text.specs.Values.{sizeFor, bytesOf, numberFor, codeHex, codeOf, range, rangeOf, valueOf}
+use Rattle.record_text.specs.Line.{recordBytes, Record, Taken, Payload, takeWords, closed, needed, withSr, lineBy, lineAt, lineIn, saidOf}
+use Rattle.record_text.specs.Meaning.{Takes, AllBytes, RecordReadsBack}
 use Rattle.record_text.specs.declared.kinds.Form.{Form}
-use Rattle.record_text.specs.declared.kinds.Form.the-variants.{Number as Numbered, Alone}
-use Rattle.record_text.specs.Words.{Word, word, isBlank, isHash, endsWord, ended, wordsFrom, wordsOf}
-use Rattle.record_text.specs.Named.{kindFrom, kindNamed, codeFrom, codeNamed}
-use Rattle.record_text.specs.Values.{sizeFor, bytesOf, numberFor, codeHex, codeOf, rangeOf, valueBy, valueOf}
-use Rattle.record_text.specs.Line.{recordBytes, Record, Wrong, Taken, Payload, takeWords, closed, needed, withSr, commandLine, lineBy, lineIn, lineOf}
-use Rattle.record_text.specs.Meaning.{Takes, Bytes, RecordReadsBack}
+use Rattle.record_text.specs.declared.kinds.Form.the-variants.{Bytes, Number as Numbered, Code, Alone, Unknown}
 use Rattle.record_text.specs.declared.values.Value.the-variants.{Number}
-use Rattle.record_text.specs.declared.values.Fault.the-variants.{NoName}
-
-clash : {P : Type 0} → _≡_ {A = Bool} false true → P
-clash e = let z : _≡_ {A = ℕ} 0 1 = cc in absurd (omega arith)
+use Rattle.record_text.proofs.Tests.{clash, split, unless}
+use Rattle.record_text.proofs.Tables.{agree}
+use Rattle.record_text.proofs.Parting.{taken-in}
 
 -- ---- words that are joined are parted again
 
 -- characters of a word
 abbrev plain : List ℕ → Bool
 plain [] = true
-plain (c ∷ l) = cond (endsWord c) false (plain l)
+plain (c ∷ l) = cond (passes false c) (plain l) false
 
 -- words of one character or more
 abbrev words : List (List ℕ) → Bool
@@ -62,39 +57,14 @@ abbrev placed : ℕ → List (List ℕ) → List Word
 placed at [] = []
 placed at (w ∷ ws) = word at w ∷ placed (at + length w + 1) ws
 
-split : (a b : Bool) → cond a b false ≡ true → (a ≡ true) × (b ≡ true)
-split true b e = (refl, e)
-split false b e = clash e
-
-unless : (a b : Bool) → cond a false b ≡ true → (a ≡ false) × (b ≡ true)
-unless true b e = clash e
-unless false b e = (refl, e)
-
-no-hash : (c : ℕ) → endsWord c ≡ false → isHash c ≡ false
-no-hash c e = go (isHash c) e
-  where
-    go : (t : Bool) → cond t true (isBlank c) ≡ false → t ≡ false
-    go true f = f
-    go false f = refl
-
-no-blank : (c : ℕ) → endsWord c ≡ false → isBlank c ≡ false
-no-blank c e = go (isHash c) e
-  where
-    go : (t : Bool) → cond t true (isBlank c) ≡ false → isBlank c ≡ false
-    go true f = clash (sym f)
-    go false f = f
-
 -- a word's characters are read into it
 read-in : (at : ℕ) (read w rest : List ℕ) → plain w ≡ true → wordsFrom at read (w ++ rest) ≡ wordsFrom (at + length w) (read ++ w) rest
 read-in at read [] rest e = ap₂ (λ (n : ℕ) (l : List ℕ). wordsFrom n l rest) (sym (add-zero at)) (sym (append-nil read))
 read-in at read (c ∷ w) rest e =
-    let p = unless (endsWord c) (plain w) e in
-    first at read c (w ++ rest) (p .0) ∙ read-in (at + 1) (read ++ (c ∷ [])) w rest (p .1)
+    let p = split (passes false c) (plain w) e in
+    taken-in at read c (w ++ rest) (p .0) ∙ read-in (at + 1) (read ++ (c ∷ [])) w rest (p .1)
     ∙ ap₂ (λ (n : ℕ) (l : List ℕ). wordsFrom n l rest) (more at w) (append-assoc read (c ∷ []) w)
   where
-    first : (at : ℕ) (read : List ℕ) (c : ℕ) (l : List ℕ) → endsWord c ≡ false → wordsFrom at read (c ∷ l) ≡ wordsFrom (at + 1) (read ++ (c ∷ [])) l
-    first at read c l f = unfold wordsFrom in rw (no-hash c f, no-blank c f)
-
     more : (at : ℕ) (w : List ℕ) → at + 1 + length w ≡ at + suc (length w)
     more at w = omega arith
 
@@ -121,8 +91,8 @@ parted (v ∷ ws) at (c ∷ w) e =
     ∙ ended-at at c w (wordsFrom (at + length (c ∷ w) + 1) [] (v ++ spaced ws))
     ∙ ap (λ (l : List Word). word at (c ∷ w) ∷ l) (parted ws (at + length (c ∷ w) + 1) v (p .1))
 
-pub line-of : (rule : Rule) (w : List ℕ) (ws : List (List ℕ)) → words (w ∷ ws) ≡ true → lineOf rule (joined (w ∷ ws)) ≡ lineIn rule (placed 0 (w ∷ ws))
-unfolding lineOf
+pub line-of : (rule : Rule) (w : List ℕ) (ws : List (List ℕ)) → words (w ∷ ws) ≡ true → saidOf rule (joined (w ∷ ws)) ≡ lineIn rule (placed 0 (w ∷ ws))
+unfolding saidOf
 line-of rule w ws e = ap (lineIn rule) (parted ws 0 w e)
 
 a-word : (w : List ℕ) (ws : List (List ℕ)) → 0 < length w → plain w ≡ true → words ws ≡ true → words (w ∷ ws) ≡ true
@@ -130,12 +100,12 @@ a-word [] ws h p e = absurd (omega arith)
 a-word (c ∷ w) ws h p e = rw p e
 
 -- ---- digits are characters of words
-digit-plain : (d : ℕ) → d < 16 → endsWord (digit d) ≡ false
-digit-plain d h = agree false (λ (n : ℕ). endsWord (digit n)) (λ (n : ℕ). false) 0 16 refl d (omega arith) h
+digit-plain : (d : ℕ) → d < 16 → passes false (digit d) ≡ true
+digit-plain d h = agree false (λ (n : ℕ). passes false (digit n)) (λ (n : ℕ). true) 0 16 refl d (omega arith) h
 
 both-plain : (l m : List ℕ) → plain l ≡ true → plain m ≡ true → plain (l ++ m) ≡ true
 both-plain [] m e f = f
-both-plain (c ∷ l) m e f = let p = unless (endsWord c) (plain l) e in rw (p .0) (both-plain l m (p .1) f)
+both-plain (c ∷ l) m e f = let p = split (passes false c) (plain l) e in rw (p .0) (both-plain l m (p .1) f)
 
 hex-plain : (count n : ℕ) → plain (digitsTo 16 count n) ≡ true
 unfolding digitsTo
@@ -148,45 +118,24 @@ decimal-plain [] e = refl
 decimal-plain (c ∷ l) e =
     let p = split (isDigit c) (allDigits l) e in rw (is-plain c (p .0)) (decimal-plain l (p .1))
   where
-    is-plain : (c : ℕ) → isDigit c ≡ true → endsWord c ≡ false
+    is-plain : (c : ℕ) → isDigit c ≡ true → passes false c ≡ true
     is-plain c f =
         let h = unless (ltb c 48) (ltb c 58) f in
         let b = ltb-false c 48 (h .0) in
         rw (ne-eqb c 35 (λ z. omega arith), ne-eqb c 32 (λ z. omega arith), ne-eqb c 9 (λ z. omega arith))
 
 -- ---- a number reads back
-not-less : (n : ℕ) (l : List ℕ) → n ≤ numberFrom n l
-not-less n l =
-    let e = number-on n l in
-    let a : n * 1 ≤ n * 10 ^ length l = mul-le-mul-left n (ten-pos (length l)) in
-    omega arith
-
-scan-digits : (v i : ℕ) (l : List ℕ) → allDigits l ≡ true → numberFrom v l < 10 ^ 18 → scanFrom v i l ≡ Digits (numberFrom v l) (i + length l)
-unfolding scanFrom
-scan-digits v i [] a n = ap (Digits v) (sym (add-zero i))
-scan-digits v i (c ∷ l) a n =
-    let p = split (isDigit c) (allDigits l) a in
-    let e : i + 1 + length l ≡ i + suc (length l) = omega arith in
-    let small : v < 10 ^ 18 = (let m = not-less (v * 10 + (c - 48)) l in omega arith) in
-    rw (p .0, lt-ltb v (10 ^ 18) small) (scan-digits (v * 10 + (c - 48)) (i + 1) l (p .1) n ∙ ap (Digits (numberFrom (v * 10 + (c - 48)) l)) e)
-
 number-back : (n : ℕ) → n < 4294967296 → scanOf (decimal n) ≡ Digits n (length (decimal n))
 number-back n h =
     let s = spells 19 n (omega arith) in
-    scan-digits 0 0 (decimal n) (s .digits) (subst (λ (x : ℕ). x < 10 ^ 18) (sym (s .number)) (omega arith))
-    ∙ ap₂ Digits (s .number) (zero-add (length (decimal n)))
+    subst (λ (l : List ℕ). scanOf l ≡ Digits (numberIn (decimal n)) (length (decimal n))) (append-nil (decimal n))
+    (scans-all (decimal n) [] (s .digits) (subst (λ (x : ℕ). x < 10 ^ 19) (sym (s .number)) (omega arith)) tt)
+    ∙ ap (λ (x : ℕ). Digits x (length (decimal n))) (s .number)
 
-counted : (kind : Kind) (n : ℕ) → n < 4294967296 → rangeOf (numberOf kind) .least ≤ n → n ≤ rangeOf (numberOf kind) .most
-    → numberFor kind (decimal n) ≡ Number n (rangeOf (numberOf kind) .size)
+counted : (kind n : ℕ) → n < 4294967296 → rangeOf kind .least ≤ n → n ≤ rangeOf kind .most → numberFor kind (decimal n) ≡ Number n (rangeOf kind .size)
 unfolding numberFor
 counted kind n h l m =
-    rw (
-      number-back n h,
-      eq-eqb (length (decimal n)) (length (decimal n)) refl,
-      le-ltb n (rangeOf (numberOf kind) .least) l,
-      le-ltb
-          (rangeOf (numberOf kind) .most) n m,
-    )
+    rw (number-back n h, eq-eqb (length (decimal n)) (length (decimal n)) refl, le-ltb n (rangeOf kind .least) l, le-ltb (rangeOf kind .most) n m)
 
 -- ---- bytes read back
 value-back : (rule : Rule) (digits size n : ℕ) → sizeFor digits ≡ size → (size ≡ 0 → ⊥) → n < 16 ^ digits → bytesOf rule (digitsTo 16 digits n) ≡ Number n size
@@ -212,34 +161,34 @@ small4 : (a b c d : ℕ) → a < 256 → b < 256 → c < 256 → d < 256 → fou
 small4 a b c d h k l m = omega arith
 
 -- one word more of a push
-module _ (rule : Rule) (at : ℕ) (g : List ℕ) (n size : ℕ) (bytes : List ℕ) (v : bytesOf rule g ≡ Number n size) (b : take size (le4 n) ≡ bytes) where
-  step : (ws : List Word) (done : List ℕ) → length done + size ≤ 240 → takeWords true rule Push (word at g ∷ ws) done ≡ takeWords true rule Push ws
+module _ (rule : Rule) (kind at : ℕ) (g : List ℕ) (n size : ℕ) (bytes : List ℕ) (v : bytesOf rule g ≡ Number n size) (b : take size (le4 n) ≡ bytes) where
+  step : (ws : List Word) (done : List ℕ) → length done + size ≤ 240 → takeWords true rule Bytes kind (word at g ∷ ws) done ≡ takeWords true rule Bytes kind ws
       (done ++ bytes)
   step ws done h = unfold takeWords in rw (v, le-ltb 240 (length done + size) h, b)
 
-module _ (rule : Rule) where
-  push-back : (at : ℕ) (l done : List ℕ) → Bytes l → length done + length l ≤ 240 → takeWords true rule Push (placed at (groups l)) done ≡ Payload
+module _ (rule : Rule) (kind : ℕ) where
+  push-back : (at : ℕ) (l done : List ℕ) → AllBytes l → length done + length l ≤ 240 → takeWords true rule Bytes kind (placed at (groups l)) done ≡ Payload
       (done ++ l) []
   unfolding groups takeWords
   push-back at [] done B h = ap (λ (l : List ℕ). Payload l []) (sym (append-nil done))
   push-back at (a ∷ []) done B h =
-      step rule at (groupText (a ∷ [])) (fourAt (a ∷ []) 0) 1 (a ∷ []) (value-back rule 2 1 (fourAt (a ∷ []) 0) refl (λ z. omega arith) (small1 a (B 0)))
+      step rule kind at (groupText (a ∷ [])) (fourAt (a ∷ []) 0) 1 (a ∷ []) (value-back rule 2 1 (fourAt (a ∷ []) 0) refl (λ z. omega arith) (small1 a (B 0)))
       (one-byte a (B 0)) [] done h
   push-back at (a ∷ b ∷ []) done B h =
-      step rule at (groupText (a ∷ b ∷ [])) (fourAt (a ∷ b ∷ []) 0) 2 (a ∷ b ∷ [])
+      step rule kind at (groupText (a ∷ b ∷ [])) (fourAt (a ∷ b ∷ []) 0) 2 (a ∷ b ∷ [])
       (value-back rule 4 2 (fourAt (a ∷ b ∷ []) 0) refl (λ z. omega arith) (small2 a b (B 0) (B 1))) (two-bytes a b (B 0) (B 1)) [] done h
   push-back at (a ∷ b ∷ c ∷ []) done B h =
       let w = groupText (a ∷ b ∷ []) in
-      step rule at w (fourAt (a ∷ b ∷ []) 0) 2 (a ∷ b ∷ [])
+      step rule kind at w (fourAt (a ∷ b ∷ []) 0) 2 (a ∷ b ∷ [])
       (value-back rule 4 2 (fourAt (a ∷ b ∷ []) 0) refl (λ z. omega arith) (small2 a b (B 0) (B 1))) (two-bytes a b (B 0) (B 1))
       (placed (at + length w + 1) (groupText (c ∷ []) ∷ [])) done (omega arith)
-      ∙ step rule (at + length w + 1) (groupText (c ∷ [])) (fourAt (c ∷ []) 0) 1 (c ∷ [])
+      ∙ step rule kind (at + length w + 1) (groupText (c ∷ [])) (fourAt (c ∷ []) 0) 1 (c ∷ [])
       (value-back rule 2 1 (fourAt (c ∷ []) 0) refl (λ z. omega arith) (small1 c (B 2))) (one-byte c (B 2)) [] (done ++ (a ∷ b ∷ []))
       (omega (arith, length-append done (a ∷ b ∷ [])))
       ∙ ap (λ (l : List ℕ). Payload l []) (append-assoc done (a ∷ b ∷ []) (c ∷ []))
   push-back at (a ∷ b ∷ c ∷ d ∷ l) done B h =
       let w = groupText (a ∷ b ∷ c ∷ d ∷ []) in
-      step rule at w (fourAt (a ∷ b ∷ c ∷ d ∷ []) 0) 4 (a ∷ b ∷ c ∷ d ∷ [])
+      step rule kind at w (fourAt (a ∷ b ∷ c ∷ d ∷ []) 0) 4 (a ∷ b ∷ c ∷ d ∷ [])
       (value-back rule 8 4 (fourAt (a ∷ b ∷ c ∷ d ∷ []) 0) refl (λ z. omega arith) (small4 a b c d (B 0) (B 1) (B 2) (B 3)))
       (same-bytes a b c d (B 0) (B 1) (B 2) (B 3)) (placed (at + length w + 1) (groups l)) done (omega arith)
       ∙ push-back (at + length w + 1) l (done ++ (a ∷ b ∷ c ∷ d ∷ [])) (λ i. B (suc (suc (suc (suc i)))))
@@ -247,10 +196,10 @@ module _ (rule : Rule) where
       ∙ ap (λ (m : List ℕ). Payload m []) (append-assoc done (a ∷ b ∷ c ∷ d ∷ []) l)
 
 -- a word behind another name
-one-word : (rule : Rule) (kind : Kind) (at n size : ℕ) (w : List ℕ) → valueOf rule kind w ≡ Number n size → size ≤ 240
-    → takeWords false rule kind (word at w ∷ []) [] ≡ Payload (take size (le4 n)) []
+one-word : (rule : Rule) (form : Form) (kind at n size : ℕ) (w : List ℕ) → valueOf rule form kind w ≡ Number n size → size ≤ 240
+    → takeWords false rule form kind (word at w ∷ []) [] ≡ Payload (take size (le4 n)) []
 unfolding takeWords
-one-word rule kind at n size w v h = rw (v, le-ltb 240 (0 + size) (omega arith))
+one-word rule form kind at n size w v h = rw (v, le-ltb 240 (0 + size) (omega arith))
 
 -- the words of a push are words
 group-word : (bytes : List ℕ) (ws : List (List ℕ)) → 0 < length bytes → words ws ≡ true → words (groupText bytes ∷ ws) ≡ true
@@ -267,62 +216,45 @@ groups-words (a ∷ b ∷ c ∷ []) = group-word (a ∷ b ∷ []) (groupText (c 
 groups-words (a ∷ b ∷ c ∷ d ∷ l) = group-word (a ∷ b ∷ c ∷ d ∷ []) (groups l) (omega arith) (groups-words l)
 
 -- ---- names read back
-kind-back : (k : Kind) → kindNamed (kindName k) ≡ k
-unfolding kindFrom
-kind-back Push = refl
-kind-back Pop = refl
-kind-back Command = refl
-kind-back Status = refl
-kind-back Reset = refl
-kind-back Acknowledge = refl
-kind-back Recall = refl
-kind-back Forget = refl
-kind-back Open = refl
-kind-back Keep = refl
-kind-back Close = refl
-kind-back Unknown = refl
 
-by-kind : (rule : Rule) (k : Kind) (ws : List Word) → lineIn rule (word 0 (kindName k) ∷ ws) ≡ lineBy (formOf k) rule k (word 0 (kindName k)) ws
-by-kind rule k ws = ap (λ (n : Kind). lineBy (formOf n) rule n (word 0 (kindName k)) ws) (kind-back k)
+abbrev isCode : Form → Bool
+isCode Bytes = false
+isCode Numbered = false
+isCode Code = true
+isCode Alone = false
+isCode Unknown = false
 
--- no kind has a name that begins with a capital
-capital : (c : ℕ) (w : List ℕ) → c < 97 → (k : Kind) → same (kindName k) (c ∷ w) ≡ false
-capital c w h Push = rw (ne-eqb 112 c (λ z. omega arith))
-capital c w h Pop = rw (ne-eqb 112 c (λ z. omega arith))
-capital c w h Command = rw (ne-eqb 99 c (λ z. omega arith))
-capital c w h Status = rw (ne-eqb 115 c (λ z. omega arith))
-capital c w h Reset = rw (ne-eqb 114 c (λ z. omega arith))
-capital c w h Acknowledge = rw (ne-eqb 97 c (λ z. omega arith))
-capital c w h Recall = rw (ne-eqb 114 c (λ z. omega arith))
-capital c w h Forget = rw (ne-eqb 102 c (λ z. omega arith))
-capital c w h Open = rw (ne-eqb 111 c (λ z. omega arith))
-capital c w h Keep = rw (ne-eqb 107 c (λ z. omega arith))
-capital c w h Close = rw (ne-eqb 99 c (λ z. omega arith))
-capital c w h Unknown = refl
+-- of a kind, by the place of its name
+module _ (place : ℕ) (l : 128 ≤ place) (h : place < 139) where
+  place-back : placeNamed (kindName (kindAt place)) ≡ place
+  unfolding placeFrom nameOf
+  place-back = agree 0 (λ (p : ℕ). placeNamed (kindName (kindAt p))) (λ (p : ℕ). p) 128 11 refl place l (omega arith)
 
-no-kind : (c : ℕ) (w : List ℕ) → c < 97 → (m number : ℕ) → kindFrom m number (c ∷ w) ≡ Unknown
-unfolding kindFrom
-no-kind c w h zero number = refl
-no-kind c w h (suc m) number = rw (capital c w h (kindOf number)) (no-kind c w h m (suc number))
+  kind-word : words (kindName (kindAt place) ∷ []) ≡ true
+  kind-word = agree false (λ (p : ℕ). words (kindName (kindAt p) ∷ [])) (λ (p : ℕ). true) 128 11 refl place l (omega arith)
 
+  by-kind : (rule : Rule) (ws : List Word)
+      → lineIn rule (word 0 (kindName (kindAt place)) ∷ ws) ≡ lineBy rule (formOf (kindAt place)) (numberAt place) (word 0 (kindName (kindAt place))) ws
+  by-kind rule ws =
+      ap (λ (p : ℕ). lineAt rule p (word 0 (kindName (kindAt place))) ws) place-back ∙ rw (le-ltb place 128 l)
+
+  -- a code stands behind one name alone
+  code-place : formOf (kindAt place) ≡ Code → place ≡ 130
+  code-place e =
+      eqb-true place 130
+      (sym (agree false (λ (p : ℕ). isCode (formOf (kindAt p))) (λ (p : ℕ). eqb p 130) 128 11 refl place l (omega arith)) ∙ ap isCode e)
+
+-- of a command, by its code
 module _ (n : ℕ) (h : n < 128) where
-  name-code : (length (nameOf n) ≡ 0 → ⊥) → codeNamed (nameOf n) ≡ n
-  unfolding nameOf codeFrom
+  name-code : (length (nameOf n) ≡ 0 → ⊥) → placeNamed (nameOf n) ≡ n
+  unfolding nameOf placeFrom
   name-code k =
-      agree 0 (λ (m : ℕ). codeNamed (nameOf m)) (λ (m : ℕ). cond (eqb (length (nameOf m)) 0) 12 m) 0 128 refl n (omega arith) h
+      agree 0 (λ (m : ℕ). placeNamed (nameOf m)) (λ (m : ℕ). cond (eqb (length (nameOf m)) 0) 12 m) 0 128 refl n (omega arith) h
       ∙ rw (ne-eqb (length (nameOf n)) 0 k)
 
   name-plain : plain (nameOf n) ≡ true
   unfolding nameOf
   name-plain = agree false (λ (m : ℕ). plain (nameOf m)) (λ (m : ℕ). true) 0 128 refl n (omega arith) h
-
-  name-capital : ltb (getD (nameOf n) 0 0) 97 ≡ true
-  unfolding nameOf
-  name-capital = agree false (λ (m : ℕ). ltb (getD (nameOf m) 0 0) 97) (λ (m : ℕ). true) 0 128 refl n (omega arith) h
-
-unnamed-kind : (w : List ℕ) → (length w ≡ 0 → ⊥) → ltb (getD w 0 0) 97 ≡ true → kindNamed w ≡ Unknown
-unnamed-kind [] k e = absurd (k refl)
-unnamed-kind (c ∷ w) k e = no-kind c w (ltb-true c 97 e) 258 1
 
 -- ---- a command
 sr-words : (code : ℕ) → words (srWords code) ≡ true
@@ -355,7 +287,7 @@ by-name : (code : ℕ) → eqb (length (nameOf (code % 128))) 0 ≡ false → co
 unfolding commandWords
 by-name code e = rw e
 
-command-back : (rule : Rule) (code : ℕ) → code < 256 → lineOf rule (joined (commandWords code)) ≡ Record (recordBytes Command (code ∷ []))
+command-back : (rule : Rule) (code : ℕ) → code < 256 → saidOf rule (joined (commandWords code)) ≡ Record (recordBytes 3 (code ∷ []))
 command-back rule code h = go (eqb (length (nameOf (code % 128))) 0) refl
   where
     n : ℕ
@@ -367,96 +299,109 @@ command-back rule code h = go (eqb (length (nameOf (code % 128))) 0) refl
     ws : List Word
     ws = placed (0 + length (nameOf n) + 1) (srWords code)
 
-    named : (length (nameOf n) ≡ 0 → ⊥) → lineIn rule (word 0 (nameOf n) ∷ ws) ≡ Record (recordBytes Command (code ∷ []))
+    named : (length (nameOf n) ≡ 0 → ⊥) → lineIn rule (word 0 (nameOf n) ∷ ws) ≡ Record (recordBytes 3 (code ∷ []))
     named k =
-        ap (λ (kind : Kind). lineBy (formOf kind) rule kind (word 0 (nameOf n)) ws) (unnamed-kind (nameOf n) k (name-capital n below))
-        ∙ ap (λ (c : ℕ). commandLine 0 c ws) (name-code n below k)
-        ∙ ap (λ (t : Bool). cond t (closed Command (withSr n ws)) (Wrong NoName 0)) (lt-ltb n 128 below)
-        ∙ ap (closed Command) (with-sr code (0 + length (nameOf n) + 1) h)
+        ap (λ (p : ℕ). lineAt rule p (word 0 (nameOf n)) ws) (name-code n below k)
+        ∙ ap (λ (t : Bool). cond t (closed 3 (withSr n ws)) (lineBy rule (formOf (kindAt n)) (numberAt n) (word 0 (nameOf n)) ws)) (lt-ltb n 128 below)
+        ∙ ap (closed 3) (with-sr code (0 + length (nameOf n) + 1) h)
 
-    go : (t : Bool) → eqb (length (nameOf n)) 0 ≡ t → lineOf rule (joined (commandWords code)) ≡ Record (recordBytes Command (code ∷ []))
+    go : (t : Bool) → eqb (length (nameOf n)) 0 ≡ t → saidOf rule (joined (commandWords code)) ≡ Record (recordBytes 3 (code ∷ []))
     go true e =
-        ap (λ (l : List (List ℕ)). lineOf rule (joined l)) (unnamed code e)
-        ∙ line-of rule (kindName Command) (hex code ∷ [])
+        ap (λ (l : List (List ℕ)). saidOf rule (joined l)) (unnamed code e)
+        ∙ line-of rule (kindName (kindAt 130)) (hex code ∷ [])
         (a-word (hex code) [] (omega arith) (subst (λ (l : List ℕ). plain l ≡ true) (sym (hex-is code h)) (hex-plain 2 code)) refl)
-        ∙ by-kind rule Command (placed 8 (hex code ∷ []))
-        ∙ ap (λ (t : Taken). closed Command (needed 7 t)) (one-word rule Command 8 code 1 (hex code) (code-back code h) (omega arith))
-        ∙ ap (λ (c : ℕ). Record (recordBytes Command (c ∷ []))) (mod-eq-of-lt h)
+        ∙ by-kind 130 (omega arith) (omega arith) rule (placed 8 (hex code ∷ []))
+        ∙ ap (λ (t : Taken). closed 3 (needed 7 t)) (one-word rule Code 3 8 code 1 (hex code) (code-back code h) (omega arith))
+        ∙ ap (λ (c : ℕ). Record (recordBytes 3 (c ∷ []))) (mod-eq-of-lt h)
     go false e =
         let k = eqb-false (length (nameOf n)) 0 e in
-        ap (λ (l : List (List ℕ)). lineOf rule (joined l)) (by-name code e)
+        ap (λ (l : List (List ℕ)). saidOf rule (joined l)) (by-name code e)
         ∙ line-of rule (nameOf n) (srWords code) (a-word (nameOf n) (srWords code) (omega arith) (name-plain n below) (sr-words code))
         ∙ named k
 
--- ---- a number behind a name
-number-line : (rule : Rule) (kind : Kind) (payload : List ℕ) (size : ℕ) → formOf kind ≡ Numbered → words (kindName kind ∷ []) ≡ true
-    → fourAt payload 0 < 4294967296 → rangeOf (numberOf kind) .least ≤ fourAt payload 0 → fourAt payload 0 ≤ rangeOf (numberOf kind) .most
-    → rangeOf (numberOf kind) .size ≡ size → size ≤ 240 → (length payload ≡ 0 → ⊥) → take size (le4 (fourAt payload 0)) ≡ payload
-    → lineOf rule (joined (kindName kind ∷ decimal (fourAt payload 0) ∷ [])) ≡ Record (recordBytes kind payload)
-number-line rule kind payload size f p h l m s few some back =
-    let n = fourAt payload 0 in
-    let d = spells 19 n (omega arith) in
-    let at = 0 + length (kindName kind) + 1 in
-    line-of rule (kindName kind) (decimal n ∷ []) (first (kindName kind) (decimal n ∷ []) p
-    (a-word (decimal n) [] (d .some) (decimal-plain (decimal n) (d .digits)) refl))
-    ∙ by-kind rule kind (placed at (decimal n ∷ []))
-    ∙ ap (λ (g : Form). lineBy g rule kind (word 0 (kindName kind)) (placed at (decimal n ∷ []))) f
-    ∙ ap (λ (t : Taken). closed kind (needed (0 + length (kindName kind)) t))
-    (one-word rule kind at n size (decimal n) (ap (λ (g : Form). valueBy g rule kind (decimal n)) f ∙ counted kind n h l m ∙ ap (Number n) s) few ∙ ap
-    (λ (b : List ℕ). Payload b []) back)
-    ∙ there payload some
-  where
-    first : (w : List ℕ) (ws : List (List ℕ)) → words (w ∷ []) ≡ true → words ws ≡ true → words (w ∷ ws) ≡ true
-    first [] ws p e = clash p
-    first (c ∷ w) ws p e = rw (split (plain (c ∷ w)) true p .0) e
-
-    there : (l : List ℕ) → (length l ≡ 0 → ⊥) → closed kind (needed (0 + length (kindName kind)) (Payload l [])) ≡ Record (recordBytes kind l)
-    there [] k = absurd (k refl)
-    there (b ∷ l) k = refl
-
 -- ---- every record
-alone : (rule : Rule) (kind : Kind) (payload : List ℕ) → formOf kind ≡ Alone → words (kindName kind ∷ []) ≡ true → payload ≡ []
-    → lineOf rule (joined (kindName kind ∷ [])) ≡ Record (recordBytes kind payload)
-alone rule kind payload f p e =
-    line-of rule (kindName kind) [] p ∙ by-kind rule kind [] ∙ ap (λ (g : Form). lineBy g rule kind (word 0 (kindName kind)) []) f
-    ∙ ap (λ (l : List ℕ). Record (recordBytes kind l)) (sym e)
-
 single : (l : List ℕ) → length l ≡ 1 → l ≡ getD l 0 0 ∷ []
 single [] e = absurd (omega arith)
 single (a ∷ []) e = refl
 single (a ∷ b ∷ l) e = absurd (omega arith)
 
-open-back : (l : List ℕ) → length l ≡ 4 → Bytes l → take 4 (le4 (fourAt l 0)) ≡ l
-open-back [] e B = absurd (omega arith)
-open-back (a ∷ []) e B = absurd (omega arith)
-open-back (a ∷ b ∷ []) e B = absurd (omega arith)
-open-back (a ∷ b ∷ c ∷ []) e B = absurd (omega arith)
-open-back (a ∷ b ∷ c ∷ d ∷ []) e B = same-bytes a b c d (B 0) (B 1) (B 2) (B 3)
-open-back (a ∷ b ∷ c ∷ d ∷ x ∷ l) e B = absurd (omega arith)
+pub one-number : (l : List ℕ) → length l ≡ 1 → fourAt l 0 ≡ getD l 0 0
+one-number l e = ap (λ (m : List ℕ). fourAt m 0) (single l e) ∙ (let n = getD l 0 0 in let z : n + 0 * 2 ^ 8 + 0 * 2 ^ 16 + 0 * 2 ^ 24 ≡ n = omega arith in z)
+
+-- the number in a payload of one byte or of four has these bytes
+sized-back : (kind : ℕ) (l : List ℕ) → length l ≡ rangeOf kind .size → AllBytes l → take (rangeOf kind .size) (le4 (fourAt l 0)) ≡ l
+sized-back kind l e B = go (eqb kind 2) (eqb kind 256) e
+  where
+    one : (l : List ℕ) → length l ≡ 1 → AllBytes l → take 1 (le4 (fourAt l 0)) ≡ l
+    one l f b = subst (λ (m : List ℕ). take 1 (le4 (fourAt m 0)) ≡ m) (sym (single l f)) (one-byte (getD l 0 0) (b 0))
+
+    four : (l : List ℕ) → length l ≡ 4 → AllBytes l → take 4 (le4 (fourAt l 0)) ≡ l
+    four [] f b = absurd (omega arith)
+    four (a ∷ []) f b = absurd (omega arith)
+    four (a ∷ b ∷ []) f k = absurd (omega arith)
+    four (a ∷ b ∷ c ∷ []) f k = absurd (omega arith)
+    four (a ∷ b ∷ c ∷ d ∷ []) f k = same-bytes a b c d (k 0) (k 1) (k 2) (k 3)
+    four (a ∷ b ∷ c ∷ d ∷ x ∷ l) f k = absurd (omega arith)
+
+    go : (s t : Bool) → length l ≡ cond s (range 1 240 1) (cond t (range 0 4294967295 4) (range 0 255 1)) .size
+        → take (cond s (range 1 240 1) (cond t (range 0 4294967295 4) (range 0 255 1)) .size) (le4 (fourAt l 0)) ≡ l
+    go true t f = one l f B
+    go false true f = four l f B
+    go false false f = one l f B
+
+-- and there is such a byte
+sized : (kind : ℕ) → (1 ≤ rangeOf kind .size) × (rangeOf kind .size ≤ 240)
+sized kind = go (eqb kind 2) (eqb kind 256)
+  where
+    go : (s t : Bool) → let n = cond s (range 1 240 1) (cond t (range 0 4294967295 4) (range 0 255 1)) .size in (1 ≤ n) × (n ≤ 240)
+    go true t = (omega arith, omega arith)
+    go false true = (omega arith, omega arith)
+    go false false = (omega arith, omega arith)
+
+first : (w : List ℕ) (ws : List (List ℕ)) → words (w ∷ []) ≡ true → words ws ≡ true → words (w ∷ ws) ≡ true
+first [] ws p e = clash p
+first (c ∷ w) ws p e = rw (split (plain (c ∷ w)) true p .0) e
+
+-- a payload that is there makes the record
+there : (kind at : ℕ) (l : List ℕ) → 1 ≤ length l → closed kind (needed at (Payload l [])) ≡ Record (recordBytes kind l)
+there kind at [] h = absurd (omega arith)
+there kind at (b ∷ l) h = refl
+
+module _ (rule : Rule) (place : ℕ) (payload : List ℕ) (l : 128 ≤ place) (h : place < 139) (B : AllBytes payload) where
+  abbrev kind : ℕ
+  kind = numberAt place
+
+  abbrev name : List ℕ
+  name = kindName (kindAt place)
+
+  -- a line of the name and other words, by the form of these
+  named-line : (form : Form) (ws : List (List ℕ)) → formOf (kindAt place) ≡ form → words ws ≡ true
+      → saidOf rule (joined (name ∷ ws)) ≡ lineBy rule form kind (word 0 name) (placed (0 + length name + 1) ws)
+  named-line form ws f e =
+      line-of rule name ws (first name ws (kind-word place l h) e) ∙ by-kind place l h rule (placed (0 + length name + 1) ws)
+      ∙ ap (λ (g : Form). lineBy rule g kind (word 0 name) (placed (0 + length name + 1) ws)) f
+
+  by-form : (form : Form) → formOf (kindAt place) ≡ form → Takes form kind payload
+      → saidOf rule (joined (wordsBy form (kindAt place) payload)) ≡ Record (recordBytes kind payload)
+  by-form Bytes f (some, few) =
+      named-line Bytes (groups payload) f (groups-words payload)
+      ∙ ap (λ (t : Taken). closed kind (needed (0 + length name) t)) (push-back rule kind (0 + length name + 1) payload [] B (let z = few in omega arith))
+      ∙ there kind (0 + length name) payload some
+  by-form Numbered f (size, least, most) =
+      let n = fourAt payload 0 in
+      let small = four-lt payload 0 B in
+      let d = spells 19 n (omega arith) in
+      let s = sized kind in
+      named-line Numbered (decimal n ∷ []) f (a-word (decimal n) [] (d .some) (decimal-plain (decimal n) (d .digits)) refl)
+      ∙ ap (λ (t : Taken). closed kind (needed (0 + length name) t))
+      (one-word rule Numbered kind (0 + length name + 1) n (rangeOf kind .size) (decimal n) (counted kind n small least most) (s .1)
+      ∙ ap (λ (b : List ℕ). Payload b []) (sized-back kind payload size B))
+      ∙ there kind (0 + length name) payload (omega (arith, s .0, size))
+  by-form Code f size =
+      subst (λ (p : List ℕ). saidOf rule (joined (commandWords (getD payload 0 0))) ≡ Record (recordBytes kind p)) (sym (single payload size))
+      (command-back rule (getD payload 0 0) (B 0) ∙ ap (λ (p : ℕ). Record (recordBytes (numberAt p) (getD payload 0 0 ∷ []))) (sym (code-place place l h f)))
+  by-form Alone f e = named-line Alone [] f refl ∙ ap (λ (p : List ℕ). Record (recordBytes kind p)) (sym e)
+  by-form Unknown f e = absurd e
 
 pub record-reads-back : RecordReadsBack
-record-reads-back rule Push [] (h, k) B = absurd (omega arith)
-record-reads-back rule Push (b ∷ l) (h, k) B =
-    line-of rule (kindName Push) (groups (b ∷ l)) (groups-words (b ∷ l)) ∙ by-kind rule Push (placed 5 (groups (b ∷ l)))
-    ∙ ap (λ (t : Taken). closed Push (needed 4 t)) (push-back rule 5 (b ∷ l) [] B (let z = k in omega arith))
-record-reads-back rule Pop payload (e, l, m) B =
-    subst (λ (p : List ℕ). lineOf rule (recordText Pop p) ≡ Record (recordBytes Pop p)) (sym (single payload e))
-    (let n = getD payload 0 0 in let b = B 0 in number-line rule Pop (n ∷ []) 1 refl refl (omega arith) (omega arith) (omega arith) refl (omega arith)
-    (λ z. omega arith) (one-byte n b))
-record-reads-back rule Command payload e B =
-    subst (λ (p : List ℕ). lineOf rule (recordText Command p) ≡ Record (recordBytes Command p)) (sym (single payload e))
-    (command-back rule (getD payload 0 0) (B 0))
-record-reads-back rule Status payload e B = alone rule Status payload refl refl e
-record-reads-back rule Reset payload e B = alone rule Reset payload refl refl e
-record-reads-back rule Acknowledge payload e B = alone rule Acknowledge payload refl refl e
-record-reads-back rule Recall payload e B = alone rule Recall payload refl refl e
-record-reads-back rule Forget payload e B = alone rule Forget payload refl refl e
-record-reads-back rule Open payload e B =
-    let h = four-lt payload 0 B in
-    number-line rule Open payload 4 refl refl h (omega arith) (omega arith) refl (omega arith) (λ z. omega arith) (open-back payload e B)
-record-reads-back rule Keep payload e B =
-    subst (λ (p : List ℕ). lineOf rule (recordText Keep p) ≡ Record (recordBytes Keep p)) (sym (single payload e))
-    (let n = getD payload 0 0 in let b = B 0 in number-line rule Keep (n ∷ []) 1 refl refl (omega arith) (omega arith) (omega arith) refl (omega arith)
-    (λ z. omega arith) (one-byte n b))
-record-reads-back rule Close payload e B = alone rule Close payload refl refl e
-record-reads-back rule Unknown payload e B = absurd e
+record-reads-back rule place payload l h t B = by-form rule place payload l h B (formOf (kindAt place)) refl t

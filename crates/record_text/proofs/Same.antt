@@ -1,15 +1,12 @@
 -- Texts that are tested to be the same are equal, and the test says no more. Assumes nothing.
-use mathlib.Core.Path.{_≡_, refl, sym, ap, ap₂, _∙_}
+use mathlib.Core.Path.{_≡_, refl, sym, ap₂}
 use mathlib.Core.Bool.{Bool, true, false, cond}
 use mathlib.Core.List.{List, [], _∷_}
 use Prim.Native.Nat.{ℕ}
-use native.Mathlib.Omega.{arith}
 use borrow.Author.Tests.{eqb-true, eq-eqb}
 use lib.Dec.{eqb}
 use Rattle.record_text.specs.Letters.{same}
-
-clash : {P : Type 0} → _≡_ {A = Bool} false true → P
-clash e = let z : _≡_ {A = ℕ} 0 1 = cc in absurd (omega arith)
+use Rattle.record_text.proofs.Tests.{clash}
 
 pub same-true : (l m : List ℕ) → same l m ≡ true → l ≡ m
 same-true [] [] e = refl

@@ -1,5 +1,5 @@
 -- What a line says by its words: values put behind one another, the record that they make, a command by its name. Assumes nothing.
-use mathlib.Core.Path.{_≡_, refl, sym, ap, _∙_}
+use mathlib.Core.Path.{_≡_, refl, sym, ap, ap₂, _∙_}
 use mathlib.Core.Bool.{Bool, true, false, cond}
 use mathlib.Core.List.{List, [], _∷_, _++_}
 use Prim.Native.Nat.{ℕ, _+_, _-_, _%_, _/_, _≤_, _<_}
@@ -13,23 +13,20 @@ use Rattle.little.specs.Little.{le2, le4}
 use Rattle.little.proofs.Exact.{le2-small}
 use Rattle.record_text.specs.Letters.{same}
 use Rattle.record_text.specs.Told.{srWord}
-use Rattle.record_text.specs.Kinds.{numberOf, formOf}
-use Rattle.record_text.specs.declared.kinds.Kind.{Kind}
-use Rattle.record_text.specs.declared.kinds.Kind.the-variants.{Command}
+use Rattle.record_text.specs.Kinds.{Command, kindNumber, formOf, numberAt, kindAt}
 use Rattle.record_text.specs.declared.kinds.Form.{Form}
 use Rattle.record_text.specs.declared.kinds.Span.{Span}
-use Rattle.record_text.specs.Words.{Word, word, wordsAt, wordsOf, between, NextWord}
-use Rattle.record_text.specs.Named.{kindNamed}
+use Rattle.record_text.specs.Words.{Word, word, wordsAt, between}
+use Rattle.record_text.specs.Named.{placeNamed}
 use Rattle.record_text.specs.Values.{valueOf}
-use Rattle.record_text.specs.Line.{recordBytes, Said, Record, Empty, Wrong, Put, Added, Unfit}
+use Rattle.record_text.specs.Line.{recordBytes, Said, Empty, Wrong, Added, Unfit}
 use Rattle.record_text.specs.Line.{put, Taken, Payload, Amiss, onPut, takeWords, needed, closed}
-use Rattle.record_text.specs.Line.{withSr, commandLine, lineBy, lineIn, lineOf}
+use Rattle.record_text.specs.Line.{withSr, valuesIn, lineBy, lineAt, lineIn, saidOf}
+use Rattle.record_text.specs.Held.{NextWord, valuesLine, kindLine}
 use Rattle.record_text.specs.declared.values.Fault.{Fault}
-use Rattle.record_text.specs.declared.values.Fault.the-variants.{NoName, Missing, ManyBytes}
+use Rattle.record_text.specs.declared.values.Fault.the-variants.{Missing, ManyBytes}
 use Rattle.record_text.specs.declared.values.Value.the-variants.{Number}
-
-clash : {P : Type 0} → _≡_ {A = Bool} false true → P
-clash e = let z : _≡_ {A = ℕ} 0 1 = cc in absurd (omega arith)
+use Rattle.record_text.proofs.Tests.{clash}
 
 -- ---- a value behind the bytes that are there
 module _ (done : List ℕ) (at value size : ℕ) where
@@ -52,50 +49,50 @@ ends-at line from to h k =
     let e = length-take-le (to - from) (drop from line) (omega (arith, length-drop from line)) in omega arith
 
 -- ---- words are taken one after another
-pub record Gathering (rule : Rule) (kind : Kind) (many : Bool) (line : List ℕ) (from : ℕ) (before payload : List ℕ) (count at : ℕ) (more : Bool) : Type 0 where
-  pub leads : cond more (takeWords many rule kind (wordsAt at line) (take count payload)) (Payload (take count payload) (wordsAt at line))
-      ≡ takeWords many rule kind (wordsAt from line) []
+pub record Gathering (rule : Rule) (form : Form) (kind : ℕ) (many : Bool) (line : List ℕ) (from : ℕ) (before payload : List ℕ) (count at : ℕ) (more : Bool) : Type 0 where
+  pub leads : cond more (takeWords many rule form kind (wordsAt at line) (take count payload)) (Payload (take count payload) (wordsAt at line))
+      ≡ takeWords many rule form kind (wordsAt from line) []
   pub few : count ≤ 240
   pub within : at ≤ length line
   pub room : length payload ≡ 240
   pub same : length payload ≡ length before
 
-module _ (rule : Rule) (kind : Kind) (many : Bool) (line : List ℕ) (from : ℕ) where
-  pub gather-starts : (payload : List ℕ) → length payload ≡ 240 → from ≤ length line → Gathering rule kind many line from payload payload 0 from true
+module _ (rule : Rule) (form : Form) (kind : ℕ) (many : Bool) (line : List ℕ) (from : ℕ) where
+  pub gather-starts : (payload : List ℕ) → length payload ≡ 240 → from ≤ length line → Gathering rule form kind many line from payload payload 0 from true
   gather-starts payload e h = record { leads = refl; few = omega arith; within = h; room = e; same = refl }
 
-  module _ (before payload : List ℕ) (count at : ℕ) (more : Bool) (g : Gathering rule kind many line from before payload count at more) where
-    on : more ≡ true → takeWords many rule kind (wordsAt at line) (take count payload) ≡ takeWords many rule kind (wordsAt from line) []
+  module _ (before payload : List ℕ) (count at : ℕ) (more : Bool) (g : Gathering rule form kind many line from before payload count at more) where
+    on : more ≡ true → takeWords many rule form kind (wordsAt at line) (take count payload) ≡ takeWords many rule form kind (wordsAt from line) []
     on t = rw t at (g .leads)
 
-    pub gathered : more ≡ false → Payload (take count payload) (wordsAt at line) ≡ takeWords many rule kind (wordsAt from line) []
+    pub gathered : more ≡ false → Payload (take count payload) (wordsAt at line) ≡ takeWords many rule form kind (wordsAt from line) []
     gathered t = rw t at (g .leads)
 
-    pub no-more : more ≡ true → wordsAt at line ≡ [] → Payload (take count payload) (wordsAt at line) ≡ takeWords many rule kind (wordsAt from line) []
-    no-more t e = rw e (sym none ∙ ap (λ (ws : List Word). takeWords many rule kind ws (take count payload)) (sym e) ∙ on t)
+    pub no-more : more ≡ true → wordsAt at line ≡ [] → Payload (take count payload) (wordsAt at line) ≡ takeWords many rule form kind (wordsAt from line) []
+    no-more t e = rw e (sym none ∙ ap (λ (ws : List Word). takeWords many rule form kind ws (take count payload)) (sym e) ∙ on t)
       where
-        none : takeWords many rule kind [] (take count payload) ≡ Payload (take count payload) []
+        none : takeWords many rule form kind [] (take count payload) ≡ Payload (take count payload) []
         none = unfold takeWords in refl
 
     module _ (begin end : ℕ) (t : more ≡ true) (e : wordsAt at line ≡ word begin (between begin end line) ∷ wordsAt end line) where
-      front : onPut many (wordsAt end line) (λ (bytes : List ℕ). takeWords many rule kind (wordsAt end line) bytes)
-          (put (take count payload) begin (valueOf rule kind (between begin end line))) ≡ takeWords many rule kind (wordsAt from line) []
-      front = sym first ∙ ap (λ (ws : List Word). takeWords many rule kind ws (take count payload)) (sym e) ∙ on t
+      front : onPut many (wordsAt end line) (λ (bytes : List ℕ). takeWords many rule form kind (wordsAt end line) bytes)
+          (put (take count payload) begin (valueOf rule form kind (between begin end line))) ≡ takeWords many rule form kind (wordsAt from line) []
+      front = sym first ∙ ap (λ (ws : List Word). takeWords many rule form kind ws (take count payload)) (sym e) ∙ on t
         where
-          first : takeWords many rule kind (word begin (between begin end line) ∷ wordsAt end line) (take count payload)
-              ≡ onPut many (wordsAt end line) (λ (bytes : List ℕ). takeWords many rule kind (wordsAt end line) bytes)
-              (put (take count payload) begin (valueOf rule kind (between begin end line)))
+          first : takeWords many rule form kind (word begin (between begin end line) ∷ wordsAt end line) (take count payload)
+              ≡ onPut many (wordsAt end line) (λ (bytes : List ℕ). takeWords many rule form kind (wordsAt end line) bytes)
+              (put (take count payload) begin (valueOf rule form kind (between begin end line)))
           first = unfold takeWords in refl
 
-      pub goes-wrong : (fault : Fault) (place : ℕ) → Unfit fault place ≡ put (take count payload) begin (valueOf rule kind (between begin end line))
-          → Amiss fault place ≡ takeWords many rule kind (wordsAt from line) []
+      pub goes-wrong : (fault : Fault) (place : ℕ) → Unfit fault place ≡ put (take count payload) begin (valueOf rule form kind (between begin end line))
+          → Amiss fault place ≡ takeWords many rule form kind (wordsAt from line) []
       goes-wrong fault place p =
-          ap (onPut many (wordsAt end line) (λ (bytes : List ℕ). takeWords many rule kind (wordsAt end line) bytes)) p ∙ front
+          ap (onPut many (wordsAt end line) (λ (bytes : List ℕ). takeWords many rule form kind (wordsAt end line) bytes)) p ∙ front
 
-      pub gathers : (after : List ℕ) (n : ℕ) → Added (take n after) ≡ put (take count payload) begin (valueOf rule kind (between begin end line))
-          → n ≤ 240 → end ≤ length line → length after ≡ length payload → Gathering rule kind many line from before after n end many
+      pub gathers : (after : List ℕ) (n : ℕ) → Added (take n after) ≡ put (take count payload) begin (valueOf rule form kind (between begin end line))
+          → n ≤ 240 → end ≤ length line → length after ≡ length payload → Gathering rule form kind many line from before after n end many
       gathers after n p few within same = record {
-        leads = ap (onPut many (wordsAt end line) (λ (bytes : List ℕ). takeWords many rule kind (wordsAt end line) bytes)) p ∙ front;
+        leads = ap (onPut many (wordsAt end line) (λ (bytes : List ℕ). takeWords many rule form kind (wordsAt end line) bytes)) p ∙ front;
         few = few;
         within = within;
         room = same ∙ g .room;
@@ -103,12 +100,11 @@ module _ (rule : Rule) (kind : Kind) (many : Bool) (line : List ℕ) (from : ℕ
       }
 
 -- ---- the record
-pub head-is : (kind : Kind) (payload : List ℕ) (k : ℕ) → length payload ≤ 240 → k ≡ numberOf kind
-    → (2 + length payload) ∷ 0 ∷ (k % 256) ∷ (k / 256) ∷ payload ≡ recordBytes kind payload
-head-is kind payload k h e =
-    rw e (ap (λ (l : List ℕ). l ++ (le2 (numberOf kind) ++ payload)) (le2-small (2 + length payload) (omega arith)))
+pub head-is : (kind : ℕ) (payload : List ℕ) → length payload ≤ 240
+    → (2 + length payload) ∷ 0 ∷ (kind % 256) ∷ (kind / 256) ∷ payload ≡ recordBytes kind payload
+head-is kind payload h = ap (λ (l : List ℕ). l ++ (le2 kind ++ payload)) (le2-small (2 + length payload) (omega arith))
 
-module _ (kind : Kind) (place : ℕ) (t : Taken) where
+module _ (kind place : ℕ) (t : Taken) where
   pub is-missing : (payload : List ℕ) (count : ℕ) (ws : List Word) → count ≡ 0 → Payload (take count payload) ws ≡ t → Wrong Missing place ≡ closed kind
       (needed place t)
   is-missing payload count ws z e = ap (λ (n : ℕ). closed kind (needed place (Payload (take n payload) ws))) (sym z) ∙ ap
@@ -143,20 +139,34 @@ module _ (line : List ℕ) (at code : ℕ) (s : Span) (w : NextWord line at s) w
       go true z = rw (no-word line at s w (eqb-true (s .from) (s .to) z))
       go false z = rw (a-word line at s w (eqb-false (s .from) (s .to) z), e)
 
-module _ (from code named : ℕ) (ws : List Word) (e : code ≡ named) where
-  pub is-command : code < 128 → closed Command (withSr code ws) ≡ commandLine from named ws
-  is-command h = rw (← e, lt-ltb code 128 h)
-
-  pub no-command : 128 ≤ code → Wrong NoName from ≡ commandLine from named ws
-  no-command h = rw (← e, le-ltb code 128 h)
-
 -- ---- the line
 module _ (rule : Rule) (line : List ℕ) where
-  pub empty-line : wordsAt 0 line ≡ [] → Empty ≡ lineOf rule line
-  unfolding lineOf
+  pub empty-line : wordsAt 0 line ≡ [] → Empty ≡ saidOf rule line
+  unfolding saidOf
   empty-line e = ap (lineIn rule) (sym e)
 
-  pub some-line : (w : Word) (ws : List Word) (kind : Kind) → wordsAt 0 line ≡ w ∷ ws → kind ≡ kindNamed (w .text) → lineBy (formOf kind) rule kind w ws
-      ≡ lineOf rule line
-  unfolding lineOf
-  some-line w ws kind e k = ap (λ (n : Kind). lineBy (formOf n) rule n w ws) k ∙ ap (lineIn rule) (sym e)
+  module _ (w : Word) (ws : List Word) (place : ℕ) (e : wordsAt 0 line ≡ w ∷ ws) (k : place ≡ placeNamed (w .text)) where
+    at-name : lineAt rule place w ws ≡ saidOf rule line
+    unfolding saidOf
+    at-name = ap (λ (p : ℕ). lineAt rule p w ws) k ∙ ap (lineIn rule) (sym e)
+
+    pub command-line : place < 128 → closed (kindNumber Command) (withSr place ws) ≡ saidOf rule line
+    command-line h =
+        ap (λ (t : Bool). cond t (closed (kindNumber Command) (withSr place ws)) (lineBy rule (formOf (kindAt place)) (numberAt place) w ws))
+        (sym (lt-ltb place 128 h)) ∙ at-name
+
+    pub kind-line : 128 ≤ place → (form : Form) (kind : ℕ) → form ≡ formOf (kindAt place) → kind ≡ numberAt place
+        → lineBy rule form kind w ws ≡ saidOf rule line
+    kind-line h form kind f g =
+        ap₂ (λ (x : Form) (y : ℕ). lineBy rule x y w ws) f g
+        ∙ ap (λ (t : Bool). cond t (closed (kindNumber Command) (withSr place ws)) (lineBy rule (formOf (kindAt place)) (numberAt place) w ws))
+        (sym (le-ltb place 128 h)) ∙ at-name
+
+-- ---- words behind the name of a kind, which ends where its word does
+module _ (rule : Rule) (kind : ℕ) (line : List ℕ) (from to : ℕ) (h : from ≤ to) (k : to ≤ length line) where
+  pub by-values : (many : Bool) {form told : Form} {said : Said} → form ≡ told
+      → valuesIn rule told kind many (from + length (between from to line)) (wordsAt to line) ≡ kindLine rule told kind line from to
+      → said ≡ valuesLine rule form kind many line to → said ≡ kindLine rule form kind line from to
+  by-values many {form} {told} e is r =
+      r ∙ ap₂ (λ (f : Form) (n : ℕ). valuesIn rule f kind many n (wordsAt to line)) e (ends-at line from to h k) ∙ is
+      ∙ ap (λ (f : Form). kindLine rule f kind line from to) (sym e)

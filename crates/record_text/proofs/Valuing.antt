@@ -1,5 +1,5 @@
 -- The value of a word by what its digits were read as. Assumes nothing.
-use mathlib.Core.Path.{_≡_, refl, sym, ap, _∙_}
+use mathlib.Core.Path.{_≡_, refl, sym}
 use mathlib.Core.Bool.{Bool, true, false, cond}
 use mathlib.Core.List.{List}
 use Prim.Native.Nat.{ℕ, _≤_, _<_}
@@ -12,8 +12,6 @@ use Rattle.decimals.specs.declared.read.Scanned.the-variants.{Digits, TooMany}
 use Rattle.listing.specs.declared.hex.Hex.{Hex}
 use Rattle.decimals.specs.Read.{scanOf}
 use Rattle.listing.specs.Hex.{hexOf}
-use Rattle.record_text.specs.Kinds.{numberOf}
-use Rattle.record_text.specs.declared.kinds.Kind.{Kind}
 use Rattle.record_text.specs.declared.values.Fault.the-variants.{NoNumber, OutOfRange, NoCode}
 use Rattle.record_text.specs.declared.values.Value.the-variants.{Number, Wrong}
 use Rattle.record_text.specs.declared.values.Range.{Range}
@@ -55,16 +53,16 @@ module _ (r s : Range) (n : ℕ) (e : r ≡ s) where
   pub in-range : r .least ≤ n → n ≤ r .most → Number n (r .size) ≡ ranged s n
   in-range l h = rw (← e, le-ltb n (r .least) l, le-ltb (r .most) n h)
 
-module _ (kind : Kind) (text : List ℕ) (value count : ℕ) (e : Digits value count ≡ scanOf text) where
-  pub all-digits : (k : ℕ) → count ≡ length text → k ≡ numberOf kind → ranged (rangeOf k) value ≡ numberFor kind text
+module _ (kind : ℕ) (text : List ℕ) (value count : ℕ) (e : Digits value count ≡ scanOf text) where
+  pub all-digits : count ≡ length text → ranged (rangeOf kind) value ≡ numberFor kind text
   unfolding numberFor
-  all-digits k c f = rw (← e, eq-eqb count (length text) c, f)
+  all-digits c = rw (← e, eq-eqb count (length text) c)
 
   pub not-all : (count ≡ length text → ⊥) → Wrong NoNumber count ≡ numberFor kind text
   unfolding numberFor
   not-all c = rw (← e, ne-eqb count (length text) c)
 
-pub too-many : (kind : Kind) (text : List ℕ) (place : ℕ) → TooMany place ≡ scanOf text → Wrong OutOfRange place ≡ numberFor kind text
+pub too-many : (kind : ℕ) (text : List ℕ) (place : ℕ) → TooMany place ≡ scanOf text → Wrong OutOfRange place ≡ numberFor kind text
 unfolding numberFor
 too-many kind text place e = rw (← e)
 

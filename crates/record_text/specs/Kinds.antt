@@ -1,89 +1,69 @@
--- The kinds of records: 01's numbers and names, 02's for the error memory and for module sheets, and what stands behind each name. Definitions only. Assumes
--- nothing.
-use Prim.Native.Nat.{ℕ, _-_, _≤_}
-use mathlib.Core.Path.{_≡_}
+-- The kinds of records: 01's, 02's for the error memory and for module sheets; the number and the name of each, and what stands behind the name.
+-- Definitions only. Assumes nothing.
+use Prim.Native.Nat.{ℕ, _+_, _-_}
+use Prim.Native.String.{String}
 use mathlib.Core.Bool.{cond}
-use mathlib.Core.List.{List, [], _∷_, _++_}
-use lib.Dec.{eqb}
-use lib.ListN.{length, take, drop}
-use Rattle.record_text.specs.Letters.{a, c, d, e, f, g, h, k, l, m, n, o, p, r, s, t, u, w}
-use Rattle.record_text.specs.declared.kinds.Kind.{Kind}
-use Rattle.record_text.specs.declared.kinds.Kind.the-variants.{Push, Pop, Command, Status, Reset, Acknowledge}
-use Rattle.record_text.specs.declared.kinds.Kind.the-variants.{Recall, Forget, Open, Keep, Close, Unknown}
+use mathlib.Core.List.{List, [], _∷_}
+use lib.Dec.{eqb, ltb}
+use Rattle.record_text.specs.Letters.{written}
 use Rattle.record_text.specs.declared.kinds.Form.{Form}
 use Rattle.record_text.specs.declared.kinds.Form.the-variants.{Bytes, Number, Code, Alone, Unknown as Formless}
-use Rattle.record_text.specs.declared.kinds.Span.{Span}
 
--- the number of a kind in a record's second word
-abbrev pub numberOf : Kind → ℕ
-numberOf Push = 1
-numberOf Pop = 2
-numberOf Command = 3
-numberOf Status = 4
-numberOf Reset = 5
-numberOf Acknowledge = 6
-numberOf Recall = 7
-numberOf Forget = 8
-numberOf Open = 256
-numberOf Keep = 257
-numberOf Close = 258
-numberOf Unknown = 0
+pub data Kind : Type 0 where
+  Push Pop Command Status Reset Acknowledge Recall Forget Open Keep Close Unknown : Kind
 
--- and the kind of a number
-abbrev pub kindOf : ℕ → Kind
-kindOf number =
-    cond (eqb number 1) Push
-    (cond (eqb number 2) Pop
-    (cond (eqb number 3) Command
-    (cond (eqb number 4) Status
-    (cond (eqb number 5) Reset
-    (cond (eqb number 6) Acknowledge
-    (cond (eqb number 7) Recall
-    (cond (eqb number 8) Forget
-    (cond (eqb number 256) Open
-    (cond (eqb number 257) Keep
-    (cond (eqb number 258) Close
-    Unknown))))))))))
+-- what a kind has: its number in a record's second word, its name in a text, what stands behind the name (bytes and words, a number, a code, nothing)
+pub record KindEntry : Type 0 where
+  pub number : ℕ
+  pub name : List ℕ
+  pub form : Form
 
--- its name in a text; a command of document 001 has a name of its own
+abbrev pub entry : ℕ → String → Form → KindEntry
+entry number name form = record { number = number; name = written name; form = form }
+
+-- a command of document 001 has a name of its own beside that of its kind
+abbrev pub kindEntry : Kind → KindEntry
+kindEntry Push = entry 1 "push" Bytes
+kindEntry Pop = entry 2 "pop" Number
+kindEntry Command = entry 3 "command" Code
+kindEntry Status = entry 4 "status" Alone
+kindEntry Reset = entry 5 "reset" Alone
+kindEntry Acknowledge = entry 6 "acknowledge" Alone
+kindEntry Recall = entry 7 "recall" Alone
+kindEntry Forget = entry 8 "forget" Alone
+kindEntry Open = entry 256 "open" Number
+kindEntry Keep = entry 257 "keep" Number
+kindEntry Close = entry 258 "close" Alone
+kindEntry Unknown = record { number = 0; name = []; form = Formless }
+
+abbrev pub kindNumber : Kind → ℕ
+kindNumber kind = kindEntry kind .number
+
 abbrev pub kindName : Kind → List ℕ
-kindName Push = p ∷ u ∷ s ∷ h ∷ []
-kindName Pop = p ∷ o ∷ p ∷ []
-kindName Command = c ∷ o ∷ m ∷ m ∷ a ∷ n ∷ d ∷ []
-kindName Status = s ∷ t ∷ a ∷ t ∷ u ∷ s ∷ []
-kindName Reset = r ∷ e ∷ s ∷ e ∷ t ∷ []
-kindName Acknowledge = a ∷ c ∷ k ∷ n ∷ o ∷ w ∷ l ∷ e ∷ d ∷ g ∷ e ∷ []
-kindName Recall = r ∷ e ∷ c ∷ a ∷ l ∷ l ∷ []
-kindName Forget = f ∷ o ∷ r ∷ g ∷ e ∷ t ∷ []
-kindName Open = o ∷ p ∷ e ∷ n ∷ []
-kindName Keep = k ∷ e ∷ e ∷ p ∷ []
-kindName Close = c ∷ l ∷ o ∷ s ∷ e ∷ []
-kindName Unknown = []
+kindName kind = kindEntry kind .name
 
--- what stands behind the name: bytes and words, a number, a code, nothing
 abbrev pub formOf : Kind → Form
-formOf Push = Bytes
-formOf Pop = Number
-formOf Command = Code
-formOf Status = Alone
-formOf Reset = Alone
-formOf Acknowledge = Alone
-formOf Recall = Alone
-formOf Forget = Alone
-formOf Open = Number
-formOf Keep = Number
-formOf Close = Alone
-formOf Unknown = Formless
+formOf kind = kindEntry kind .form
 
--- ---- the names as the program holds them: in turn, each at its place
+-- the first of some kinds with a number
+abbrev pub kindIn : List Kind → ℕ → Kind
+kindIn [] number = Unknown
+kindIn (kind ∷ kinds) number = cond (eqb number (kindNumber kind)) kind (kindIn kinds number)
 
-abbrev pub kindNames : List ℕ
-kindNames =
-    kindName Push ++ kindName Pop ++ kindName Command ++ kindName Status ++ kindName Reset ++ kindName Acknowledge ++ kindName Recall ++ kindName Forget
-    ++ kindName Open ++ kindName Keep ++ kindName Close
+-- the kind of a number
+abbrev pub numberedKind : ℕ → Kind
+numberedKind number =
+    kindIn (Push ∷ Pop ∷ Command ∷ Status ∷ Reset ∷ Acknowledge ∷ Recall ∷ Forget ∷ Open ∷ Keep ∷ Close ∷ []) number
 
-pub record NamePlace (kind : Kind) (at : Span) : Type 0 where
-  pub reads : take (at .to - at .from) (drop (at .from) kindNames) ≡ kindName kind
-  pub ordered : at .from ≤ at .to
-  pub within : at .to ≤ 61
-  pub short : at .to - at .from ≤ 11
+-- ---- the names in turn: those of the codes 0 to 127, then those of the kinds 1 to 8 and 256 to 258
+
+-- the number of the kind whose name stands at a place, and the kind
+abbrev pub numberAt : ℕ → ℕ
+numberAt place = cond (ltb place 136) (place - 127) (place + 120)
+
+abbrev pub kindAt : ℕ → Kind
+kindAt place = numberedKind (numberAt place)
+
+-- no name stands there
+abbrev pub noPlace : ℕ
+noPlace = 139

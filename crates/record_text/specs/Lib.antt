@@ -9,3 +9,5 @@ pub mod Named
 pub mod Values
 pub mod Line
 pub mod Meaning
+-- what the code holds, for its contracts alone
+pub mod Held

@@ -1,6 +1,5 @@
 -- What a line says: a record, nothing, or what is wrong at which place. Definitions only. Assumes nothing.
-use Prim.Native.Nat.{ℕ, _+_, _≤_}
-use mathlib.Core.Path.{_≡_}
+use Prim.Native.Nat.{ℕ, _+_}
 use mathlib.Core.Bool.{Bool, true, false, cond}
 use mathlib.Core.List.{List, [], _∷_, _++_}
 use lib.Dec.{ltb}
@@ -10,32 +9,27 @@ use Rattle.terms.specs.Limits.{mostPayload}
 use Rattle.little.specs.Little.{le2, le4}
 use Rattle.record_text.specs.Letters.{same}
 use Rattle.record_text.specs.Told.{srWord}
-use Rattle.record_text.specs.Kinds.{numberOf, formOf}
-use Rattle.record_text.specs.declared.kinds.Kind.{Kind}
-use Rattle.record_text.specs.declared.kinds.Kind.the-variants.{Command}
+use Rattle.record_text.specs.Kinds.{Command, kindNumber, formOf, numberAt, kindAt}
 use Rattle.record_text.specs.declared.kinds.Form.{Form}
 use Rattle.record_text.specs.declared.kinds.Form.the-variants.{Bytes, Number as Numbered, Code, Alone, Unknown}
-use Rattle.record_text.specs.Words.{Word, word, wordsAt, wordsOf, between}
-use Rattle.record_text.specs.Named.{kindNamed, codeNamed}
+use Rattle.record_text.specs.Words.{Word, word, wordsOf}
+use Rattle.record_text.specs.Named.{placeNamed}
 use Rattle.record_text.specs.Values.{valueOf}
 use Rattle.record_text.specs.declared.values.Fault.{Fault}
 use Rattle.record_text.specs.declared.values.Fault.the-variants.{NoName, Missing, ManyBytes, Behind}
 use Rattle.record_text.specs.declared.values.Value.{Value}
 use Rattle.record_text.specs.declared.values.Value.the-variants.{Number, Wrong as NoValue}
-use Rattle.record_text.specs.declared.line.Put.{Put as Putting}
-use Rattle.record_text.specs.declared.line.Put.the-variants.{Added as AddedTo, Wrong as Unput}
-use Rattle.record_text.specs.declared.line.Taken.{Taken as Taking}
-use Rattle.record_text.specs.declared.line.Taken.the-variants.{Payload as Taken·Payload, Wrong as Untaken}
-use Rattle.record_text.specs.declared.line.Line.{Line}
-use Rattle.record_text.specs.declared.line.Line.the-variants.{Record as Recorded, Empty as Blank, Wrong as Mistaken}
 
--- the bytes of a record: its length, which counts what follows, its kind, its payload
-abbrev pub recordBytes : Kind → List ℕ → List ℕ
-recordBytes kind payload = le2 (2 + length payload) ++ (le2 (numberOf kind) ++ payload)
+-- the bytes of a record: its length, which counts what follows, the number of its kind, its payload
+abbrev pub recordBytes : ℕ → List ℕ → List ℕ
+recordBytes kind payload = le2 (2 + length payload) ++ (le2 kind ++ payload)
 
--- room for every record
+-- room for every record, and for its text
 abbrev pub recordRoom : ℕ
 recordRoom = 244
+
+abbrev pub textRoom : ℕ
+textRoom = 768
 
 -- what a line says; a place is counted from 0
 pub data Said : Type 0 where
@@ -64,10 +58,10 @@ abbrev pub onPut : Bool → List Word → (List ℕ → Taken) → Put → Taken
 onPut many ws next (Added bytes) = cond many (next bytes) (Payload bytes ws)
 onPut many ws next (Unfit fault place) = Amiss fault place
 
-unfoldable pub takeWords : Bool → Rule → Kind → List Word → List ℕ → Taken
-takeWords many rule kind [] done = Payload done []
-takeWords many rule kind (w ∷ ws) done =
-    onPut many ws (λ (bytes : List ℕ). takeWords many rule kind ws bytes) (put done (w .at) (valueOf rule kind (w .text)))
+unfoldable pub takeWords : Bool → Rule → Form → ℕ → List Word → List ℕ → Taken
+takeWords many rule form kind [] done = Payload done []
+takeWords many rule form kind (w ∷ ws) done =
+    onPut many ws (λ (bytes : List ℕ). takeWords many rule form kind ws bytes) (put done (w .at) (valueOf rule form kind (w .text)))
 
 -- a payload of no byte is wanted, where the name ends
 abbrev pub needed : ℕ → Taken → Taken
@@ -76,7 +70,7 @@ needed place (Payload (b ∷ bytes) ws) = Payload (b ∷ bytes) ws
 needed place (Amiss fault at) = Amiss fault at
 
 -- the record, where no word is left
-abbrev pub closed : Kind → Taken → Said
+abbrev pub closed : ℕ → Taken → Said
 closed kind (Payload bytes []) = Record (recordBytes kind bytes)
 closed kind (Payload bytes (w ∷ ws)) = Wrong Behind (w .at)
 closed kind (Amiss fault place) = Wrong fault place
@@ -86,78 +80,25 @@ abbrev pub withSr : ℕ → List Word → Taken
 withSr code [] = Payload (code ∷ []) []
 withSr code (w ∷ ws) = cond (same srWord (w .text)) (Payload ((code + 128) ∷ []) ws) (Payload (code ∷ []) (w ∷ ws))
 
-abbrev pub commandLine : ℕ → ℕ → List Word → Said
-commandLine at code ws = cond (ltb code 128) (closed Command (withSr code ws)) (Wrong NoName at)
+-- ---- a line by the form of what stands behind the name of a kind of this number, of which all words are taken or one
+abbrev pub valuesIn : Rule → Form → ℕ → Bool → ℕ → List Word → Said
+valuesIn rule form kind many at ws = closed kind (needed at (takeWords many rule form kind ws []))
 
--- ---- a line by what its first word names
-abbrev pub lineBy : Form → Rule → Kind → Word → List Word → Said
-lineBy Bytes rule kind w ws = closed kind (needed (w .at + length (w .text)) (takeWords true rule kind ws []))
-lineBy Numbered rule kind w ws = closed kind (needed (w .at + length (w .text)) (takeWords false rule kind ws []))
-lineBy Code rule kind w ws = closed kind (needed (w .at + length (w .text)) (takeWords false rule kind ws []))
-lineBy Alone rule kind w ws = closed kind (Payload [] ws)
-lineBy Unknown rule kind w ws = commandLine (w .at) (codeNamed (w .text)) ws
+abbrev pub lineBy : Rule → Form → ℕ → Word → List Word → Said
+lineBy rule Bytes kind w ws = valuesIn rule Bytes kind true (w .at + length (w .text)) ws
+lineBy rule Numbered kind w ws = valuesIn rule Numbered kind false (w .at + length (w .text)) ws
+lineBy rule Code kind w ws = valuesIn rule Code kind false (w .at + length (w .text)) ws
+lineBy rule Alone kind w ws = closed kind (Payload [] ws)
+lineBy rule Unknown kind w ws = Wrong NoName (w .at)
+
+-- ---- a line by the name that its first word is: of a command, of a kind, or none
+abbrev pub lineAt : Rule → ℕ → Word → List Word → Said
+lineAt rule place w ws =
+    cond (ltb place 128) (closed (kindNumber Command) (withSr place ws)) (lineBy rule (formOf (kindAt place)) (numberAt place) w ws)
 
 abbrev pub lineIn : Rule → List Word → Said
 lineIn rule [] = Empty
-lineIn rule (w ∷ ws) = lineBy (formOf (kindNamed (w .text))) rule (kindNamed (w .text)) w ws
+lineIn rule (w ∷ ws) = lineAt rule (placeNamed (w .text)) w ws
 
-unfoldable pub lineOf : Rule → List ℕ → Said
-lineOf rule line = lineIn rule (wordsOf line)
-
--- ---- the program's answers, with what it left in the slices that it was lent
-
-abbrev pub putAs : List ℕ → Putting → Put
-putAs payload (AddedTo count) = Added (take count payload)
-putAs payload (Unput fault place) = Unfit fault place
-
-abbrev pub PutFits : Putting → Type 0
-PutFits (AddedTo count) = count ≤ mostPayload
-PutFits (Unput fault place) = Unit
-
-abbrev pub takenAs : List ℕ → List ℕ → Taking → Taken
-takenAs line payload (Taken·Payload count at) = Payload (take count payload) (wordsAt at line)
-takenAs line payload (Untaken fault place) = Amiss fault place
-
-abbrev pub TakenFits : List ℕ → Taking → Type 0
-TakenFits line (Taken·Payload count at) = (count ≤ mostPayload) × (at ≤ length line)
-TakenFits line (Untaken fault place) = Unit
-
-abbrev pub lineAs : List ℕ → Line → Said
-lineAs out (Recorded count) = Record (take count out)
-lineAs out Blank = Empty
-lineAs out (Mistaken fault place) = Wrong fault place
-
-abbrev pub LineFits : Line → Type 0
-LineFits (Recorded count) = count ≤ recordRoom
-LineFits Blank = Unit
-LineFits (Mistaken fault place) = Unit
-
--- a payload with one value more, a payload by words, a line: what each says, and that it fits
-abbrev pub PutsAs : Put → List ℕ → Putting → Type 0
-PutsAs p payload r = (putAs payload r ≡ p) × PutFits r
-
-abbrev pub TakesAs : Taken → List ℕ → List ℕ → Taking → Type 0
-TakesAs t line payload r = (takenAs line payload r ≡ t) × TakenFits line r
-
-abbrev pub SaysAs : Said → List ℕ → Line → Type 0
-SaysAs said out r = (lineAs out r ≡ said) × LineFits r
-
--- the payload by the words of a line from a place on
-abbrev pub wordsTaken : Bool → Rule → Kind → List ℕ → ℕ → Taken
-wordsTaken many rule kind line at = takeWords many rule kind (wordsAt at line) []
-
--- what a line says from a place on: with a payload, by `sr` or none, by words behind a name, by the word of a command, by a kind's name
-abbrev pub closedLine : Kind → List ℕ → List ℕ → ℕ → Said
-closedLine kind payload line at = closed kind (Payload payload (wordsAt at line))
-
-abbrev pub srLine : ℕ → List ℕ → ℕ → Said
-srLine code line at = closed Command (withSr code (wordsAt at line))
-
-abbrev pub valuesLine : Rule → Kind → Bool → List ℕ → ℕ → Said
-valuesLine rule kind many line at = closed kind (needed at (takeWords many rule kind (wordsAt at line) []))
-
-abbrev pub namedLine : List ℕ → ℕ → ℕ → Said
-namedLine line from to = commandLine from (codeNamed (between from to line)) (wordsAt to line)
-
-abbrev pub kindLine : Rule → Kind → List ℕ → ℕ → ℕ → Said
-kindLine rule kind line from to = lineBy (formOf kind) rule kind (word from (between from to line)) (wordsAt to line)
+unfoldable pub saidOf : Rule → List ℕ → Said
+saidOf rule line = lineIn rule (wordsOf line)

@@ -1,26 +1,21 @@
--- What a word names: a kind of record, or a command of document 001. Definitions only. Assumes nothing.
+-- What a word names: a command of document 001, or a kind of record. Definitions only. Assumes nothing.
 use Prim.Native.Nat.{ℕ, zero, suc, _%_}
 use mathlib.Core.Bool.{cond}
 use mathlib.Core.List.{List}
+use lib.Dec.{ltb}
 use Rattle.record_text.specs.Letters.{same}
 use Rattle.record_text.specs.Names.{nameOf}
-use Rattle.record_text.specs.Kinds.{kindOf, kindName}
-use Rattle.record_text.specs.declared.kinds.Kind.{Kind}
-use Rattle.record_text.specs.declared.kinds.Kind.the-variants.{Unknown}
+use Rattle.record_text.specs.Kinds.{kindAt, kindName, noPlace}
 
--- the first of so many numbers from one on whose kind has this name
-unfoldable pub kindFrom : ℕ → ℕ → List ℕ → Kind
-kindFrom zero number text = Unknown
-kindFrom (suc n) number text = cond (same (kindName (kindOf number)) text) (kindOf number) (kindFrom n (suc number) text)
+-- the name at a place: of a code, else of a kind
+abbrev pub nameAt : ℕ → List ℕ
+nameAt place = cond (ltb place 128) (nameOf (place % 128)) (kindName (kindAt place))
 
--- kinds have the numbers 1 to 8 and 256 to 258
-abbrev pub kindNamed : List ℕ → Kind
-kindNamed text = kindFrom 258 1 text
+-- the first of so many places from one on with this name, the one behind them where there is none
+unfoldable pub placeFrom : ℕ → ℕ → List ℕ → ℕ
+placeFrom zero place text = place
+placeFrom (suc n) place text = cond (same (nameAt place) text) place (placeFrom n (suc place) text)
 
--- the first of so many codes from one on with this name, 128 where there is none
-unfoldable pub codeFrom : ℕ → ℕ → List ℕ → ℕ
-codeFrom zero code text = 128
-codeFrom (suc n) code text = cond (same (nameOf (code % 128)) text) code (codeFrom n (suc code) text)
-
-abbrev pub codeNamed : List ℕ → ℕ
-codeNamed text = codeFrom 128 0 text
+-- the names of the codes stand at 0 to 127, those of the kinds at 128 to 138
+abbrev pub placeNamed : List ℕ → ℕ
+placeNamed text = placeFrom noPlace 0 text

@@ -8,11 +8,9 @@ use Rattle.little.specs.Little.{fourAt}
 use Rattle.listing.specs.Text.{decimal, hex}
 use Rattle.listing.specs.Listing.{blank}
 use Rattle.listing.specs.Hex.{digitsTo}
-use Rattle.record_text.specs.Letters.{r, s}
+use Rattle.record_text.specs.Letters.{written}
 use Rattle.record_text.specs.Names.{nameOf}
-use Rattle.record_text.specs.Kinds.{kindName, formOf}
-use Rattle.record_text.specs.declared.kinds.Kind.{Kind}
-use Rattle.record_text.specs.declared.kinds.Kind.the-variants.{Command}
+use Rattle.record_text.specs.Kinds.{Kind, Command, kindName, formOf}
 use Rattle.record_text.specs.declared.kinds.Form.{Form}
 use Rattle.record_text.specs.declared.kinds.Form.the-variants.{Bytes, Number, Code, Alone, Unknown}
 
@@ -44,7 +42,7 @@ groups (a ∷ b ∷ c ∷ d ∷ l) = groupText (a ∷ b ∷ c ∷ d ∷ []) ∷ 
 
 -- `sr`
 abbrev pub srWord : List ℕ
-srWord = s ∷ r ∷ []
+srWord = written "sr"
 
 -- the word behind a name whose code has bit 7 set
 abbrev pub srWords : ℕ → List (List ℕ)
@@ -63,9 +61,6 @@ wordsBy Number kind payload = kindName kind ∷ decimal (fourAt payload 0) ∷ [
 wordsBy Code kind payload = commandWords (getD payload 0 0)
 wordsBy Alone kind payload = kindName kind ∷ []
 wordsBy Unknown kind payload = []
-
-abbrev pub textBy : Form → Kind → List ℕ → List ℕ
-textBy form kind payload = joined (wordsBy form kind payload)
 
 abbrev pub recordWords : Kind → List ℕ → List (List ℕ)
 recordWords kind payload = wordsBy (formOf kind) kind payload

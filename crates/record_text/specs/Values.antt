@@ -1,6 +1,6 @@
 -- The value of a word behind a name: two hex digits are a byte, four a word of 16 bits, eight one of 32, a number with a point a float word; a number; a code.
 -- Definitions only. Assumes nothing.
-use Prim.Native.Nat.{ℕ, _≤_, _<_, _^_}
+use Prim.Native.Nat.{ℕ, _^_}
 use mathlib.Core.Bool.{cond}
 use mathlib.Core.List.{List}
 use lib.Dec.{eqb, ltb}
@@ -18,9 +18,6 @@ use Rattle.listing.specs.declared.hex.Hex.{Hex}
 use Rattle.listing.specs.declared.hex.Hex.the-variants.{Number as Hexed, Nothing}
 use Rattle.decimals.specs.Read.{scanOf, readOf}
 use Rattle.listing.specs.Hex.{hexOf}
-use Rattle.record_text.specs.Kinds.{formOf}
-use Rattle.record_text.specs.Kinds.{numberOf as kindNumber}
-use Rattle.record_text.specs.declared.kinds.Kind.{Kind}
 use Rattle.record_text.specs.declared.kinds.Form.{Form}
 use Rattle.record_text.specs.declared.kinds.Form.the-variants.{Bytes, Number as Numbered, Code, Alone, Unknown as Formless}
 use Rattle.record_text.specs.declared.values.Fault.{Fault}
@@ -77,11 +74,11 @@ abbrev pub ranged : Range → ℕ → Value
 ranged r number = cond (ltb number (r .least)) (Wrong OutOfRange 0) (cond (ltb (r .most) number) (Wrong OutOfRange 0) (Number number (r .size)))
 
 -- digits alone
-abbrev pub scannedFor : Kind → ℕ → Scanned → Value
-scannedFor kind n (Run value count) = cond (eqb count n) (ranged (rangeOf (kindNumber kind)) value) (Wrong NoNumber count)
+abbrev pub scannedFor : ℕ → ℕ → Scanned → Value
+scannedFor kind n (Run value count) = cond (eqb count n) (ranged (rangeOf kind) value) (Wrong NoNumber count)
 scannedFor kind n (TooMany place) = Wrong OutOfRange place
 
-unfoldable pub numberFor : Kind → List ℕ → Value
+unfoldable pub numberFor : ℕ → List ℕ → Value
 numberFor kind text = scannedFor kind (length text) (scanOf text)
 
 -- ---- a code of two hex digits
@@ -93,18 +90,10 @@ codeHex Nothing = Wrong NoCode 0
 unfoldable pub codeOf : List ℕ → Value
 codeOf text = cond (eqb (length text) 2) (codeHex (hexOf text)) (Wrong NoCode 0)
 
--- ---- by the form of what stands behind a name
-abbrev pub valueBy : Form → Rule → Kind → List ℕ → Value
-valueBy Bytes rule kind text = bytesOf rule text
-valueBy Numbered rule kind text = numberFor kind text
-valueBy Code rule kind text = codeOf text
-valueBy Alone rule kind text = Wrong Behind 0
-valueBy Formless rule kind text = Wrong NoName 0
-
-abbrev pub valueOf : Rule → Kind → List ℕ → Value
-valueOf rule kind text = valueBy (formOf kind) rule kind text
-
--- what a caller knows: one to four bytes, and a place that is below 2^63
-abbrev pub Sized : Value → Type 0
-Sized (Number value size) = (1 ≤ size) × (size ≤ 4)
-Sized (Wrong fault place) = place < 2 ^ 63
+-- ---- by the form of what stands behind the name of a kind of this number
+abbrev pub valueOf : Rule → Form → ℕ → List ℕ → Value
+valueOf rule Bytes kind text = bytesOf rule text
+valueOf rule Numbered kind text = numberFor kind text
+valueOf rule Code kind text = codeOf text
+valueOf rule Alone kind text = Wrong Behind 0
+valueOf rule Formless kind text = Wrong NoName 0

@@ -1,11 +1,9 @@
 -- The words of a line: blanks and tabs part them, and `#` starts a comment. Definitions only. Assumes nothing.
-use Prim.Native.Nat.{ℕ, _+_, _-_, _≤_, _<_}
-use mathlib.Core.Path.{_≡_}
-use mathlib.Core.Bool.{Bool, true, false, cond}
+use Prim.Native.Nat.{ℕ, _+_, _-_}
+use mathlib.Core.Bool.{Bool, true, cond}
 use mathlib.Core.List.{List, [], _∷_, _++_}
 use lib.Dec.{eqb}
-use lib.ListN.{length, take, drop, getD}
-use Rattle.record_text.specs.declared.kinds.Span.{Span}
+use lib.ListN.{length, take, drop}
 
 -- a word and its place in the line, counted from 0
 pub record Word : Type 0 where
@@ -20,9 +18,6 @@ isBlank c = cond (eqb c 32) true (eqb c 9)
 
 abbrev pub isHash : ℕ → Bool
 isHash c = eqb c 35
-
-abbrev pub endsWord : ℕ → Bool
-endsWord c = cond (isHash c) true (isBlank c)
 
 -- the word that ends before a place, if there is one, before others
 abbrev pub ended : ℕ → List ℕ → List Word → List Word
@@ -47,24 +42,3 @@ wordsOf line = wordsFrom 0 [] line
 -- the characters of a line from one place to another
 abbrev pub between : ℕ → ℕ → List ℕ → List ℕ
 between from to line = take (to - from) (drop from line)
-
--- what the program finds: where what is no blank begins
-pub record WordFrom (line : List ℕ) (at from : ℕ) : Type 0 where
-  pub is : wordsAt at line ≡ wordsAt from line
-  pub onward : at ≤ from
-  pub within : from ≤ length line
-  pub stops : from < length line → isBlank (getD line from 0) ≡ false
-
--- where the word ends that begins at a place
-pub record WordTo (line : List ℕ) (from to : ℕ) : Type 0 where
-  pub is : wordsAt from line ≡ ended to (between from to line) (wordsAt to line)
-  pub ordered : from ≤ to
-  pub within : to ≤ length line
-  pub stops : to < length line → endsWord (getD line to 0) ≡ true
-
--- where the next word begins and ends, at one place where there is none
-pub record NextWord (line : List ℕ) (at : ℕ) (s : Span) : Type 0 where
-  pub is : wordsAt at line ≡ cond (eqb (s .from) (s .to)) [] (word (s .from) (between (s .from) (s .to) line) ∷ wordsAt (s .to) line)
-  pub onward : at ≤ s .from
-  pub ordered : s .from ≤ s .to
-  pub within : s .to ≤ length line

@@ -1,27 +1,21 @@
-// The kinds of records by 01's numbers and 02's, their names, and the form of what stands behind a name.
+// The kinds of records: their numbers, their names, and the form of what stands behind a name. A kind is known by the
+// place of its name: the names of the codes stand at 0 to 127, those of the kinds 1 to 8 and 256 to 258 at 128 to 138.
 ghost use mathlib.Core.Path.{_≡_};
 ghost use Prim.Native.Nat.{_+_, _≤_};
 ghost use lib.ListN.{length};
 ghost use Rattle.listing.specs.Text.{Adds};
 ghost use Rattle.record_text.specs.Letters.{same};
-ghost use Rattle.record_text.specs.Kinds.{kindOf, formOf, kindName, NamePlace};
+ghost use Rattle.record_text.specs.Kinds.{numberAt, kindAt, noPlace, formOf, kindName};
+ghost use Rattle.record_text.specs.Held.{NamePlace, PlaceOf};
 use listing::text::add;
+use little::four_at;
 
-// 01's kinds 1 to 6, 02's two of the error memory (7, 8) and its three of module sheets (256 to 258).
-pub enum Kind {
-    Push,
-    Pop,
-    Command,
-    Status,
-    Reset,
-    Acknowledge,
-    Recall,
-    Forget,
-    Open,
-    Keep,
-    Close,
-    Unknown,
-}
+// The place of the command's name, the first of module sheets, and the one where no name stands.
+pub const COMMAND: u8 = 130;
+
+const SHEETS: u8 = 136;
+
+pub const NO_PLACE: u8 = 139;
 
 // What stands behind a name: bytes and words, a number, a code, nothing. What is unknown has no name.
 pub enum Form {
@@ -39,72 +33,70 @@ pub struct Span {
 }
 
 // The kind of a number.
-pub fn kind_of(number: u16) -> Kind
-    ensures { λ r. ⌜ r ≡ kindOf number ⌝ }
+pub fn kind_of(number: u16) -> u8
+    ensures { λ r. ⌜ PlaceOf number r ⌝ }
 {
-    match number {
-        1 => Kind::Push,
-        2 => Kind::Pop,
-        3 => Kind::Command,
-        4 => Kind::Status,
-        5 => Kind::Reset,
-        6 => Kind::Acknowledge,
-        7 => Kind::Recall,
-        8 => Kind::Forget,
-        256 => Kind::Open,
-        257 => Kind::Keep,
-        258 => Kind::Close,
-        _ => Kind::Unknown,
+    if number < 9 {
+        return number as u8 + 127;
     }
+    if number < 256 {
+        return NO_PLACE;
+    }
+    if number < 259 {
+        return (number - 120) as u8;
+    }
+    NO_PLACE
+}
+
+// The number of a kind.
+pub fn number_of(kind: u8) -> u16
+    requires { ⌜ 127 ≤ kind ⌝ }
+    ensures { λ r. ⌜ r ≡ numberAt kind ⌝ }
+{
+    if kind < SHEETS {
+        return kind as u16 - 127;
+    }
+    kind as u16 + 120
 }
 
 // The form of what stands behind the name of a kind.
-pub fn form_of(kind: Kind) -> Form
-    ensures { λ r. ⌜ r ≡ formOf kind ⌝ }
+pub fn form_of(kind: u8) -> Form
+    requires { ⌜ (127 ≤ kind) × (kind ≤ noPlace) ⌝ }
+    ensures { λ r. ⌜ r ≡ formOf (kindAt kind) ⌝ }
 {
     match kind {
-        Kind::Push => Form::Bytes,
-        Kind::Pop => Form::Number,
-        Kind::Command => Form::Code,
-        Kind::Status => Form::Alone,
-        Kind::Reset => Form::Alone,
-        Kind::Acknowledge => Form::Alone,
-        Kind::Recall => Form::Alone,
-        Kind::Forget => Form::Alone,
-        Kind::Open => Form::Number,
-        Kind::Keep => Form::Number,
-        Kind::Close => Form::Alone,
-        Kind::Unknown => Form::Unknown,
+        127 => Form::Unknown,
+        128 => Form::Bytes,
+        129 => Form::Number,
+        130 => Form::Code,
+        136 => Form::Number,
+        137 => Form::Number,
+        139 => Form::Unknown,
+        _ => Form::Alone,
     }
 }
 
-// The names of the kinds in turn.
+// The names of the kinds in turn, and where each of them ends.
 const NAMES: [u8; 61] = *b"pushpopcommandstatusresetacknowledgerecallforgetopenkeepclose";
 
+const ENDS: [u8; 16] = [0, 0, 4, 7, 14, 20, 25, 36, 42, 48, 52, 56, 61, 61, 61, 61];
+
 // Where the name of a kind stands among them.
-fn name_place(kind: Kind) -> Span
-    ensures { λ r. ⌜ NamePlace kind r ⌝ }
+fn name_place(kind: u8) -> Span
+    requires { ⌜ (127 ≤ kind) × (kind ≤ noPlace) ⌝ }
+    ensures { λ r. ⌜ NamePlace (kindAt kind) r ⌝ }
 {
-    match kind {
-        Kind::Push => Span { from: 0, to: 4 },
-        Kind::Pop => Span { from: 4, to: 7 },
-        Kind::Command => Span { from: 7, to: 14 },
-        Kind::Status => Span { from: 14, to: 20 },
-        Kind::Reset => Span { from: 20, to: 25 },
-        Kind::Acknowledge => Span { from: 25, to: 36 },
-        Kind::Recall => Span { from: 36, to: 42 },
-        Kind::Forget => Span { from: 42, to: 48 },
-        Kind::Open => Span { from: 48, to: 52 },
-        Kind::Keep => Span { from: 52, to: 56 },
-        Kind::Close => Span { from: 56, to: 61 },
-        Kind::Unknown => Span { from: 61, to: 61 },
+    let ends = four_at(&ENDS, (kind - 127) as usize);
+    Span {
+        from: (ends % 256) as usize,
+        to: (ends / 256 % 256) as usize,
     }
 }
 
 // The name of a kind.
-pub fn add_kind(out: &mut [u8], place: usize, kind: Kind) -> usize
-    requires { ⌜ place + 11 ≤ length (now out) ⌝ }
-    ensures { λ r. ⌜ Adds (kindName kind) (now (out .entry)) (now (out .exit)) place r × (r ≤ place + 11) ⌝ }
+pub fn add_kind(out: &mut [u8], place: usize, kind: u8) -> usize
+    requires { ⌜ (127 ≤ kind) × (kind ≤ noPlace) × (place + 11 ≤ length (now out)) ⌝ }
+    ensures { λ r. ⌜ Adds (kindName (kindAt kind)) (now (out .entry)) (now (out .exit)) place r × (r ≤ place + 11) ⌝ }
 {
     let s = name_place(kind);
     let from = s.from;
@@ -113,8 +105,9 @@ pub fn add_kind(out: &mut [u8], place: usize, kind: Kind) -> usize
 }
 
 // Whether a text is the name of a kind.
-pub fn is_kind(kind: Kind, text: &[u8]) -> bool
-    ensures { λ r. ⌜ r ≡ same (kindName kind) (now (text .entry)) ⌝ }
+pub fn is_kind(kind: u8, text: &[u8]) -> bool
+    requires { ⌜ (127 ≤ kind) × (kind ≤ noPlace) ⌝ }
+    ensures { λ r. ⌜ r ≡ same (kindName (kindAt kind)) (now (text .entry)) ⌝ }
 {
     let s = name_place(kind);
     let from = s.from;

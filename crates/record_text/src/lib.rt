@@ -5,6 +5,7 @@ pub mod kinds;
 pub mod line;
 pub mod named;
 pub mod names;
+pub mod record;
 pub mod told;
 pub mod values;
 pub mod words;

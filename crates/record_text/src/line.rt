@@ -1,12 +1,11 @@
 // A line as a record: its first word names a kind or a command, and the words behind it make the payload.
 use crate::kinds::Form;
-use crate::kinds::Kind;
 use crate::kinds::form_of;
-use crate::named::code_named;
-use crate::named::kind_named;
+use crate::kinds::number_of;
+use crate::named::CODES;
+use crate::named::named;
 use crate::values::Fault;
 use crate::values::Value;
-use crate::values::number_of;
 use crate::values::value_of;
 use crate::words::next_word;
 use listing::text::add;
@@ -17,15 +16,17 @@ ghost use Prim.Native.Nat.{_^_, _≤_, _<_};
 ghost use lib.ListN.{length, take};
 ghost use Rattle.listing.specs.Text.{Adds};
 ghost use Rattle.terms.specs.Limits.{mostPayload};
-ghost use Rattle.record_text.specs.Values.{Sized};
-ghost use Rattle.record_text.specs.Line.{recordRoom, recordBytes, put, PutsAs, wordsTaken, TakesAs, lineOf};
-ghost use Rattle.record_text.specs.Line.{SaysAs};
-ghost use Rattle.record_text.specs.Line.{closedLine, valuesLine, srLine, namedLine, kindLine};
+ghost use Rattle.record_text.specs.Line.{recordRoom, recordBytes, put, saidOf};
+ghost use Rattle.record_text.specs.Held.{Sized, PutsAs, wordsTaken, TakesAs, SaysAs, closedLine, valuesLine};
+ghost use Rattle.record_text.specs.Held.{srLine, kindLine};
 
 // The most bytes of a payload, and of a record.
 const MOST_PAYLOAD: usize = 240;
 
 pub const RECORD_ROOM: usize = 244;
+
+// The number of a command's kind.
+const COMMAND: u16 = 3;
 
 // Bytes with a value more: how many they are, or why there are none, and at which place of the line.
 pub enum Put {
@@ -74,14 +75,15 @@ fn put_value(payload: &mut [u8], count: usize, at: usize, value: Value) -> Put
 // The payload by the words from a place on: all of them, or one.
 fn take_words(
     rule: Rule,
-    kind: Kind,
+    form: Form,
+    kind: u16,
     many: bool,
     line: &[u8],
     from: usize,
     payload: &mut [u8],
 ) -> Taken
     requires { ⌜ (length (now payload) ≡ mostPayload) × (from ≤ length (now line)) ⌝ }
-    ensures { λ r. ⌜ TakesAs (wordsTaken many rule kind (now (line .entry)) from) (now (line .entry))
+    ensures { λ r. ⌜ TakesAs (wordsTaken many rule form kind (now (line .entry)) from) (now (line .entry))
         (now (payload .exit)) r ⌝ }
 {
     let mut count = 0;
@@ -94,7 +96,7 @@ fn take_words(
         if begin == end {
             return Taken::Payload(count, at);
         }
-        let value = value_of(rule, kind, &line[begin..end]);
+        let value = value_of(rule, form, kind, &line[begin..end]);
         let got = put_value(payload, count, begin, value);
         match got {
             Put::Added(n) => count = n,
@@ -107,20 +109,19 @@ fn take_words(
 }
 
 // The bytes of a record.
-fn add_record(out: &mut [u8], kind: Kind, payload: &[u8]) -> usize
+fn add_record(out: &mut [u8], kind: u16, payload: &[u8]) -> usize
     requires { ⌜ (length (now payload) ≤ mostPayload) × (recordRoom ≤ length (now out)) ⌝ }
     ensures { λ r. ⌜ Adds (recordBytes kind (now (payload .entry))) (now (out .entry)) (now (out .exit)) 0 r ⌝ }
     ensures { λ r. ⌜ r ≤ recordRoom ⌝ }
 {
     let n = 2 + payload.len();
-    let k = number_of(kind);
-    let head = [n as u8, 0, (k % 256) as u8, (k / 256) as u8];
+    let head = [n as u8, 0, (kind % 256) as u8, (kind / 256) as u8];
     let next = add(out, 0, &head);
     add(out, next, payload)
 }
 
 // The record, where no word stands from a place on.
-fn close_line(line: &[u8], at: usize, kind: Kind, payload: &[u8], out: &mut [u8]) -> Line
+fn close_line(line: &[u8], at: usize, kind: u16, payload: &[u8], out: &mut [u8]) -> Line
     requires { ⌜ (at ≤ length (now line)) × (length (now payload) ≤ mostPayload) × (recordRoom ≤ length (now out)) ⌝ }
     ensures { λ r. ⌜ SaysAs (closedLine kind (now (payload .entry)) (now (line .entry)) at) (now (out .exit)) r ⌝ }
 {
@@ -134,12 +135,20 @@ fn close_line(line: &[u8], at: usize, kind: Kind, payload: &[u8], out: &mut [u8]
 }
 
 // A line whose name stands before words, from the place on where the name ends.
-fn read_values(rule: Rule, kind: Kind, many: bool, line: &[u8], at: usize, out: &mut [u8]) -> Line
+fn read_values(
+    rule: Rule,
+    form: Form,
+    kind: u16,
+    many: bool,
+    line: &[u8],
+    at: usize,
+    out: &mut [u8],
+) -> Line
     requires { ⌜ (at ≤ length (now line)) × (recordRoom ≤ length (now out)) ⌝ }
-    ensures { λ r. ⌜ SaysAs (valuesLine rule kind many (now (line .entry)) at) (now (out .exit)) r ⌝ }
+    ensures { λ r. ⌜ SaysAs (valuesLine rule form kind many (now (line .entry)) at) (now (out .exit)) r ⌝ }
 {
     let mut payload = [0u8; MOST_PAYLOAD];
-    let taken = take_words(rule, kind, many, line, at, &mut payload);
+    let taken = take_words(rule, form, kind, many, line, at, &mut payload);
     match taken {
         Taken::Payload(count, end) => {
             if count == 0 {
@@ -161,43 +170,38 @@ fn read_named(line: &[u8], at: usize, code: u8, out: &mut [u8]) -> Line
     let to = s.to;
     if check::same(&line[from..to], b"sr") {
         let set = [code + 128];
-        return close_line(line, to, Kind::Command, &set, out);
+        return close_line(line, to, COMMAND, &set, out);
     }
     let plain = [code];
-    close_line(line, at, Kind::Command, &plain, out)
+    close_line(line, at, COMMAND, &plain, out)
 }
 
-// A line whose first word names no kind.
-fn read_command(line: &[u8], from: usize, to: usize, out: &mut [u8]) -> Line
+// A line whose first word names a kind of this number, by the form of what stands behind the name.
+fn read_kind(
+    rule: Rule,
+    form: Form,
+    kind: u16,
+    line: &[u8],
+    from: usize,
+    to: usize,
+    out: &mut [u8],
+) -> Line
     requires { ⌜ (from ≤ to) × (to ≤ length (now line)) × (recordRoom ≤ length (now out)) ⌝ }
-    ensures { λ r. ⌜ SaysAs (namedLine (now (line .entry)) from to) (now (out .exit)) r ⌝ }
+    ensures { λ r. ⌜ SaysAs (kindLine rule form kind (now (line .entry)) from to) (now (out .exit)) r ⌝ }
 {
-    let code = code_named(&line[from..to]);
-    if code < 128 {
-        return read_named(line, to, code, out);
-    }
-    Line::Wrong(Fault::NoName, from)
-}
-
-// A line by the kind that its first word names.
-fn read_kind(rule: Rule, kind: Kind, line: &[u8], from: usize, to: usize, out: &mut [u8]) -> Line
-    requires { ⌜ (from ≤ to) × (to ≤ length (now line)) × (recordRoom ≤ length (now out)) ⌝ }
-    ensures { λ r. ⌜ SaysAs (kindLine rule kind (now (line .entry)) from to) (now (out .exit)) r ⌝ }
-{
-    let form = form_of(kind);
     match form {
-        Form::Bytes => read_values(rule, kind, true, line, to, out),
-        Form::Number => read_values(rule, kind, false, line, to, out),
-        Form::Code => read_values(rule, kind, false, line, to, out),
+        Form::Bytes => read_values(rule, form, kind, true, line, to, out),
+        Form::Number => read_values(rule, form, kind, false, line, to, out),
+        Form::Code => read_values(rule, form, kind, false, line, to, out),
         Form::Alone => close_line(line, to, kind, b"", out),
-        Form::Unknown => read_command(line, from, to, out),
+        Form::Unknown => Line::Wrong(Fault::NoName, from),
     }
 }
 
 // What a line says; the bytes of a record go to the front of the lent ones.
 pub fn read_line(rule: Rule, line: &[u8], out: &mut [u8]) -> Line
     requires { ⌜ recordRoom ≤ length (now out) ⌝ }
-    ensures { λ r. ⌜ SaysAs (lineOf rule (now (line .entry))) (now (out .exit)) r ⌝ }
+    ensures { λ r. ⌜ SaysAs (saidOf rule (now (line .entry))) (now (out .exit)) r ⌝ }
 {
     let s = next_word(line, 0);
     let from = s.from;
@@ -205,6 +209,9 @@ pub fn read_line(rule: Rule, line: &[u8], out: &mut [u8]) -> Line
     if from == to {
         return Line::Empty;
     }
-    let kind = kind_named(&line[from..to]);
-    read_kind(rule, kind, line, from, to, out)
+    let place = named(&line[from..to]);
+    if place < CODES {
+        return read_named(line, to, place, out);
+    }
+    read_kind(rule, form_of(place), number_of(place), line, from, to, out)
 }

@@ -1,41 +1,37 @@
-// What a word names: a kind of record, or a command of document 001.
-use crate::kinds::Kind;
+// What a word names: a command of document 001, or a kind of record.
+use crate::kinds::NO_PLACE;
 use crate::kinds::is_kind;
-use crate::kinds::kind_of;
 use crate::names::is_name;
 ghost use mathlib.Core.Path.{_≡_};
 ghost use Prim.Native.Nat.{_≤_};
-ghost use Rattle.record_text.specs.Named.{kindNamed, codeNamed};
+ghost use Rattle.record_text.specs.Letters.{same};
+ghost use Rattle.record_text.specs.Kinds.{noPlace};
+ghost use Rattle.record_text.specs.Named.{nameAt, placeNamed};
 
-// One more than the last number of a kind, and than the last code.
-const KINDS: u16 = 259;
+// How many codes there are: behind their names stand those of the kinds.
+pub const CODES: u8 = 128;
 
-const CODES: u8 = 128;
-
-// The kind that a word names.
-pub fn kind_named(text: &[u8]) -> Kind
-    ensures { λ r. ⌜ r ≡ kindNamed (now (text .entry)) ⌝ }
+// Whether a text is the name at a place.
+fn is_named(place: u8, text: &[u8]) -> bool
+    requires { ⌜ place ≤ noPlace ⌝ }
+    ensures { λ r. ⌜ r ≡ same (nameAt place) (now (text .entry)) ⌝ }
 {
-    let mut number: u16 = 1;
-    while number < KINDS {
-        if is_kind(kind_of(number), text) {
-            return kind_of(number);
-        }
-        number += 1;
+    if place < CODES {
+        return is_name(place, text);
     }
-    Kind::Unknown
+    is_kind(place, text)
 }
 
-// The code of the command that a word names, 128 where it names none.
-pub fn code_named(text: &[u8]) -> u8
-    ensures { λ r. ⌜ (r ≡ codeNamed (now (text .entry))) × (r ≤ 128) ⌝ }
+// The place of the name that a word is, and the one behind all where it is none.
+pub fn named(text: &[u8]) -> u8
+    ensures { λ r. ⌜ (r ≡ placeNamed (now (text .entry))) × (r ≤ noPlace) ⌝ }
 {
-    let mut code: u8 = 0;
-    while code < CODES {
-        if is_name(code, text) {
-            return code;
+    let mut place: u8 = 0;
+    while place < NO_PLACE {
+        if is_named(place, text) {
+            return place;
         }
-        code += 1;
+        place += 1;
     }
-    CODES
+    NO_PLACE
 }

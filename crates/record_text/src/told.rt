@@ -1,8 +1,9 @@
 // The text of a record: the name of its kind and what stands behind it, parted by single blanks.
+use crate::kinds::COMMAND;
 use crate::kinds::Form;
-use crate::kinds::Kind;
 use crate::kinds::add_kind;
 use crate::kinds::form_of;
+use crate::kinds::kind_of;
 use crate::names::name_of;
 use listing::add_field;
 use listing::hex::add_digits;
@@ -16,14 +17,15 @@ ghost use lib.ListN.{length, getD};
 ghost use Rattle.listing.specs.Text.{Adds};
 ghost use Rattle.listing.specs.Listing.{blank};
 ghost use Rattle.little.specs.Little.{fourAt};
+ghost use Rattle.record_text.specs.Kinds.{numberedKind};
 ghost use Rattle.record_text.specs.Told.{groupText, groupSize, groups, spaced, joined, srWords};
-ghost use Rattle.record_text.specs.Told.{commandWords, textBy, recordText};
+ghost use Rattle.record_text.specs.Told.{commandWords, recordText};
 
 // The most bytes of a word.
 const WORD: usize = 4;
 
 // A byte of a payload, 0 where there is none.
-fn byte_at(bytes: &[u8], i: usize) -> u8
+pub fn byte_at(bytes: &[u8], i: usize) -> u8
     ensures { λ r. ⌜ r ≡ getD (now (bytes .entry)) i 0 ⌝ }
 {
     if i < bytes.len() {
@@ -73,12 +75,14 @@ fn add_groups(out: &mut [u8], place: usize, bytes: &[u8]) -> usize
     ensures { λ r. ⌜ Adds (spaced (groups (now (bytes .entry)))) (now (out .entry)) (now (out .exit)) place r ⌝ }
     ensures { λ r. ⌜ r ≤ place + 3 * length (now (bytes .entry)) ⌝ }
 {
-    if bytes.len() == 0 {
-        return place;
+    let mut next = place;
+    let mut at = 0;
+    while at < bytes.len() {
+        let end = at + group_size(bytes.len() - at);
+        next = add_group(out, next, &bytes[at..end]);
+        at = end;
     }
-    let size = group_size(bytes.len());
-    let next = add_group(out, place, &bytes[..size]);
-    add_groups(out, next, &bytes[size..])
+    next
 }
 
 // `sr` where bit 7 of a code is set.
@@ -102,45 +106,31 @@ fn add_command(out: &mut [u8], place: usize, code: u8) -> usize
     let text = name.text;
     let size = name.size;
     if size == 0 {
-        let next = add_kind(out, place, Kind::Command);
+        let next = add_kind(out, place, COMMAND);
         return add_hex(out, next, code);
     }
     let next = add(out, place, &text[..size]);
     add_sr(out, next, code)
 }
 
-// A push: its name and its bytes as words.
-fn add_push(out: &mut [u8], place: usize, kind: Kind, payload: &[u8]) -> usize
-    requires { ⌜ place + 16 + 3 * length (now payload) ≤ length (now out) ⌝ }
-    ensures { λ r. ⌜ Adds (textBy Form.Bytes kind (now (payload .entry))) (now (out .entry))
-        (now (out .exit)) place r ⌝ }
-    ensures { λ r. ⌜ r ≤ place + 16 + 3 * length (now (payload .entry)) ⌝ }
-{
-    let next = add_kind(out, place, kind);
-    add_groups(out, next, payload)
-}
-
-// A kind with a number.
-fn add_counted(out: &mut [u8], place: usize, kind: Kind, payload: &[u8]) -> usize
-    requires { ⌜ place + 32 ≤ length (now out) ⌝ }
-    ensures { λ r. ⌜ Adds (textBy Form.Number kind (now (payload .entry))) (now (out .entry)) (now (out .exit)) place r
-        ⌝ }
-    ensures { λ r. ⌜ r ≤ place + 32 ⌝ }
-{
-    let next = add_kind(out, place, kind);
-    add_field(out, next, number_in(payload) as u64)
-}
-
-// The text of a record of this kind with this payload.
-pub fn add_told(out: &mut [u8], place: usize, kind: Kind, payload: &[u8]) -> usize
+// The text of a record whose kind has this number, with this payload.
+pub fn add_told(out: &mut [u8], place: usize, number: u16, payload: &[u8]) -> usize
     requires { ⌜ place + 32 + 3 * length (now payload) ≤ length (now out) ⌝ }
-    ensures { λ r. ⌜ Adds (recordText kind (now (payload .entry))) (now (out .entry)) (now (out .exit)) place r ⌝ }
+    ensures { λ r. ⌜ Adds (recordText (numberedKind number) (now (payload .entry))) (now (out .entry)) (now (out .exit)) place
+        r ⌝ }
     ensures { λ r. ⌜ r ≤ place + 32 + 3 * length (now (payload .entry)) ⌝ }
 {
+    let kind = kind_of(number);
     let form = form_of(kind);
     match form {
-        Form::Bytes => add_push(out, place, kind, payload),
-        Form::Number => add_counted(out, place, kind, payload),
+        Form::Bytes => {
+            let next = add_kind(out, place, kind);
+            add_groups(out, next, payload)
+        }
+        Form::Number => {
+            let next = add_kind(out, place, kind);
+            add_field(out, next, number_in(payload) as u64)
+        }
         Form::Code => add_command(out, place, byte_at(payload, 0)),
         Form::Alone => add_kind(out, place, kind),
         Form::Unknown => place,

@@ -1,7 +1,5 @@
 // The value of a word behind a name: bytes of a push, a number, a code; or why it is none, at which place of the word.
 use crate::kinds::Form;
-use crate::kinds::Kind;
-use crate::kinds::form_of;
 use decimals::read::Reading;
 use decimals::read::Scanned;
 use decimals::read::read;
@@ -13,26 +11,26 @@ use terms::Rule;
 ghost use mathlib.Core.Path.{_≡_};
 ghost use Prim.Native.Nat.{_^_, _≤_, _<_};
 ghost use lib.ListN.{length};
-ghost use Rattle.record_text.specs.Kinds.{numberOf as Kinds·numberOf};
-ghost use Rattle.record_text.specs.Values.{decimalFault, refusedFault, sizeFor, rangeOf, ranged, Sized};
+ghost use Rattle.record_text.specs.Values.{decimalFault, refusedFault, sizeFor, rangeOf, ranged};
+ghost use Rattle.record_text.specs.Held.{Sized};
 ghost use Rattle.record_text.specs.Values.{decimalOf, bytesOf, numberFor, codeOf, valueOf};
 
-// Why a line is no record.
+// Why a line is no record, with the number by which ./records knows it.
 pub enum Fault {
-    NoName,
-    Missing,
-    NoDigit,
-    NoPoint,
-    ManyDigits,
-    ManyPlaces,
-    NoEnd,
-    TooLarge,
-    TooSmall,
-    ManyBytes,
-    NoNumber,
-    OutOfRange,
-    NoCode,
-    Behind,
+    NoName = 1,
+    Missing = 2,
+    NoDigit = 3,
+    NoPoint = 4,
+    ManyDigits = 5,
+    ManyPlaces = 6,
+    NoEnd = 7,
+    TooLarge = 8,
+    TooSmall = 9,
+    ManyBytes = 10,
+    NoNumber = 11,
+    OutOfRange = 12,
+    NoCode = 13,
+    Behind = 14,
 }
 
 // A number that goes into so many bytes; or why there is none, and the place in the word, counted from 0.
@@ -111,26 +109,6 @@ fn byte_value(rule: Rule, text: &[u8]) -> Value
     }
 }
 
-// The number of a kind.
-pub fn number_of(kind: Kind) -> u16
-    ensures { λ r. ⌜ r ≡ Kinds·numberOf kind ⌝ }
-{
-    match kind {
-        Kind::Push => 1,
-        Kind::Pop => 2,
-        Kind::Command => 3,
-        Kind::Status => 4,
-        Kind::Reset => 5,
-        Kind::Acknowledge => 6,
-        Kind::Recall => 7,
-        Kind::Forget => 8,
-        Kind::Open => 256,
-        Kind::Keep => 257,
-        Kind::Close => 258,
-        Kind::Unknown => 0,
-    }
-}
-
 // The numbers that may stand behind the name of a kind of this number.
 fn range_of(number: u16) -> Range
     ensures { λ r. ⌜ (r ≡ rangeOf number) × (r .most < 2 ^ 32) × (1 ≤ r .size) × (r .size ≤ 4) ⌝ }
@@ -168,15 +146,15 @@ fn ranged_value(kind: u16, number: u64) -> Value
     Value::Number(number as u32, range.size)
 }
 
-// A number of decimal digits.
-fn number_value(kind: Kind, text: &[u8]) -> Value
+// A number of decimal digits behind the name of a kind of this number.
+fn number_value(kind: u16, text: &[u8]) -> Value
     ensures { λ r. ⌜ (r ≡ numberFor kind (now (text .entry))) × Sized r ⌝ }
 {
     let scanned = scan(text);
     match scanned {
         Scanned::Digits { value, count } => {
             if count == text.len() {
-                return ranged_value(number_of(kind), value);
+                return ranged_value(kind, value);
             }
             Value::Wrong(Fault::NoNumber, count)
         }
@@ -198,11 +176,10 @@ fn code_value(text: &[u8]) -> Value
     }
 }
 
-// The value of a word behind the name of a kind.
-pub fn value_of(rule: Rule, kind: Kind, text: &[u8]) -> Value
-    ensures { λ r. ⌜ (r ≡ valueOf rule kind (now (text .entry))) × Sized r ⌝ }
+// The value of a word behind the name of a kind of this number, by the form of what stands there.
+pub fn value_of(rule: Rule, form: Form, kind: u16, text: &[u8]) -> Value
+    ensures { λ r. ⌜ (r ≡ valueOf rule form kind (now (text .entry))) × Sized r ⌝ }
 {
-    let form = form_of(kind);
     match form {
         Form::Bytes => byte_value(rule, text),
         Form::Number => number_value(kind, text),

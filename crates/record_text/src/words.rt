@@ -3,7 +3,7 @@ use crate::kinds::Span;
 ghost use mathlib.Core.Path.{_≡_};
 ghost use Prim.Native.Nat.{_≤_};
 ghost use lib.ListN.{length};
-ghost use Rattle.record_text.specs.Words.{isBlank, endsWord, WordFrom, WordTo, NextWord};
+ghost use Rattle.record_text.specs.Held.{passes, RunTo, NextWord};
 
 // The characters of a blank, a tab and a hash.
 const BLANK: u8 = 32;
@@ -12,49 +12,30 @@ const TAB: u8 = 9;
 
 const HASH: u8 = 35;
 
-// Whether a character parts words.
-fn is_blank(c: u8) -> bool
-    ensures { λ r. ⌜ r ≡ isBlank c ⌝ }
-{
-    if c == BLANK {
-        return true;
-    }
-    c == TAB
-}
-
-// Whether no word has a character.
-fn ends_word(c: u8) -> bool
-    ensures { λ r. ⌜ r ≡ endsWord c ⌝ }
+// Whether a character is passed over on the way to the end of blanks, or of a word.
+fn passes(blanks: bool, c: u8) -> bool
+    ensures { λ r. ⌜ r ≡ passes blanks c ⌝ }
 {
     if c == HASH {
-        return true;
+        return false;
     }
-    is_blank(c)
+    if c == BLANK {
+        return blanks;
+    }
+    if c == TAB {
+        return blanks;
+    }
+    !blanks
 }
 
-// Where what is no blank begins.
-fn word_from(line: &[u8], at: usize) -> usize
+// Where the blanks from a place on end, or the word.
+fn run_end(blanks: bool, line: &[u8], at: usize) -> usize
     requires { ⌜ at ≤ length (now line) ⌝ }
-    ensures { λ r. ⌜ WordFrom (now (line .entry)) at r ⌝ }
+    ensures { λ r. ⌜ RunTo blanks (now (line .entry)) at r ⌝ }
 {
     let mut i = at;
     while i < line.len() {
-        if !is_blank(line[i]) {
-            return i;
-        }
-        i += 1;
-    }
-    i
-}
-
-// Where the word ends that begins at a place.
-fn word_to(line: &[u8], from: usize) -> usize
-    requires { ⌜ from ≤ length (now line) ⌝ }
-    ensures { λ r. ⌜ WordTo (now (line .entry)) from r ⌝ }
-{
-    let mut i = from;
-    while i < line.len() {
-        if ends_word(line[i]) {
+        if !passes(blanks, line[i]) {
             return i;
         }
         i += 1;
@@ -67,7 +48,7 @@ pub fn next_word(line: &[u8], at: usize) -> Span
     requires { ⌜ at ≤ length (now line) ⌝ }
     ensures { λ r. ⌜ NextWord (now (line .entry)) at r ⌝ }
 {
-    let from = word_from(line, at);
-    let to = word_to(line, from);
+    let from = run_end(true, line, at);
+    let to = run_end(false, line, from);
     Span { from, to }
 }

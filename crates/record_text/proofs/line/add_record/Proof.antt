@@ -11,16 +11,13 @@ use Rattle.record_text.proofs.line.add_record.Tie as tie
 returns : tie.Need-returns
 returns c =
     let at-head = c .before .before .before .before .before .before in
-    let at-number = at-head .before .before .before in
-    let start = at-number .before .before .before in
-    let a = start .args in (
-      told-as (head-is (a .kind) (now (a .payload)) (at-number .number-of .result) (start .pre .0) (at-number .number-of .ensures))
-          (both (at-head .add .ensures) (c .before .before .add2 .ensures)),
+    let start = at-head .before .before .before .before .before in (
+      told-as (head-is (start .args .kind) (now (start .args .payload)) (start .pre .0)) (both (at-head .add .ensures) (c .before .before .add2 .ensures)),
       omega (arith, start .pre .0, at-head .add .ensures .moved, c .before .before .add2 .ensures .moved),
     )
 
 pub add-record-spec : {M : Type 1} → statement M
 add-record-spec =
     tie.close
-    (tie.spec (λ c. search needs) (λ c κs. search needs) (λ c. search needs) (λ c. search needs) (λ c. search needs)
-    (λ c. search needs) (λ c κs. search needs) (λ c κs. search needs) (λ c. search needs) returns)
+    (tie.spec (λ c. search needs) (λ c. search needs) (λ c. search needs) (λ c. search needs) (λ c. search needs)
+    (λ c κs. search needs) (λ c κs. search needs) (λ c. search needs) returns)

@@ -4,7 +4,7 @@ use denote.Ref.{now}
 use native.Mathlib.Omega.{arith}
 use borrow.Author.Needs.{needs}
 use lib.ListN.{take}
-use Rattle.record_text.specs.Values.{Sized}
+use Rattle.record_text.specs.Held.{Sized}
 use Rattle.record_text.specs.Line.{put}
 use Rattle.record_text.proofs.line.put_value.Statement.{statement}
 use Rattle.record_text.proofs.line.put_value.Tie as tie

@@ -4,7 +4,6 @@ use denote.Ref.{now}
 use native.Mathlib.Omega.{arith}
 use borrow.Author.Needs.{needs}
 use Rattle.record_text.proofs.Same.{is-same}
-use Rattle.record_text.specs.declared.kinds.Kind.the-variants.{Command}
 use Rattle.record_text.specs.Line.{closed}
 use Rattle.record_text.proofs.Taking.{sr-set, sr-plain}
 use Rattle.record_text.proofs.line.read_named.Statement.{statement}
@@ -17,7 +16,7 @@ returns c =
     let a = at-same .before .before .before .before .before .before .args in
     let tested = is-same (at-same .same .result) _ _ (at-same .same .ensures .0) (at-same .same .ensures .1) in (
       c .before .before .close-line .ensures .0
-          ∙ ap (closed Command) (sr-set (now (a .line)) (a .at) (a .code) (w .result) (w .ensures)
+          ∙ ap (closed 3) (sr-set (now (a .line)) (a .at) (a .code) (w .result) (w .ensures)
           (sym tested ∙ c .before .before .before .before .before .if1 .taken)),
       c .before .before .close-line .ensures .1,
     )
@@ -29,7 +28,7 @@ returns-2 c =
     let a = at-same .before .before .before .before .before .before .args in
     let tested = is-same (at-same .same .result) _ _ (at-same .same .ensures .0) (at-same .same .ensures .1) in (
       c .before .before .close-line2 .ensures .0
-          ∙ ap (closed Command) (sr-plain (now (a .line)) (a .at) (a .code) (w .result) (w .ensures)
+          ∙ ap (closed 3) (sr-plain (now (a .line)) (a .at) (a .code) (w .result) (w .ensures)
           (sym tested ∙ c .before .before .before .before .before .if1 .left)),
       c .before .before .close-line2 .ensures .1,
     )

@@ -11,13 +11,12 @@ use Rattle.record_text.proofs.values.number_value.Tie as tie
 
 returns : tie.Need-returns
 returns c =
-    let at-if = c .before .before in
+    let at-if = c .before in
     let at-scanned = at-if .before .before in
     let at-scan = at-scanned .before .before in
     let a = at-scan .before .before .args in (
       c .ranged-value .ensures .0
-          ∙ all-digits (a .kind) (now (a .text)) _ _ (sym (at-scanned .scanned .given .1) ∙ at-scan .scan .ensures .0) _ (at-if .if1 .taken)
-          (c .before .number-of .ensures),
+          ∙ all-digits (a .kind) (now (a .text)) _ _ (sym (at-scanned .scanned .given .1) ∙ at-scan .scan .ensures .0) (at-if .if1 .taken),
       c .ranged-value .ensures .1,
     )
 
@@ -40,5 +39,4 @@ returns-3 c =
 pub number-value-spec : {M : Type 1} → statement M
 number-value-spec =
     tie.close
-    (tie.spec (λ c κs. search needs) (λ c. search needs) (λ c κs. search needs) (λ c κs. search needs) returns
-    (λ c. search needs) returns-2 returns-3)
+    (tie.spec (λ c κs. search needs) (λ c. search needs) (λ c κs. search needs) returns (λ c. search needs) returns-2 returns-3)
