@@ -45,9 +45,10 @@ returns-6 c =
 pub work-16-spec : {M : Type 1} → statement M
 work-16-spec =
     tie.close
-    (tie.spec (λ c κs. search needs) (λ c. search needs) (λ c κs. search needs) (λ c. search needs) (λ c. search needs)
-    (λ c κs. search needs) (λ c κs. few AddOp _ _ _ (c .add16 .ensures)) (λ c. search needs) (λ c κs. search needs)
-    (λ c κs. few SubOp _ _ _ (c .sub16 .ensures)) (λ c. search needs) (λ c κs. search needs) (λ c κs. few MulOp _ _ _ (c .mul .ensures))
-    (λ c. search needs) (λ c κs. search needs) (λ c κs. few MuuOp _ _ _ (c .muu .ensures)) (λ c. search needs) (λ c κs. search needs)
-    (λ c κs. few DivOp _ _ _ (c .div .ensures)) (λ c. search needs) (λ c κs. search needs) (λ c κs. few ChsOp _ 0 _ (c .chs .ensures)) returns
-    returns-2 returns-3 returns-4 returns-5 returns-6)
+    (tie.spec (λ c κs. search needs) (λ c κs. search needs) (λ c. search needs) (λ c. search needs) (λ c. search needs)
+    (λ c κs. search needs) (λ c κs. few AddOp _ _ _ (c .add16 .ensures)) (λ c. search needs) (λ c. search needs)
+    (λ c. search needs) (λ c κs. search needs) (λ c κs. few SubOp _ _ _ (c .sub16 .ensures)) (λ c. search needs)
+    (λ c κs. search needs) (λ c κs. few MulOp _ _ _ (c .mul .ensures)) (λ c. search needs) (λ c κs. search needs)
+    (λ c κs. few MuuOp _ _ _ (c .muu .ensures)) (λ c. search needs) (λ c κs. search needs)
+    (λ c κs. few DivOp _ _ _ (c .div .ensures)) (λ c. search needs) (λ c κs. search needs)
+    (λ c κs. few ChsOp _ 0 _ (c .chs .ensures)) returns returns-2 returns-3 returns-4 returns-5 returns-6)
