@@ -49,7 +49,8 @@ ends-at line from to h k =
     let e = length-take-le (to - from) (drop from line) (omega (arith, length-drop from line)) in omega arith
 
 -- ---- words are taken one after another
-pub record Gathering (rule : Rule) (form : Form) (kind : ℕ) (many : Bool) (line : List ℕ) (from : ℕ) (before payload : List ℕ) (count at : ℕ) (more : Bool) : Type 0 where
+pub record Gathering (rule : Rule) (form : Form) (kind : ℕ) (many : Bool) (line : List ℕ)
+    (from : ℕ) (before payload : List ℕ) (count at : ℕ) (more : Bool) : Type 0 where
   pub leads : cond more (takeWords many rule form kind (wordsAt at line) (take count payload)) (Payload (take count payload) (wordsAt at line))
       ≡ takeWords many rule form kind (wordsAt from line) []
   pub few : count ≤ 240

@@ -116,8 +116,8 @@ fn add_command(out: &mut [u8], place: usize, code: u8) -> usize
 // The text of a record whose kind has this number, with this payload.
 pub fn add_told(out: &mut [u8], place: usize, number: u16, payload: &[u8]) -> usize
     requires { ⌜ place + 32 + 3 * length (now payload) ≤ length (now out) ⌝ }
-    ensures { λ r. ⌜ Adds (recordText (numberedKind number) (now (payload .entry))) (now (out .entry)) (now (out .exit)) place
-        r ⌝ }
+    ensures { λ r. ⌜ Adds (recordText (numberedKind number) (now (payload .entry))) (now (out .entry))
+        (now (out .exit)) place r ⌝ }
     ensures { λ r. ⌜ r ≤ place + 32 + 3 * length (now (payload .entry)) ⌝ }
 {
     let kind = kind_of(number);

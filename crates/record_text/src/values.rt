@@ -15,22 +15,42 @@ ghost use Rattle.record_text.specs.Values.{decimalFault, refusedFault, s
 ghost use Rattle.record_text.specs.Held.{Sized};
 ghost use Rattle.record_text.specs.Values.{decimalOf, bytesOf, numberFor, codeOf, valueOf};
 
-// Why a line is no record, with the number by which ./records knows it.
+// Why a line is no record.
 pub enum Fault {
-    NoName = 1,
-    Missing = 2,
-    NoDigit = 3,
-    NoPoint = 4,
-    ManyDigits = 5,
-    ManyPlaces = 6,
-    NoEnd = 7,
-    TooLarge = 8,
-    TooSmall = 9,
-    ManyBytes = 10,
-    NoNumber = 11,
-    OutOfRange = 12,
-    NoCode = 13,
-    Behind = 14,
+    NoName,
+    Missing,
+    NoDigit,
+    NoPoint,
+    ManyDigits,
+    ManyPlaces,
+    NoEnd,
+    TooLarge,
+    TooSmall,
+    ManyBytes,
+    NoNumber,
+    OutOfRange,
+    NoCode,
+    Behind,
+}
+
+// The number by which ./records knows a fault.
+pub fn fault_number(fault: Fault) -> u8 {
+    match fault {
+        Fault::NoName => 1,
+        Fault::Missing => 2,
+        Fault::NoDigit => 3,
+        Fault::NoPoint => 4,
+        Fault::ManyDigits => 5,
+        Fault::ManyPlaces => 6,
+        Fault::NoEnd => 7,
+        Fault::TooLarge => 8,
+        Fault::TooSmall => 9,
+        Fault::ManyBytes => 10,
+        Fault::NoNumber => 11,
+        Fault::OutOfRange => 12,
+        Fault::NoCode => 13,
+        Fault::Behind => 14,
+    }
 }
 
 // A number that goes into so many bytes; or why there is none, and the place in the word, counted from 0.

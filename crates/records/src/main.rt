@@ -18,6 +18,7 @@ use record_text::line::RECORD_ROOM;
 use record_text::line::read_line;
 use record_text::record::TEXT_ROOM;
 use record_text::record::tell_record;
+use record_text::values::fault_number;
 use terms::Refusal;
 use terms::Rule;
 ghost use mathlib.Core.Path.{_≡_};
@@ -71,7 +72,7 @@ fn write_record(rule: Rule, line: &[u8], number: u64, size: usize) -> usize
         }
         Line::Empty => size,
         Line::Wrong(fault, place) => {
-            write_wrong(number, place, fault as u8);
+            write_wrong(number, place, fault_number(fault));
             STOPPED
         }
     }

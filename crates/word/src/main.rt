@@ -9,6 +9,7 @@ use libc::STDOUT_FILENO;
 use listing::ends::line_end;
 use listing::options::rule_named;
 use terms::Rule;
+ghost use Rattle.io.specs.Counts.{Counts};
 
 // What is told of a text: a decimal or a word, in its short or its exact form, or a sum.
 enum Form {
@@ -28,14 +29,21 @@ fn form_named(name: &[u8]) -> Form {
     Form::Short
 }
 
+// The line of one text, and how many bytes it has.
+fn tell_as(rule: Rule, form: Form, text: &[u8], out: &mut [u8; LINE_ROOM]) -> usize
+    ensures { λ r. ⌜ Counts r (now (out .exit)) ⌝ }
+{
+    match form {
+        Form::Short => tell(rule, false, text, out),
+        Form::Exact => tell(rule, true, text, out),
+        Form::Sum => tell_sum(text, out),
+    }
+}
+
 // Writes the line of one text.
 fn write_line(rule: Rule, form: Form, text: &[u8]) {
     let mut line = [0u8; LINE_ROOM];
-    let n = match form {
-        Form::Short => tell(rule, false, text, &mut line),
-        Form::Exact => tell(rule, true, text, &mut line),
-        Form::Sum => tell_sum(text, &mut line),
-    };
+    let n = tell_as(rule, form, text, &mut line);
     io::write_all(STDOUT_FILENO, &line[..n]);
 }
 

@@ -67,8 +67,11 @@ returns-3 : tie.Need-returns-3
 returns-3 c =
     let at-taken = c .before in
     let took = at-taken .before .before .before .take-words in
-    let a = at-taken .before .before .before .before .before .before .before .args in
-    (is-amiss (a .kind) (a .at) _ _ _ (ap (takenAs (now (a .line)) (took .last .1 .1 .1 .1 .1 .1 .0)) (sym (at-taken .taken2 .given .1)) ∙ took .ensures .0), tt)
+    let a = at-taken .before .before .before .before .before .before .before .args in (
+      is-amiss (a .kind) (a .at) _ _ _ (ap (takenAs (now (a .line)) (took .last .1 .1 .1 .1 .1 .1 .0))
+          (sym (at-taken .taken2 .given .1)) ∙ took .ensures .0),
+      tt,
+    )
 
 pub read-values-spec : {M : Type 1} → statement M
 read-values-spec =

@@ -61,7 +61,8 @@ returns-2 c =
     let after = at-put .put-value .last .0 in
     let p = ap (putAs after) (sym (at-got .got2 .given .1)) ∙ at-put .put-value .ensures .0
     ∙ ap (put (take (l .count) (l .payload)) (w .result .from)) (at-value .value-of .ensures .0) in (
-      goes-wrong (a .rule) (a .form) (a .kind) (a .many) (now (a .line)) (a .from) _ _ _ _ _ (l .inv) (w .result .from) (w .result .to) (at-test .loop-test .taken)
+      goes-wrong (a .rule) (a .form) (a .kind) (a .many) (now (a .line)) (a .from) _ _ _ _ _ (l .inv) (w .result .from) (w .result .to)
+          (at-test .loop-test .taken)
           (a-word (now (a .line)) (l .at) (w .result) (w .ensures) (at-if .if1 .left)) _ _ p,
       tt,
     )

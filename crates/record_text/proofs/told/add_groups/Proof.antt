@@ -32,8 +32,12 @@ loop-again c =
     let size = at-size .group-size in
     let l = at-size .before .before .loop in
     let a = at-size .before .before .before .before .before .args in
-    tells (now (a .bytes)) (now (a .out)) (l .out) (a .place) (l .next) (l .at) (l .inv) (size .result) _ _ (at-size .before .loop-test .taken) (size .ensures .0)
-    (size .ensures .3) (added .0) (added .1) (search needs)
+    tells (now (a .bytes)) (now (a .out)) (l .out) (a .place) (l .next) (l .at) (l .inv) (size .result) _ _ (at-size .before .loop-test .taken)
+    (size .ensures .0) (size .ensures .3) (added .0) (added .1) (search needs)
+
+loop-less : tie.Need-loop-less Inv-loop μ-loop
+loop-less c =
+    let size = c .before .before .before .before .before .group-size .ensures in omega (arith, size .1, size .3)
 
 returns : tie.Need-returns Inv-loop μ-loop
 returns c =
@@ -47,6 +51,5 @@ pub add-groups-spec : {M : Type 1} → statement M
 add-groups-spec =
     tie.close
     (tie.spec Inv-loop μ-loop loop-holds (λ c. omega arith) (λ c κs. omega arith) (λ c. omega (arith, c .group-size .ensures .3))
-    (λ c. omega arith) (λ c. omega arith) (λ c. omega (arith, c .before .group-size .ensures .3)) add-group-requires
-    (λ c. omega (arith, c .before .before .before .before .before .group-size .ensures .1, c .before .before .before .before .before .group-size .ensures .3)) loop-again
+    (λ c. omega arith) (λ c. omega arith) (λ c. omega (arith, c .before .group-size .ensures .3)) add-group-requires loop-less loop-again
     (λ c. c .before .loop .inv .same) returns)

@@ -23,8 +23,11 @@ value-of-spec =
     tie.close
     (tie.spec (λ c. search needs) (λ c κs. search needs) (λ c. search needs) (λ c κs. search needs) (λ c. search needs)
     (λ c κs. search needs) (λ c. search needs) (λ c. search needs)
-    (λ c. let a = c .before .before .before .before .args in as-form (a .rule) (a .kind) (now (a .text)) (c .before .enum-told .given .1) (c .byte-value .ensures))
-    (λ c. let a = c .before .before .before .before .args in as-form (a .rule) (a .kind) (now (a .text)) (c .before .enum-told2 .given .1) (c .number-value .ensures))
-    (λ c. let a = c .before .before .before .before .args in as-form (a .rule) (a .kind) (now (a .text)) (c .before .enum-told3 .given .1) (c .code-value .ensures))
+    (λ c. let a = c .before .before .before .before .args in
+    as-form (a .rule) (a .kind) (now (a .text)) (c .before .enum-told .given .1) (c .byte-value .ensures))
+    (λ c. let a = c .before .before .before .before .args in
+    as-form (a .rule) (a .kind) (now (a .text)) (c .before .enum-told2 .given .1) (c .number-value .ensures))
+    (λ c. let a = c .before .before .before .before .args in
+    as-form (a .rule) (a .kind) (now (a .text)) (c .before .enum-told3 .given .1) (c .code-value .ensures))
     (λ c. let a = c .before .before .before .args in as-form (a .rule) (a .kind) (now (a .text)) (c .enum-told4 .given .1) (refl, omega arith))
     (λ c. let a = c .before .before .before .args in as-form (a .rule) (a .kind) (now (a .text)) (c .enum-told5 .given .1) (refl, omega arith)))
