@@ -27,13 +27,13 @@ use Rattle.codes.specs.declared.FixedOp.{FixedOp}
 use Rattle.codes.specs.declared.FixedOp.the-variants.{Add as AddOp, Sub as SubOp, Mul as MulOp, Muu as MuuOp, Div as DivOp, Chs as ChsOp}
 use Rattle.codes.specs.declared.MoveOp.{MoveOp}
 use Rattle.codes.specs.declared.MoveOp.the-variants.{Pto as PtoOp, Pop as PopOp, Xch as XchOp}
-use Rattle.codes.specs.Command.{Command, Kind, Known, Derived, Unknown, fixedIn, moveIn, kindIn}
+use Rattle.codes.specs.Command.{Command, Kind, Known, Derived, Unknown, Chsf, Flt, fixedIn, moveIn, kindIn}
 use Rattle.codes.specs.Codes.{sr, decoded}
 use Rattle.chip.specs.State.{State, left, afterReset, acknowledged, settled}
 use Rattle.chip.specs.declared.commands.Obeyed.{Obeyed}
 use Rattle.chip.specs.Commands.{outcomeOf, properOperands}
 use Rattle.chip.specs.Step.{done, refused, resetOf, acknowledgeOf, carried, commandUnder}
-use Rattle.chip.specs.Held.{held, flipped, Settles, Obeys, Performs, halfWord, refusalOf, answerAs, Commanded}
+use Rattle.chip.specs.Held.{held, flipped, Settles, SettlesEither, Obeys, Performs, halfWord, refusalOf, answerAs, Commanded}
 use Rattle.chip.proofs.Answers.{carried-half, carried-improper, carried-done, command-by}
 use Rattle.chip.proofs.InTurn.{turned}
 
@@ -136,7 +136,7 @@ pub by-rule : (pending : Bool) (code : ℕ) (stack : Stack) {rule r : Rule} {o x
 by-rule pending code stack e f h = rw (e, f) h
 
 -- operands are asked for by no fixed-point operation and no move
-pub fixed-proper : (op : FixedOp) (w : Width) (s : List ℕ) → properOperands (fixedIn op w) s ≡ true
+fixed-proper : (op : FixedOp) (w : Width) (s : List ℕ) → properOperands (fixedIn op w) s ≡ true
 fixed-proper AddOp w s = refl
 fixed-proper SubOp w s = refl
 fixed-proper MulOp w s = refl
@@ -144,7 +144,21 @@ fixed-proper MuuOp w s = refl
 fixed-proper DivOp w s = refl
 fixed-proper ChsOp w s = refl
 
-pub move-proper : (op : MoveOp) (w : Width) (s : List ℕ) → properOperands (moveIn op w) s ≡ true
+move-proper : (op : MoveOp) (w : Width) (s : List ℕ) → properOperands (moveIn op w) s ≡ true
 move-proper PtoOp w s = refl
 move-proper PopOp w s = refl
 move-proper XchOp w s = refl
+
+module _ (rule : Rule) (s : Stack) (o : Obeyed) {k : Coded} where
+  pub fixed-by : {op : FixedOp} {w v : Width} → k ≡ FixedCode op w → w ≡ v → SettlesEither (fixedIn op v) s o → Performs rule (kindIn k) s o
+  fixed-by {op} {w} {v} e f h =
+      performs-as rule s o (e ∙ ap (FixedCode op) f) (done-by rule (fixedIn op v) s o (fixed-proper op v (bytesIn s)) (h rule))
+
+  pub move-by : {op : MoveOp} {w : Width} → k ≡ MoveCode op w → SettlesEither (moveIn op w) s o → Performs rule (kindIn k) s o
+  move-by {op} {w} e h = performs-as rule s o e (done-by rule (moveIn op w) s o (move-proper op w (bytesIn s)) (h rule))
+
+  pub flt-by : {w : Width} → k ≡ FltCode w → Settles (outcomeOf rule (Flt w) (bytesIn s)) o → Performs rule (kindIn k) s o
+  flt-by {w} e h = performs-as rule s o e (done-by rule (Flt w) s o refl h)
+
+  pub chsf-by : k ≡ ChsfCode → SettlesEither Chsf s o → Performs rule (kindIn k) s o
+  chsf-by e h = performs-as rule s o e (done-by rule Chsf s o refl (h rule))

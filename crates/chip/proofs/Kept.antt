@@ -3,7 +3,6 @@ use mathlib.Core.Path.{_≡_, refl}
 use mathlib.Core.Logic.{_⊎_, inl, inr}
 use mathlib.Core.Bool.{Bool, true, false, cond}
 use Prim.Native.Nat.{ℕ, _%_}
-use Rattle.terms.specs.declared.Mode.{Mode}
 use Rattle.terms.specs.declared.Refusal.the-variants.{Done, BadState}
 use Rattle.terms.specs.declared.Rule.{Rule}
 use Rattle.terms.specs.Settings.{Settings}

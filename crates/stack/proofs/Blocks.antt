@@ -2,12 +2,12 @@
 -- nothing.
 use mathlib.Core.Path.{_≡_, refl, sym, ap, ap₂, subst, _∙_}
 use mathlib.Core.List.{List, [], _∷_, _++_, append-assoc}
-use Prim.Native.Nat.{ℕ, suc, _+_, _-_, _*_, _/_, _%_, _≤_, _<_}
+use Prim.Native.Nat.{ℕ, suc, _+_, _*_, _/_, _%_, _≤_, _<_}
 use native.Mathlib.Numerals.{add-one}
 use native.Mathlib.Omega.{arith}
 use lib.Dec.{lit≤}
 use lib.ListN.{length, getD, take, drop, set, drop-of-length-le}
-use lib.Seq.{paste, paste-zero, take-all, drop-drop, drop-cons, set-split, length-paste}
+use lib.Seq.{paste, paste-zero, drop-cons, set-split, length-paste}
 use Rattle.little.specs.Little.{le4, le8, fourAt, eightAt}
 use Rattle.little.proofs.Exact.{le4-of, le8-of}
 use Rattle.stack.specs.Stack.{bytesOf, lowFirst, pushedAll, topByte, rotated, poppedAll, handedOut, tos}

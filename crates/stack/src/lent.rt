@@ -1,7 +1,6 @@
 // Bytes that a caller lends, and the stack: its 16 bytes read and written, blocks of bytes pushed and popped.
 use super::Stack;
 use little::eight_at;
-use little::four_at;
 use little::put_eight;
 use little::reversed_8;
 use terms::Width;
@@ -48,7 +47,7 @@ impl Stack {
             i += 8;
         }
         if 4 <= p.len() - i {
-            s = s.push(four_at(p, i) as u64, 4);
+            s = s.push(little::four_at(p, i) as u64, 4);
             i += 4;
         }
         if 2 <= p.len() - i {
