@@ -35,7 +35,7 @@ use Rattle.record_runs.specs.declared.step.Place.{Place}
 use Rattle.record_runs.specs.Record.{Event, Push, Pop, Command, Status, Reset, Acknowledge, Recall, Forget, Head, Whole, Stop}
 use Rattle.record_runs.specs.Record.{wordAt, le2, exactly, popRow, rowBy, kindOf, payloadOf, answeredOf, frameUnder, headIn}
 use Rattle.record_runs.specs.Record.{answerOf, dataOf, replyOf, stopped, turnBy, turnUnder, turnOf}
-use Rattle.record_runs.specs.Pass.{Stands, readyAt, further, unchanged, finished, Passed, Passes, Leaves}
+use Rattle.record_runs.specs.Held.{Stands, readyAt, further, unchanged, finished, Passed, Passes, Leaves}
 use Rattle.record_runs.proofs.Heads.{frame-stops}
 use Rattle.record_runs.proofs.Blocks.{length-popped}
 use Rattle.record_runs.proofs.Places.{at-rest}

@@ -12,7 +12,7 @@ ghost use Rattle.terms.specs.Limits.{mostInput};
 ghost use Rattle.chip.specs.Step.{given};
 ghost use Rattle.error_memory.specs.Held.{cardUnder};
 ghost use Rattle.record_runs.specs.Run.{runOf};
-ghost use Rattle.record_runs.specs.Pass.{countedIn, start, Ran};
+ghost use Rattle.record_runs.specs.Held.{countedIn, start, Ran};
 
 // More room than the replies of any file take: 245 bytes for each byte of an input.
 const MOST_REPLIES: usize = 3_010_560;

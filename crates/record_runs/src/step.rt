@@ -21,8 +21,8 @@ ghost use Rattle.terms.specs.Limits.{mostPayload, mostInput};
 ghost use Rattle.chip.specs.Step.{given};
 ghost use Rattle.error_memory.specs.Held.{cardUnder};
 ghost use Rattle.record_runs.specs.Record.{le2, turnOf};
-ghost use Rattle.record_runs.specs.Pass.{mostReplies, readyAt, unchanged, further, finished, Begins, Stands};
-ghost use Rattle.record_runs.specs.Pass.{Passed, Passes, PassesByRule, PassesAll, PassesBare};
+ghost use Rattle.record_runs.specs.Held.{mostReplies, readyAt, unchanged, further, finished, Begins, Stands};
+ghost use Rattle.record_runs.specs.Held.{Passed, Passes, PassesByRule, PassesAll, PassesBare};
 
 // Where a run stands: the bytes of records taken, of as many as the file has, and the bytes of replies written, of as
 // many as have room. Numbers of 32 bits, which a processor of 32 bits keeps in one register each.

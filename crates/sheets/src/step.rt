@@ -27,7 +27,7 @@ ghost use lib.ListN.{length};
 ghost use Rattle.chip.specs.Step.{given};
 ghost use Rattle.sheet_bytes.specs.Ledger.{sheetsBytes};
 ghost use Rattle.error_memory.specs.Held.{cardUnder};
-ghost use Rattle.record_runs.specs.Pass.{Begins, Stands};
+ghost use Rattle.record_runs.specs.Held.{Begins, Stands};
 ghost use Rattle.sheets.specs.Step.{held, isOwn, lineOf};
 ghost use Rattle.sheets.specs.Held.{Passed, PassesOwn, PassesCore};
 

@@ -28,7 +28,8 @@ use Rattle.record_files.specs.Run.{Runs, Outcome as Ended}
 use Rattle.record_runs.specs.Run.{Outcome, runOf}
 use Rattle.state_bytes.specs.Bytes.{Sized, isState, stateOf, memoryIn, cardIn, stateBytesOf, memoryBytesOf, withMemory, laid, laidOut, doorOf, reportOf}
 use Rattle.state_bytes.specs.Calls.{settingsOf, ranOf, away, callUnder, signalUnder, callOf, Calls, answeredBy, Signal, joinedOf, signalBy, unsent}
-use Rattle.state_bytes.specs.Calls.{signalOf, Signals, Settles}
+use Rattle.state_bytes.specs.Calls.{signalOf, Signals}
+use Rattle.state_bytes.specs.Held.{Settles}
 use Rattle.state_bytes.proofs.Laid.{memory-behind, other-memory}
 use Rattle.state_bytes.proofs.States.{least, sized-as, state-sized, state-ready}
 use Rattle.state_bytes.proofs.Cards.{card-returns, laid-length, laid-chip}

@@ -13,10 +13,7 @@ use Rattle.terms.specs.Settings.{Settings, isMode, modeOf, isRule, ruleOf}
 use Rattle.chip.specs.Step.{given}
 use Rattle.chip.specs.Event.{Push, Pop, Command, Status, Reset, Acknowledge}
 use Rattle.error_memory.specs.Event.{Chip, Recall, Forget}
-use Rattle.chip.specs.declared.Answer.{Answer}
-use Rattle.chip.specs.Held.{answerIn}
-use Rattle.error_memory.specs.declared.Memory.{Memory}
-use Rattle.error_memory.specs.Memory.{Card, CardAnswer, around, eventIn}
+use Rattle.error_memory.specs.Memory.{Card, CardAnswer, eventIn}
 use Rattle.terms.specs.declared.EventKind.{EventKind}
 use Rattle.terms.specs.declared.EventKind.the-variants.{Push as PushKind, Pop as PopKind, Command as CommandKind, Status as StatusKind}
 use Rattle.terms.specs.declared.EventKind.the-variants.{Reset as ResetKind, Acknowledge as AcknowledgeKind, Recall as RecallKind}
@@ -126,7 +123,3 @@ signalOf mode rule state kind byte =
 pub record Signals (t : Signal) (result : ℕ) (state : List ℕ) : Type 0 where
   pub result-is : result ≡ t .result
   pub state-is : state ≡ t .state
-
--- what the program does with the answer of an event of the chip, and with what that leaves remembered, whatever the settings
-abbrev pub Settles : List ℕ → Answer → Memory → ℕ → List ℕ → Type 0
-Settles state a m result left = (on : Settings) → Signals (signalBy state (around on m (answerIn a))) result left

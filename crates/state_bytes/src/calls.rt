@@ -26,7 +26,8 @@ ghost use Rattle.error_memory.specs.Memory.{keptAfter};
 ghost use Rattle.record_runs.specs.Run.{runOf};
 ghost use Rattle.state_bytes.specs.Bytes.{Sized, isState, memoryIn, cardIn, withMemory};
 ghost use Rattle.state_bytes.specs.Calls.{Calls, ranOf, callOf, answeredBy, signalBy};
-ghost use Rattle.state_bytes.specs.Calls.{signalOf, Signals, Settles};
+ghost use Rattle.state_bytes.specs.Calls.{signalOf, Signals};
+ghost use Rattle.state_bytes.specs.Held.{Settles};
 
 // The run on a good state; reported.
 fn run_good(

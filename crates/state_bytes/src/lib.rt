@@ -13,7 +13,8 @@ ghost use lib.ListN.{length};
 ghost use Rattle.terms.specs.Limits.{stateBytes, reportBytes};
 ghost use Rattle.chip.specs.Held.{stateIn};
 ghost use Rattle.state_bytes.specs.Bytes.{Sized, isChip, isState, stateOf, memoryIn, laid, withMemory};
-ghost use Rattle.state_bytes.specs.Bytes.{reportOf, doorOf, holds};
+ghost use Rattle.state_bytes.specs.Bytes.{reportOf, doorOf};
+ghost use Rattle.state_bytes.specs.Held.{holds};
 
 // Whether the bytes behind the stack stand for a chip's: both flags 0 or 1, busy clear.
 fn is_chip(state: &[u8]) -> bool

@@ -15,7 +15,7 @@ use Rattle.record_files.proofs.Running.{Going, starts, goes-on, stops, ends, al
 use Rattle.record_runs.specs.declared.step.Place.{Place}
 use Rattle.record_runs.specs.Record.{turnOf}
 use Rattle.record_runs.specs.Run.{runOf}
-use Rattle.record_runs.specs.Pass.{countedIn, Stands, Passed}
+use Rattle.record_runs.specs.Held.{countedIn, Stands, Passed}
 use Rattle.record_runs.proofs.Writes.{all-rest, back}
 use Rattle.record_runs.proofs.Prefix.{lawful}
 use Rattle.record_runs.proofs.Places.{standing, stays-there}

@@ -9,7 +9,7 @@ use Rattle.chip.specs.Step.{given}
 use Rattle.error_memory.specs.Memory.{Card, cardWith}
 use Rattle.error_memory.specs.Held.{cardUnder}
 use Rattle.record_runs.specs.Run.{runOf}
-use Rattle.record_runs.specs.Pass.{Ran}
+use Rattle.record_runs.specs.Held.{Ran}
 use Rattle.record_runs.proofs.Ready.{run-small}
 use Rattle.state_bytes.specs.Bytes.{cardIn}
 use Rattle.state_bytes.proofs.States.{state-sized, state-ready}

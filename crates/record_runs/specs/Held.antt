@@ -1,4 +1,4 @@
--- What the program's record step and run say of their definitions. Definitions only. Assumes nothing.
+-- How the program holds a run: its place, and what its record step and its run say of their definitions. Definitions only. Assumes nothing.
 use Prim.Native.Nat.{ℕ, _+_, _≤_, _<_}
 use mathlib.Core.Path.{_≡_}
 use mathlib.Core.List.{List, []}
