@@ -1,8 +1,5 @@
 // The calls that the rack controller's firmware makes, on byte slices that it lends. Every call refuses by 01's number,
 // asks nothing of its caller, and says what each slice holds after. Each is thin over the function that does its work.
-use host_floats::Reply;
-use little::put_word;
-use terms::Refusal;
 use terms::number;
 ghost use Rattle.host_floats.specs.Host.{hostOf, takenOf, hostReply, takenReply};
 ghost use Rattle.host_floats.specs.Buffers.{wordsTurn, floatsTurn, Turns};
@@ -41,18 +38,18 @@ pub extern "C" fn pundaliket_event(
 }
 
 // The reply of a conversion, its 32 bits to `out` on 0 alone; a slice that is not four bytes first.
-fn send(reply: Reply, out: &mut [u8]) -> u32
+fn send(reply: host_floats::Reply, out: &mut [u8]) -> u32
     ensures { λ r. ⌜ Sends (sentOf reply (now (out .entry))) r (now (out .exit)) ⌝ }
 {
     if out.len() != little::WORD_BYTES {
-        return number(Refusal::NoRoom) as u32;
+        return number(terms::Refusal::NoRoom) as u32;
     }
     let refusal = reply.refusal;
     let code = number(refusal);
     if code != 0 {
         return code as u32;
     }
-    put_word(out, reply.bits as usize);
+    little::put_word(out, reply.bits as usize);
     0
 }
 
