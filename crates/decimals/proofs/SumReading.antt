@@ -98,5 +98,7 @@ module _ (text : List ℕ) where
 
   pub read : (r : Bool) (bytes : List ℕ) → length text ≡ 49 → isSign (getD text 0 0) ≡ true → Bytes·Of (drop 1 text) r bytes → not r ≡ false → (size : ℕ)
       → size ≡ bytesAt bytes → exactText (eqb (getD text 0 0) 45) size ++ (10 ∷ []) ≡ sumLine text
-  read true bytes h e b n size s = ap (λ (k : ℕ). exactText (eqb (getD text 0 0) 45) k ++ (10 ∷ [])) s ∙ ap (sizeLine (eqb (getD text 0 0) 45)) (sym b) ∙ signed h e
+  read true bytes h e b n size s =
+      ap (λ (k : ℕ). exactText (eqb (getD text 0 0) 45) k ++ (10 ∷ [])) s
+      ∙ ap (sizeLine (eqb (getD text 0 0) 45)) (sym b) ∙ signed h e
   read false bytes h e b n size s = let z : _≡_ {A = ℕ} 0 1 = cc in absurd (omega arith)

@@ -1,6 +1,6 @@
 // What is told of one text: a line `WORD DECIMAL` for a word of eight hex digits and for a decimal, with a mark where
-// the decimal is not the word's value; `refused N` or `wrong PLACE WHAT` where there is no word. A line ends with a part
-// of one table: a mark, or what is wanted, and the newline.
+// the decimal is not the word's value; `refused N` or `wrong PLACE WHAT` where there is no word. The end of a line, a
+// mark or what is wanted, is a part of one table.
 use crate::bring::Brought;
 use crate::bring::bring;
 use crate::exact::add_exact;
@@ -209,7 +209,8 @@ fn add_word_line(out: &mut [u8], rule: Rule, exact: bool, word: u32) -> usize
 // The line of a decimal that was brought to the word.
 fn add_brought_line(out: &mut [u8], word: u32, text: &[u8], end: End) -> usize
     requires { ⌜ EndFits end × (length (now text) ≤ 64) × (256 ≤ length (now out)) ⌝ }
-    ensures { λ r. ⌜ Adds (headText word ++ (now (text .entry) ++ endIn end)) (now (out .entry)) (now (out .exit)) 0 r ⌝ }
+    ensures { λ r. ⌜ Adds (headText word ++ (now (text .entry) ++ endIn end)) (now (out .entry)) (now (out .exit)) 0 r
+        ⌝ }
 {
     let a = add_head(out, word);
     let b = add(out, a, text);

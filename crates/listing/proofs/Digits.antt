@@ -57,7 +57,14 @@ module _ (c : ℕ) where
     (λ h k. rw (le-ltb c 48 (omega arith), le-ltb c 58 h, lt-ltb c 65 k)),
     (λ h k. rw (le-ltb c 48 (omega arith), le-ltb c 58 (omega arith), le-ltb c 65 (omega arith), le-ltb c 71 h, lt-ltb c 97 k)),
     (λ h.
-        rw (le-ltb c 48 (omega arith), le-ltb c 58 (omega arith), le-ltb c 65 (omega arith), le-ltb c 71 (omega arith), le-ltb c 97 (omega arith), le-ltb c 103 h)),
+        rw (
+          le-ltb c 48 (omega arith),
+          le-ltb c 58 (omega arith),
+          le-ltb c 65 (omega arith),
+          le-ltb c 71 (omega arith),
+          le-ltb c 97 (omega arith),
+          le-ltb c 103 h,
+        )),
   )
 
 -- ---- read as they were written

@@ -18,7 +18,8 @@ returns : tie.Need-returns
 returns c =
     let at-told = c .before .before in
     let a = at-told .before .before .args in
-    end-as (plain-end (a .word) (sym (c .before .is-proper .ensures) ∙ c .if1 .taken) ∙ ap (valueMark (a .rule) (a .word)) (sym (at-told .enum-told .given .1)))
+    end-as (plain-end (a .word) (sym (c .before .is-proper .ensures) ∙ c .if1 .taken)
+    ∙ ap (valueMark (a .rule) (a .word)) (sym (at-told .enum-told .given .1)))
     record { reads = refl; fits = record { ordered = omega arith; within = omega arith; short = omega arith } }
 
 returns-2 : tie.Need-returns-2
@@ -35,7 +36,8 @@ returns-3 : tie.Need-returns-3
 returns-3 c =
     let at-told = c .before .before in
     let a = at-told .before .before .args in
-    end-as (improper-end (a .word) (sym (c .before .is-proper .ensures) ∙ c .if1 .left) ∙ ap (valueMark (a .rule) (a .word)) (sym (at-told .enum-told .given .1)))
+    end-as (improper-end (a .word) (sym (c .before .is-proper .ensures) ∙ c .if1 .left)
+    ∙ ap (valueMark (a .rule) (a .word)) (sym (at-told .enum-told .given .1)))
     record { reads = refl; fits = record { ordered = omega arith; within = omega arith; short = omega arith } }
 
 pub value-end-spec : {M : Type 1} → statement M
