@@ -312,17 +312,17 @@ state-stays g state input replies report h i S =
 -- a single event
 pub event-ready : (c : Card) (kind byte : ℕ) → byte < 256 → ReadyCard c → ReadyCard (answerToKind c kind byte .card)
 event-ready c kind byte h r =
-    either-eq (λ (k : EventKind). Left (answeredBy c byte k)) kind 1 _ _ (λ e. event-fair c (Chip (Push byte)) r h .left) (λ a.
-    either-eq (λ (k : EventKind). Left (answeredBy c byte k)) kind 2 _ _ (λ e. event-fair c (Chip Pop) r tt .left) (λ b.
-    either-eq (λ (k : EventKind). Left (answeredBy c byte k)) kind 3 _ _ (λ e. event-fair c (Chip (Command byte)) r tt .left) (λ d.
-    either-eq (λ (k : EventKind). Left (answeredBy c byte k)) kind 4 _ _ (λ e. event-fair c (Chip Status) r tt .left) (λ f.
-    either-eq (λ (k : EventKind). Left (answeredBy c byte k)) kind 5 _ _ (λ e. event-fair c (Chip Reset) r tt .left) (λ g.
-    either-eq (λ (k : EventKind). Left (answeredBy c byte k)) kind 6 _ _ (λ e. event-fair c (Chip Acknowledge) r tt .left) (λ i.
-    either-eq (λ (k : EventKind). Left (answeredBy c byte k)) kind 7 _ _ (λ e. event-fair c Recall r tt .left) (λ j.
-    either-eq (λ (k : EventKind). Left (answeredBy c byte k)) kind 8 _ _ (λ e. event-fair c Forget r tt .left) (λ k. r))))))))
+    either-eq (λ (k : EventKind). ReadyAfter (answeredBy c byte k)) kind 1 _ _ (λ e. event-fair c (Chip (Push byte)) r h .left) (λ a.
+    either-eq (λ (k : EventKind). ReadyAfter (answeredBy c byte k)) kind 2 _ _ (λ e. event-fair c (Chip Pop) r tt .left) (λ b.
+    either-eq (λ (k : EventKind). ReadyAfter (answeredBy c byte k)) kind 3 _ _ (λ e. event-fair c (Chip (Command byte)) r tt .left) (λ d.
+    either-eq (λ (k : EventKind). ReadyAfter (answeredBy c byte k)) kind 4 _ _ (λ e. event-fair c (Chip Status) r tt .left) (λ f.
+    either-eq (λ (k : EventKind). ReadyAfter (answeredBy c byte k)) kind 5 _ _ (λ e. event-fair c (Chip Reset) r tt .left) (λ g.
+    either-eq (λ (k : EventKind). ReadyAfter (answeredBy c byte k)) kind 6 _ _ (λ e. event-fair c (Chip Acknowledge) r tt .left) (λ i.
+    either-eq (λ (k : EventKind). ReadyAfter (answeredBy c byte k)) kind 7 _ _ (λ e. event-fair c Recall r tt .left) (λ j.
+    either-eq (λ (k : EventKind). ReadyAfter (answeredBy c byte k)) kind 8 _ _ (λ e. event-fair c Forget r tt .left) (λ k. r))))))))
   where
-    Left : CardAnswer → Type 0
-    Left a = ReadyCard (a .card)
+    ReadyAfter : CardAnswer → Type 0
+    ReadyAfter a = ReadyCard (a .card)
 
 event-stays : (g : Given) (state : List ℕ) (kind byte : ℕ) → Bytes state → byte < 256 → isState state ≡ true → (length state ≡ 19) ⊎ (length state ≡ 21)
     → (isState (eventCall g state kind byte .state) ≡ true) × (length (eventCall g state kind byte .state) ≡ length state)

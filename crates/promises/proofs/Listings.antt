@@ -37,7 +37,7 @@ use Rattle.promises.specs.Records.{joined, EachTaken, repliesOf, total, 
 use Rattle.promises.specs.PrintedText.{written}
 use Rattle.promises.specs.Given.{Given, Chosen}
 use Rattle.promises.specs.Listings.{valueOf, Digits, Decimal, hexText, recordLine, linesFor, lastLine}
-use Rattle.promises.specs.Listings.{Asks, neither, older, nearest, both, fresh, Listings}
+use Rattle.promises.specs.Listings.{Asks, neither, older, nearest, both, resetCard, Listings}
 use Rattle.promises.proofs.Records.{record-run}
 use Rattle.little.proofs.Exact.{le4-exact}
 use Rattle.record_runs.proofs.Prefix.{lawful}
@@ -89,22 +89,22 @@ last-is refusal taken = ap₂ (λ (t u : List ℕ). 101 ∷ 110 ∷ 100 ∷ ((32
 count-back : (n : ℕ) → n < 4294967296 → n % 256 + n / 256 % 256 * 256 + n / 65536 % 256 * 65536 + n / 16777216 % 256 * 16777216 ≡ n
 count-back n h = omega (arith, le4-exact n h)
 
-fresh-good : isState (replicate 19 0) ≡ true
+resetCard-good : isState (replicate 19 0) ≡ true
 unfolding isState
-fresh-good = refl
+resetCard-good = refl
 
 module _ (g : Given) (C : Chosen g) (input : List ℕ) where
   abbrev run : Outcome
-  run = runOf (fresh g) input 65536
+  run = runOf (resetCard g) input 65536
 
   call-is : length input ≤ 12288 → callUnder (g .mode) (g .rule) input ≡ ranOf 19 run (replicate 65536 0)
   call-is h =
-      good (g .mode) (g .rule) (replicate 19 0) input (replicate 65536 0) (replicate 9 0) refl (C .mode) (C .rule) fresh-good h
-      ∙ ap (λ (n : ℕ). ranOf 19 (runOf (fresh g) input n) (replicate 65536 0)) (length-replicate {A = ℕ} 65536 0)
+      good (g .mode) (g .rule) (replicate 19 0) input (replicate 65536 0) (replicate 9 0) refl (C .mode) (C .rule) resetCard-good h
+      ∙ ap (λ (n : ℕ). ranOf 19 (runOf (resetCard g) input n) (replicate 65536 0)) (length-replicate {A = ℕ} 65536 0)
 
   text-is : length input ≤ 12288 → printoutUnder (g .mode) (g .rule) input ≡ linesOf 1 (run .written) ++ endOf (run .refusal) (run .taken)
   text-is h =
-      let t = tally lawful (fresh g) input 65536 in
+      let t = tally lawful (resetCard g) input 65536 in
       let i = t .in-file in
       let f = t .few in
       let w = run .written in
@@ -117,7 +117,7 @@ module _ (g : Given) (C : Chosen g) (input : List ℕ) where
   unfolding linesUpTo hasReply their-spelled
   long-is h =
       ap (λ (c : Called). printedOf (c .replies) (c .report))
-      (too-long (g .mode) (g .rule) (replicate 19 0) input (replicate 65536 0) (replicate 9 0) refl (C .mode) (C .rule) fresh-good h)
+      (too-long (g .mode) (g .rule) (replicate 19 0) input (replicate 65536 0) (replicate 9 0) refl (C .mode) (C .rule) resetCard-good h)
 
 -- ---- what a call asks for
 chosen : {words : ℕ} {first second : List ℕ} {g : Given} → Asks words first second g → Chosen g
@@ -250,11 +250,11 @@ read-back kind refusal bytes rest h =
 pub listings : Listings
 listings = record {
   printed = λ words first second third input g A h p.
-      let r = runOf (fresh g) input 65536 in
+      let r = runOf (resetCard g) input 65536 in
       told-is third input A
       ∙ text-is g (chosen A) input h
       ∙ ap₂ (λ (l : List ℕ) (n : ℕ). linesOf 1 l ++ endOf (r .refusal) n) (p .replies) (p .taken)
-      ∙ ap₂ (λ (l m : List ℕ). l ++ m) (lines-are (p .records) (fresh g) 65536 1 (p .each)) (last-is (r .refusal) (total (lengths (p .records))));
+      ∙ ap₂ (λ (l m : List ℕ). l ++ m) (lines-are (p .records) (resetCard g) 65536 1 (p .each)) (last-is (r .refusal) (total (lengths (p .records))));
   long = λ words first second third input g A h. told-is third input A ∙ long-is g (chosen A) input h;
   traced = λ words first second input g A. traced-is input A;
   usage = λ words first second third input h k. other-is words first second third input h k;

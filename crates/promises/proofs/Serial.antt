@@ -55,7 +55,8 @@ use Rattle.promises.specs.PrintedText.{written, decimal, hexOf}
 use Rattle.promises.proofs.PrintedText.{decimal-is, hex-is}
 use Rattle.promises.specs.Figures.{from}
 use Rattle.promises.specs.Commands.{least, words, word, statusBy, Two}
-use Rattle.promises.specs.Serial.{floatAnswer, firstAnswer, commandFor, Does, ZeroOrFour, SameEngine, mostSteps, Work, eightCodes, StepsText, StepsBench}
+use Rattle.promises.specs.Serial.{floatAnswer, firstAnswer, commandFor, ChipGives, ZeroOrFour, SameEngine, mostSteps, Work, eightCodes, StepsText}
+use Rattle.promises.specs.Serial.{StepsBench}
 use Rattle.promises.proofs.StepsAsked.{told, not-told}
 use Rattle.promises.proofs.Commands.{accepted, loses, rows}
 
@@ -94,14 +95,15 @@ module _ (rule : Rule) (w : Width) (b a : ℕ) (l : (b < 2 ^ bitsOf w) × (a < 2
 
 -- a float operation whose row and refusal the chip has
 float-does : (rule : Rule) (op : Operation) (b a steps : ℕ) (r : Flagged)
-    → (proper b ≡ true → proper a ≡ true → Does rule op b a (Word (r .word) (r .error) steps)) → ((proper b ≡ false) ⊎ (proper a ≡ false) → Does rule op b a
+    → (proper b ≡ true → proper a ≡ true → ChipGives rule op b a (Word (r .word) (r .error) steps)) →
+    ((proper b ≡ false) ⊎ (proper a ≡ false) → ChipGives rule op b a
     (Refused Improper))
-    → Does rule op b a (floatAnswer b a steps r)
+    → ChipGives rule op b a (floatAnswer b a steps r)
 float-does rule op b a steps r f g = go (proper b) (proper a) f g
   where
-    go : (s t : Bool) → (s ≡ true → t ≡ true → Does rule op b a (Word (r .word) (r .error) steps))
-        → ((s ≡ false) ⊎ (t ≡ false) → Does rule op b a (Refused Improper))
-        → Does rule op b a (cond (s && t) (Word (r .word) (r .error) steps) (Refused Improper))
+    go : (s t : Bool) → (s ≡ true → t ≡ true → ChipGives rule op b a (Word (r .word) (r .error) steps))
+        → ((s ≡ false) ⊎ (t ≡ false) → ChipGives rule op b a (Refused Improper))
+        → ChipGives rule op b a (cond (s && t) (Word (r .word) (r .error) steps) (Refused Improper))
     go true true f g = f refl refl
     go true false f g = g (inr refl)
     go false t f g = g (inl refl)
@@ -109,7 +111,7 @@ float-does rule op b a steps r f g = go (proper b) (proper a) f g
 float-word : {w : ℕ} → w < 2 ^ 32 → proper w ≡ true → FloatWord w
 float-word l p = record { fits = l; is-proper = p }
 
-first-does : (op : Operation) (rule : Rule) (b a steps : ℕ) → Operands op b a → Does rule op b a (firstAnswer op rule b a steps)
+first-does : (op : Operation) (rule : Rule) (b a steps : ℕ) → Operands op b a → ChipGives rule op b a (firstAnswer op rule b a steps)
 first-does (Mul w) rule b a steps l = mul-does rule w b a l
 first-does (Muu w) rule b a steps l = muu-does rule w b a l
 first-does (Div w) rule b a steps l = div-does rule w b a l
@@ -135,7 +137,7 @@ number Fdiv rule b a steps = zero-or-four (proper b && proper a) _ _ _
 pub same-engine : SameEngine
 same-engine = record {
   answers = answers;
-  in-chip = λ op rule b a l. subst (Does rule op b a) (sym (answers op rule b a l)) (first-does op rule b a (stepsIn (answerOf op rule b a)) l);
+  in-chip = λ op rule b a l. subst (ChipGives rule op b a) (sym (answers op rule b a l)) (first-does op rule b a (stepsIn (answerOf op rule b a)) l);
   numbers = λ op rule b a l. subst ZeroOrFour (sym (answers op rule b a l)) (number op rule b a (stepsIn (answerOf op rule b a)));
 }
 
@@ -161,8 +163,8 @@ task-is (Div w) b a = refl
 task-is Fmul b a = refl
 task-is Fdiv b a = refl
 
-ours-made : (task other : Task) (steps : ℕ) → task ≡ other → Made task steps → book.Made other steps
-ours-made task other steps e M = subst (λ (t : Task). book.Made t steps) e (record { at-most = M .at-most; fewer = M .fewer })
+ours-made : (task other : Task) (steps : ℕ) → task ≡ other → Made task steps → book.StepsMade other steps
+ours-made task other steps e M = subst (λ (t : Task). book.StepsMade t steps) e (record { at-most = M .at-most; fewer = M .fewer })
 
 pub work : Work
 work = record {

@@ -34,7 +34,7 @@ use Rattle.promises.proofs.Measures.{theirs-state, no-state-is}
 use Rattle.promises.specs.Given.{Given, Chosen, settingsIn, eventCall}
 use Rattle.promises.specs.Host.{number, outward, inward}
 use Rattle.promises.specs.Remembered.{Remembers}
-use Rattle.promises.specs.SmallCalls.{signalled, Tail, none as no-tail, two, Parts, EventCallUnder, EventCall, Converts, ConversionCalls}
+use Rattle.promises.specs.SmallCalls.{signalled, Tail, none as no-tail, two, Parts, EventCallUnder, EventCall, ConversionCall, ConversionCalls}
 use Rattle.promises.proofs.Fronts.{unnamed}
 use Rattle.promises.proofs.Kept.{good-states}
 
@@ -282,7 +282,7 @@ event-call = event-under
 
 -- ---- conversions
 module _ (reply : Reply) where
-  converts : Converts reply
+  converts : ConversionCall reply
   unfolding sentOf
   converts = record {
     other-length = λ out h. rw (ne-eqb (length out) 4 h);

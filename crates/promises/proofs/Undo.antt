@@ -47,7 +47,7 @@ use Rattle.state_bytes.specs.Bytes.{stateOf, cardIn, stateBytesOf, memoryBytesO
 use Rattle.state_bytes.proofs.Cards.{behind, laid-is, laid-at, card-returns, card-ready}
 use Rattle.state_bytes.specs.Calls.{joinedOf}
 use Rattle.promises.proofs.Measures.{theirs-stack, ours-stack, theirs-rest, ours-rest, theirs-state}
-use Rattle.promises.specs.Chains.{given}
+use Rattle.promises.specs.Chains.{commandEvent}
 use Rattle.promises.specs.Given.{Given, Chosen, settingsIn}
 use Rattle.promises.specs.Cores.{Core, Meets, onBus, driven, returned, answersOf, Sendable, allZero}
 use Rattle.promises.specs.Undo.{Shuffle, POPS, POPD, POPF, XCHS, XCHD, XCHF, codeOf, commandOf, undoOne, undo, eightPops, fourPopd, fourPopf, shuffled}
@@ -110,7 +110,7 @@ module _ (on : Settings) where
   abbrev after : Shuffle → Bool → State → State
   after k b s = settled s (sr (coded b (codeOf k))) (outcomeOf (on .rule) (commandOf k) (s .stack))
 
-  obeyed : (k : Shuffle) (b : Bool) (s : State) → AtRest s → answerTo on s (given b (codeOf k)) ≡ done 0 (after k b s)
+  obeyed : (k : Shuffle) (b : Bool) (s : State) → AtRest s → answerTo on s (commandEvent b (codeOf k)) ≡ done 0 (after k b s)
   obeyed k b s R = accepts (on .rule) s (coded b (codeOf k)) (commandOf k) (at-rest-lt R) (R .whole) (coded-is b (codeOf k) (short-code k .1))
       (any-operands k (s .stack))
 
@@ -231,10 +231,10 @@ shuffle-sendable [] bit = tt
 shuffle-sendable (k ∷ ks) bit = (code-sendable (bit 0) (codeOf k) (short-code k .0), shuffle-sendable ks (λ (n : ℕ). bit (suc n)))
 
 -- the card after a command: its chip is at rest, and its memory what it was
-card-rests : (x : Card) (k : Shuffle) (b : Bool) → AtRest (x .chip) → AtRest ((eventIn x (Chip (given b (codeOf k)))) .card .chip)
+card-rests : (x : Card) (k : Shuffle) (b : Bool) → AtRest (x .chip) → AtRest ((eventIn x (Chip (commandEvent b (codeOf k)))) .card .chip)
 card-rests x k b R = subst (λ (a : Answer). AtRest (a .state)) (sym (obeyed (x .on) k b (x .chip) R)) (rests (x .on) k b (x .chip) R)
 
-memory-stays : (x : Card) (k : Shuffle) (b : Bool) → AtRest (x .chip) → (eventIn x (Chip (given b (codeOf k)))) .card .memory ≡ x .memory
+memory-stays : (x : Card) (k : Shuffle) (b : Bool) → AtRest (x .chip) → (eventIn x (Chip (commandEvent b (codeOf k)))) .card .memory ≡ x .memory
 memory-stays x k b R =
     ap (keptAfter (x .memory) (CommandEvent (coded b (codeOf k)))) (obeyed (x .on) k b (x .chip) R)
     ∙ sym (none-left (x .memory) (coded b (codeOf k)) (statusAfter (x .on) k (x .chip .stack)) (clear (x .on) k (x .chip .stack) .1))
@@ -242,13 +242,13 @@ memory-stays x k b R =
 memory-kept : (ks : List Shuffle) (bit : ℕ → Bool) (x : Card) → AtRest (x .chip) → (afterAll x (onBus (shuffled bit ks))) .memory ≡ x .memory
 memory-kept [] bit x R = refl
 memory-kept (k ∷ ks) bit x R =
-    memory-kept ks (λ (n : ℕ). bit (suc n)) ((eventIn x (Chip (given (bit 0) (codeOf k)))) .card) (card-rests x k (bit 0) R) ∙ memory-stays x k (bit 0) R
+    memory-kept ks (λ (n : ℕ). bit (suc n)) ((eventIn x (Chip (commandEvent (bit 0) (codeOf k)))) .card) (card-rests x k (bit 0) R) ∙ memory-stays x k (bit 0) R
 
 zero-answers : (ks : List Shuffle) (bit : ℕ → Bool) (x : Card) → AtRest (x .chip) → allZero (answersOf x (onBus (shuffled bit ks))) ≡ true
 zero-answers [] bit x R = refl
 zero-answers (k ∷ ks) bit x R =
     ap₂ _&&_ (ap (λ (a : Answer). eqb (joinedOf (numberOf (a .refusal)) (a .byte)) 0) (obeyed (x .on) k (bit 0) (x .chip) R))
-    (zero-answers ks (λ (n : ℕ). bit (suc n)) ((eventIn x (Chip (given (bit 0) (codeOf k)))) .card) (card-rests x k (bit 0) R))
+    (zero-answers ks (λ (n : ℕ). bit (suc n)) ((eventIn x (Chip (commandEvent (bit 0) (codeOf k)))) .card) (card-rests x k (bit 0) R))
 
 -- where the bytes of a card lie
 module _ (x : Card) (sixteen : length (x .chip .stack) ≡ 16) (n : ℕ) where

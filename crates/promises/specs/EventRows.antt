@@ -38,6 +38,11 @@ abbrev pub did : ℕ → ℕ → String → String → EventRow
 did rule code words state' =
     sent 0 rule (bytes words ++ bytes "12 34 56 78 9A BC DE F1 00 41 00") 3 code 0 (bytes state')
 
+-- the same beside a memory
+abbrev pub noted : String → ℕ → ℕ → String → String → EventRow
+noted memory rule code words state' =
+    sent 0 rule (bytes words ++ (bytes "12 34 56 78 9A BC DE F1 00 41 00" ++ bytes memory)) 3 code 0 (bytes state')
+
 -- the rows
 abbrev pub eventTable : List EventRow
 eventTable =
@@ -81,8 +86,7 @@ eventTable =
     ∷ did 0 0x76 "80 00 00 5D 83 E5 A5 A7" "80 00 83 E5 A5 A7 12 34 56 78 9A BC DE F1 00 00 00 42 00"
     ∷ did 0 0xf6 "C3 A5 5B 5D 83 E5 A5 A7" "EA 75 83 E5 A5 A7 12 34 56 78 9A BC DE F1 00 00 00 40 01"
     ∷ did 0 0x6f "FF A5 5B 5D 83 E5 A5 A7" "FE FF 83 E5 A5 A7 12 34 56 78 9A BC DE F1 00 00 00 40 00"
-    ∷ sent 0 0 (bytes "00 00 5B 5D 83 E5 A5 A7 12 34 56 78 9A BC DE F1 00 41 00 00 00") 3 0xef
-    0 (bytes "5B 5D 83 E5 A5 A7 12 34 56 78 9A BC DE F1 00 00 00 10 01 10 6F")
+    ∷ noted "00 00" 0 0xef "00 00 5B 5D 83 E5 A5 A7" "5B 5D 83 E5 A5 A7 12 34 56 78 9A BC DE F1 00 00 00 10 01 10 6F"
     ∷ did 0 0x74 "80 00 A5 C3 83 E5 A5 A7" "80 00 A5 C3 83 E5 A5 A7 12 34 56 78 9A BC DE F1 00 42 00"
     ∷ did 0 0xf4 "5A 5C A5 C3 83 E5 A5 A7" "A5 A4 A5 C3 83 E5 A5 A7 12 34 56 78 9A BC DE F1 00 40 01"
     ∷ sent 0 0 full 3 0x77 0 (bytes "11 92 11 92 23 A4 35 B6 47 C8 59 DA 6B EC 7D FE 00 00 00")
@@ -93,8 +97,7 @@ eventTable =
     ∷ did 0 0xad "9A 5C 6B 3D 7E 5A 5A 5A" "E3 FD EF 1D 12 34 56 78 9A BC DE F1 9A 5C 6B 3D 00 43 01"
     ∷ did 0 0x2e "FF FF A5 C3 00 00 5B 5D" "DF CB 88 D7 12 34 56 78 9A BC DE F1 00 00 00 00 00 40 00"
     ∷ did 0 0xb6 "7F A5 A5 C3 80 00 5B 5D" "C0 2D 5A AC 12 34 56 78 9A BC DE F1 00 00 00 00 00 40 01"
-    ∷ sent 0 0 (bytes "80 00 00 00 80 00 5B 5D 12 34 56 78 9A BC DE F1 00 41 00 00 00") 3 0xb6
-    0 (bytes "80 00 00 00 12 34 56 78 9A BC DE F1 00 00 00 00 00 42 01 02 36")
+    ∷ noted "00 00" 0 0xb6 "80 00 00 00 80 00 5B 5D" "80 00 00 00 12 34 56 78 9A BC DE F1 00 00 00 00 00 42 01 02 36"
     ∷ did 0 0x2f "FF FF A5 C3 7A 5C 6B 3D" "FF FE A4 DF 12 34 56 78 9A BC DE F1 00 00 00 00 00 40 00"
     ∷ did 0 0xaf "00 00 00 00 7A 5C 6B 3D" "7A 5C 6B 3D 12 34 56 78 9A BC DE F1 00 00 00 00 00 10 01"
     ∷ did 0 0x34 "80 00 00 00 83 E5 A5 A7" "80 00 00 00 83 E5 A5 A7 12 34 56 78 9A BC DE F1 00 42 00"
@@ -112,10 +115,8 @@ eventTable =
     ∷ did 1 0x91 "0D B6 DB 6D 15 E5 A5 A7" "15 E4 EE CC 12 34 56 78 9A BC DE F1 00 00 00 00 00 00 01"
     ∷ did 0 0x12 "04 B6 DB 6D 83 E5 A5 A7" "87 A4 08 9B 12 34 56 78 9A BC DE F1 00 00 00 00 00 40 00"
     ∷ did 1 0x92 "04 B6 DB 6D 83 E5 A5 A7" "87 A4 08 9B 12 34 56 78 9A BC DE F1 00 00 00 00 00 40 01"
-    ∷ sent 0 1 (bytes "3F B6 DB 6D 3F E5 A5 A7 12 34 56 78 9A BC DE F1 00 41 00 00 00") 3 0x92
-    0 (bytes "7E A4 08 9B 12 34 56 78 9A BC DE F1 00 00 00 00 00 02 01 02 12")
-    ∷ sent 0 0 (bytes "41 B6 DB 6D C1 E5 A5 A7 12 34 56 78 9A BC DE F1 00 41 00 10 2F") 3 0x92
-    0 (bytes "82 A4 08 9B 12 34 56 78 9A BC DE F1 00 00 00 00 00 44 01 14 2F")
+    ∷ noted "00 00" 1 0x92 "3F B6 DB 6D 3F E5 A5 A7" "7E A4 08 9B 12 34 56 78 9A BC DE F1 00 00 00 00 00 02 01 02 12"
+    ∷ noted "10 2F" 0 0x92 "41 B6 DB 6D C1 E5 A5 A7" "82 A4 08 9B 12 34 56 78 9A BC DE F1 00 00 00 00 00 44 01 14 2F"
     ∷ did 0 0x13 "04 B6 DB 6D 83 E5 A5 A7" "80 A0 C0 C2 12 34 56 78 9A BC DE F1 00 00 00 00 00 40 00"
     ∷ did 1 0x93 "04 B6 DB 6D 83 E5 A5 A7" "80 A0 C0 C2 12 34 56 78 9A BC DE F1 00 00 00 00 00 40 01"
     ∷ sent 1 1 (bytes "00 00 00 00 83 E5 A5 A7 12 34 56 78 9A BC DE F1 00 41 00 00 00") 3 0x93
@@ -123,8 +124,7 @@ eventTable =
     ∷ did 0 0x01 "02 E5 A5 A7 83 E5 A5 A7" "01 F2 77 3D 83 E5 A5 A7 12 34 56 78 00 00 00 00 00 00 00"
     ∷ did 1 0x81 "02 E5 A5 A7 83 E5 A5 A7" "01 F2 77 3D 83 E5 A5 A7 12 34 56 78 00 00 00 00 00 00 01"
     ∷ did 0 0x01 "7D E5 A5 A7 83 E5 A5 A7" "7F AB 72 FE 83 E5 A5 A7 12 34 56 78 00 00 00 00 00 00 00"
-    ∷ sent 0 0 (bytes "82 E5 A5 A7 83 E5 A5 A7 12 34 56 78 9A BC DE F1 00 41 00 00 00") 3 0x81
-    0 (bytes "82 E5 A5 A7 83 E5 A5 A7 12 34 56 78 9A BC DE F1 00 48 01 08 01")
+    ∷ noted "00 00" 0 0x81 "82 E5 A5 A7 83 E5 A5 A7" "82 E5 A5 A7 83 E5 A5 A7 12 34 56 78 9A BC DE F1 00 48 01 08 01"
     ∷ did 0 0x15 "04 B6 DB 6D 83 E5 A5 A7" "84 B6 DB 6D 83 E5 A5 A7 12 34 56 78 9A BC DE F1 00 40 00"
     ∷ did 0 0x95 "83 E5 A5 A7 04 B6 DB 6D" "03 E5 A5 A7 04 B6 DB 6D 12 34 56 78 9A BC DE F1 00 00 01"
     ∷ did 0 0x15 "01 59 AB CD 04 B6 DB 6D" "01 59 AB CD 04 B6 DB 6D 12 34 56 78 9A BC DE F1 00 00 00"
@@ -140,12 +140,10 @@ eventTable =
     ∷ did 1 0x1d "A5 C3 6B 3D 83 E5 A5 A7" "8F B4 7A 00 6B 3D 83 E5 A5 A7 12 34 00 00 00 00 00 40 00"
     ∷ did 1 0x1e "1D E5 A5 A7 83 E5 A5 A7" "1C B4 B4 E0 83 E5 A5 A7 12 34 56 78 00 00 00 00 00 00 00"
     ∷ did 0 0x9e "9F E5 A5 A7 83 E5 A5 A7" "8D 2D 2C 80 83 E5 A5 A7 12 34 56 78 00 00 00 00 00 40 01"
-    ∷ sent 0 0 (bytes "20 E5 A5 A7 83 E5 A5 A7 12 34 56 78 9A BC DE F1 00 41 00 00 00") 3 0x1e
-    0 (bytes "20 E5 A5 A7 83 E5 A5 A7 12 34 56 78 00 00 00 00 00 02 00 02 1E")
+    ∷ noted "00 00" 0 0x1e "20 E5 A5 A7 83 E5 A5 A7" "20 E5 A5 A7 83 E5 A5 A7 12 34 56 78 00 00 00 00 00 02 00 02 1E"
     ∷ did 1 0x1f "0D E5 A5 A7 83 E5 A5 A7" "1C B4 83 E5 A5 A7 12 34 56 78 00 00 00 00 00 00 00 00 00"
     ∷ did 0 0x9f "8C E5 A5 A7 83 E5 A5 A7" "F1 A6 83 E5 A5 A7 12 34 56 78 00 00 00 00 00 00 00 40 01"
-    ∷ sent 0 0 (bytes "10 E5 A5 A7 83 E5 A5 A7 12 34 56 78 9A BC DE F1 00 41 00 00 00") 3 0x9f
-    0 (bytes "10 E5 A5 A7 83 E5 A5 A7 12 34 56 78 00 00 00 00 00 02 01 02 1F")
+    ∷ noted "00 00" 0 0x9f "10 E5 A5 A7 83 E5 A5 A7" "10 E5 A5 A7 83 E5 A5 A7 12 34 56 78 00 00 00 00 00 02 01 02 1F"
     ∷ sent 0 0 (full ++ memory) 3 0x80 0 (behind "00 00 01 12 6F") ∷ []
 
 -- ---- the statement

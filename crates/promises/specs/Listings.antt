@@ -79,18 +79,18 @@ pub data Asks (words : ℕ) (first second : List ℕ) : Given → Type 0 where
       → Asks words first second (record { mode = 1; rule = 1 })
 
 -- the card after a reset, under them
-abbrev pub fresh : Given → Card
-fresh g = cardWith (settingsIn g) resetState emptyMemory
+abbrev pub resetCard : Given → Card
+resetCard g = cardWith (settingsIn g) resetState emptyMemory
 
 pub record Listings : Type 0 where
   -- an input of at most 12,288 bytes, run from reset with 65,536 bytes of room and split into the records taken and the
   -- rest (Records: every file splits so):
   -- a line for each record taken, numbered from 1, then the last line
   pub printed : (words : ℕ) (first second third input : List ℕ) (g : Given) → Asks words first second g
-      → length input ≤ 12288 → (split : Split (fresh g) input 65536 (runOf (fresh g) input 65536))
+      → length input ≤ 12288 → (split : Split (resetCard g) input 65536 (runOf (resetCard g) input 65536))
       → toldOf words first second third input
-      ≡ linesFor 1 (fresh g) (split .records) 65536
-      ++ lastLine (runOf (fresh g) input 65536 .refusal) (total (lengths (split .records)))
+      ≡ linesFor 1 (resetCard g) (split .records) 65536
+      ++ lastLine (runOf (resetCard g) input 65536 .refusal) (total (lengths (split .records)))
   -- a longer one prints only `end 9 0`
   pub long : (words : ℕ) (first second third input : List ℕ) (g : Given) → Asks words first second g
       → 12288 < length input → toldOf words first second third input ≡ written "end 9 0" ++ (10 ∷ [])

@@ -33,7 +33,7 @@ use Rattle.step_text.specs.Steps.{workingsOf}
 use Rattle.step_text.specs.Asked.{operationAt, toldOf}
 use Rattle.promises.specs.Stack.{bitsOf}
 use Rattle.promises.specs.FloatWords.{proper}
-use Rattle.promises.specs.SerialWork.{numberIn, stepsIn, widthOf, Operands, taskOf, Made}
+use Rattle.promises.specs.SerialWork.{numberIn, stepsIn, widthOf, Operands, taskOf, StepsMade}
 use Rattle.promises.specs.SerialWork.{linesAfter, answerLine, Asks}
 use Rattle.promises.specs.PrintedText.{written}
 use Rattle.promises.specs.Figures.{from}
@@ -66,9 +66,9 @@ commandFor Fdiv = Float FDiv
 -- what the chip does with that command where B and A lie on top, whatever lies below, is what an answer says: its word
 -- over C.. and 0, status by the
 -- word and its error, no carry; or its refusal, the state as before
-abbrev pub Does : Rule → Operation → ℕ → ℕ → Answer → Type 0
-Does rule op b a (Word r error steps) = Two rule (widthOf op) (commandFor op) b a r error false 0
-Does rule op b a (Refused refusal) = (cs : List ℕ)
+abbrev pub ChipGives : Rule → Operation → ℕ → ℕ → Answer → Type 0
+ChipGives rule op b a (Word r error steps) = Two rule (widthOf op) (commandFor op) b a r error false 0
+ChipGives rule op b a (Refused refusal) = (cs : List ℕ)
     → Refuses rule (commandFor op) (word (widthOf op) a (word (widthOf op) b cs)) refusal
 
 -- the number of an answer: 0, or 4 for an operand that is not proper
@@ -81,7 +81,8 @@ pub record SameEngine : Type 0 where
   pub answers : (op : Operation) (rule : Rule) (b a : ℕ) → Operands op b a
       → answerOf op rule b a ≡ firstAnswer op rule b a (stepsIn (answerOf op rule b a))
   -- and the chip does what the answer says
-  pub in-chip : (op : Operation) (rule : Rule) (b a : ℕ) → Operands op b a → Does rule op b a (answerOf op rule b a)
+  pub in-chip : (op : Operation) (rule : Rule) (b a : ℕ) → Operands op b a
+      → ChipGives rule op b a (answerOf op rule b a)
   pub numbers : (op : Operation) (rule : Rule) (b a : ℕ) → Operands op b a → ZeroOrFour (answerOf op rule b a)
 
 -- ---- the work
@@ -101,7 +102,7 @@ pub record Work : Type 0 where
   -- none where a row names the operands or one is refused; else fewer than so many exactly where no bits remain, of the
   -- multiplier or of the dividend
   pub fewer : (op : Operation) (rule : Rule) (b a : ℕ) → Operands op b a
-      → Made (taskOf op b a) (stepsIn (answerOf op rule b a))
+      → StepsMade (taskOf op b a) (stepsIn (answerOf op rule b a))
 
 -- ---- what ./steps tells
 
