@@ -26,7 +26,7 @@ cardHistory c room before (r ∷ rs) (q ∷ qs) es =
     cardHistory c room (before ++ (r ∷ [])) rs qs (entryOn (cardAfter c room before) r (getD q 4 0) ∷ es)
 
 -- every whole record is answered, and the list is that of the closings
-pub record Told (c : Card) (room : ℕ) (file written sheets : List ℕ) : Type 0 where
+pub record AnsweredAndListed (c : Card) (room : ℕ) (file written sheets : List ℕ) : Type 0 where
   pub all-answered : length (recordsOf written) ≡ length (recordsOf file)
   pub list-is : linesOf sheets ≡ sheetsIn (cardHistory c room [] (recordsOf file) (recordsOf written) [])
 

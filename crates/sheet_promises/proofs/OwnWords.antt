@@ -64,23 +64,23 @@ module _ (c : Card) (bytes sheets : List ℕ) (k : wordAt bytes 2 ≡ 257) where
           (λ h. kept-so o h (c .chip .pending) refl)
 
 -- of every record that is taken
-abbrev Tells : Held → List ℕ → Turned Held → Type 0
-Tells h l t = Whole (entryOn (h .card) (take (t .size) l) (getD (t .reply) 4 0))
+abbrev TakenWhole : Held → List ℕ → Turned Held → Type 0
+TakenWhole h l t = Whole (entryOn (h .card) (take (t .size) l) (getD (t .reply) 4 0))
 
-own-whole : (h : Held) (l : List ℕ) → Owns l → Tells h l (done h l)
+own-whole : (h : Held) (l : List ℕ) → Owns l → TakenWhole h l (done h l)
 own-whole h l o =
-    either-eq (λ (n : ℕ). Tells h l (done h l)) (wordAt l 2) 257 0 0 keeping
+    either-eq (λ (n : ℕ). TakenWhole h l (done h l)) (wordAt l 2) 257 0 0 keeping
     (λ n. not-keep (entryOn (h .card) (take (4 + payloadFor (wordAt l 2)) l)
     (numberOf (entryOf h (wordAt l 2) (take (payloadFor (wordAt l 2)) (drop 4 l)) .refusal)))
     (λ y. n (sym (word-front (4 + payloadFor (wordAt l 2)) l 2 (omega arith)) ∙ y)))
   where
-    keeping : wordAt l 2 ≡ 257 → Tells h l (done h l)
+    keeping : wordAt l 2 ≡ 257 → TakenWhole h l (done h l)
     keeping k =
         let g : getD (take 1 (drop 4 l)) 0 0 ≡ getD (take 5 l) 4 0 = getD-take 1 (drop 4 l) 0 0 (lit< tt) ∙ getD-drop 4 l 0 0
         ∙ sym (getD-take 5 l 4 0 (lit< tt)) in
         rw (k, g) (keep-whole (h .card) (take 5 l) (h .sheets) (word-front 5 l 2 (lit< tt) ∙ k))
 
-core-whole : (h : Held) (l : List ℕ) (room : ℕ) → turnOf (h .card) l room .refusal ≡ 0 → Tells h l (coreBy h (wordAt l 2) (turnOf (h .card) l room))
+core-whole : (h : Held) (l : List ℕ) (room : ℕ) → turnOf (h .card) l room .refusal ≡ 0 → TakenWhole h l (coreBy h (wordAt l 2) (turnOf (h .card) l room))
 core-whole h l room z =
     let t = turnOf (h .card) l room in
     let c = core-took (h .card) l room z in
@@ -104,7 +104,7 @@ keeping =
     let t = lineOf h l room in
     let o = runOf (t .state) (drop (t .size) l) (room - length (t .reply)) in
     let r : List ℕ = take (t .size) l in
-    let w : Tells h l t = taken (Tells h l) h l room (λ o q g. own-whole h l o) (λ y. core-whole h l room y) z in
+    let w : TakenWhole h l t = taken (TakenWhole h l) h l room (λ o q g. own-whole h l o) (λ y. core-whole h l room y) z in
     rw (its-records h l room z (o .written), its-replies h l room z (o .written))
     (subst (λ (k : Card). Every Whole (cardHistory c all (before ++ (r ∷ [])) (recordsOf (drop (t .size) l)) (recordsOf (o .written))
     (entryOn k r (getD (t .reply) 4 0) ∷ es))) (sym (s .card-is))

@@ -83,7 +83,7 @@ module _ (c : Card) (bytes : List ℕ) (es : List Entry) (sheets : List ℕ) (ag
 -- ---- a record that is taken
 
 -- what it leaves: the core stands behind it, and the sheets agree with it
-pub record Tells (h : Held) (l : List ℕ) (room : ℕ) (t : Turned Held) : Type 0 where
+pub record TakenRecord (h : Held) (l : List ℕ) (room : ℕ) (t : Turned Held) : Type 0 where
   pub stands : (c : Card) (all : ℕ) (before : List (List ℕ)) → Stands c all before (h .card) room
       → Stands c all (before ++ (take (t .size) l ∷ [])) (t .state .card) (room - length (t .reply))
   pub agrees : (es : List Entry) → Agrees es (h .sheets) → Agrees (entryOn (h .card) (take (t .size) l) (getD (t .reply) 4 0) ∷ es) (t .state .sheets)
@@ -92,7 +92,7 @@ abbrev Goal : Held → List ℕ → List Entry → Type 0
 Goal h l es =
     So (h .card) (take (4 + payloadFor (wordAt l 2)) l) es (entryOf h (wordAt l 2) (take (payloadFor (wordAt l 2)) (drop 4 l)))
 
-own-tells : (h : Held) (l : List ℕ) (room : ℕ) → Owns l → wordAt l 0 ≡ 2 + payloadFor (wordAt l 2) → Tells h l room (done h l)
+own-tells : (h : Held) (l : List ℕ) (room : ℕ) → Owns l → wordAt l 0 ≡ 2 + payloadFor (wordAt l 2) → TakenRecord h l room (done h l)
 own-tells h l room o q = record {
   stands = λ c all before s.
       let k = word-front (4 + payloadFor (wordAt l 2)) l 2 (omega arith) in
@@ -123,7 +123,7 @@ own-tells h l room o q = record {
     closing es ag k = rw k (close-tells (h .card) (take 4 l) es (h .sheets) ag (word-front 4 l 2 (lit< tt) ∙ k))
 
 core-tells : (h : Held) (l : List ℕ) (room : ℕ) → turnOf (h .card) l room .refusal ≡ 0 → 0 < length l
-    → Tells h l room (coreBy h (wordAt l 2) (turnOf (h .card) l room))
+    → TakenRecord h l room (coreBy h (wordAt l 2) (turnOf (h .card) l room))
 core-tells h l room z p =
     let t = turnOf (h .card) l room in
     let c = core-took (h .card) l room z in
@@ -141,8 +141,8 @@ core-tells h l room z p =
           (λ y. quiet-dropped e es (h .sheets) q ag) (λ y. quiet e es (h .sheets) q ag));
     }
 
-pub tells : (h : Held) (l : List ℕ) (room : ℕ) → 0 < length l → lineOf h l room .refusal ≡ 0 → Tells h l room (lineOf h l room)
-tells h l room p = taken (Tells h l room) h l room (λ o q g. own-tells h l room o q) (λ z. core-tells h l room z p)
+pub tells : (h : Held) (l : List ℕ) (room : ℕ) → 0 < length l → lineOf h l room .refusal ≡ 0 → TakenRecord h l room (lineOf h l room)
+tells h l room p = taken (TakenRecord h l room) h l room (λ o q g. own-tells h l room o q) (λ z. core-tells h l room z p)
 
 -- ---- a run
 
