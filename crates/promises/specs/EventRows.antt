@@ -89,9 +89,6 @@ eventTable =
     ∷ noted "00 00" 0 0xef "00 00 5B 5D 83 E5 A5 A7" "5B 5D 83 E5 A5 A7 12 34 56 78 9A BC DE F1 00 00 00 10 01 10 6F"
     ∷ did 0 0x74 "80 00 A5 C3 83 E5 A5 A7" "80 00 A5 C3 83 E5 A5 A7 12 34 56 78 9A BC DE F1 00 42 00"
     ∷ did 0 0xf4 "5A 5C A5 C3 83 E5 A5 A7" "A5 A4 A5 C3 83 E5 A5 A7 12 34 56 78 9A BC DE F1 00 40 01"
-    ∷ sent 0 0 full 3 0x77 0 (bytes "11 92 11 92 23 A4 35 B6 47 C8 59 DA 6B EC 7D FE 00 00 00")
-    ∷ sent 0 0 full 3 0xf8 0 (bytes "23 A4 35 B6 47 C8 59 DA 6B EC 7D FE 8F 01 11 92 00 00 01")
-    ∷ sent 0 0 full 3 0x79 0 (bytes "23 A4 11 92 35 B6 47 C8 59 DA 6B EC 7D FE 8F 01 00 00 00")
     -- 32 bits
     ∷ did 0 0x2c "7A 5C 6B 3D 7E 5A 5A 5A" "F8 B6 C5 97 12 34 56 78 9A BC DE F1 7A 5C 6B 3D 00 42 00"
     ∷ did 0 0xad "9A 5C 6B 3D 7E 5A 5A 5A" "E3 FD EF 1D 12 34 56 78 9A BC DE F1 9A 5C 6B 3D 00 43 01"
@@ -101,9 +98,6 @@ eventTable =
     ∷ did 0 0x2f "FF FF A5 C3 7A 5C 6B 3D" "FF FE A4 DF 12 34 56 78 9A BC DE F1 00 00 00 00 00 40 00"
     ∷ did 0 0xaf "00 00 00 00 7A 5C 6B 3D" "7A 5C 6B 3D 12 34 56 78 9A BC DE F1 00 00 00 00 00 10 01"
     ∷ did 0 0x34 "80 00 00 00 83 E5 A5 A7" "80 00 00 00 83 E5 A5 A7 12 34 56 78 9A BC DE F1 00 42 00"
-    ∷ sent 0 0 full 3 0x37 0 (bytes "11 92 23 A4 11 92 23 A4 35 B6 47 C8 59 DA 6B EC 00 00 00")
-    ∷ sent 0 0 full 3 0xb8 0 (bytes "35 B6 47 C8 59 DA 6B EC 7D FE 8F 01 11 92 23 A4 00 00 01")
-    ∷ sent 0 0 full 3 0x39 0 (bytes "35 B6 47 C8 11 92 23 A4 59 DA 6B EC 7D FE 8F 01 00 00 00")
     -- floats, under the cut and under nearest
     ∷ did 0 0x10 "04 B6 DB 6D 83 E5 A5 A7" "03 88 11 33 12 34 56 78 9A BC DE F1 00 00 00 00 00 00 00"
     ∷ did 1 0x90 "04 B6 DB 6D 83 E5 A5 A7" "03 88 11 33 12 34 56 78 9A BC DE F1 00 00 00 00 00 00 01"
@@ -128,11 +122,18 @@ eventTable =
     ∷ did 0 0x15 "04 B6 DB 6D 83 E5 A5 A7" "84 B6 DB 6D 83 E5 A5 A7 12 34 56 78 9A BC DE F1 00 40 00"
     ∷ did 0 0x95 "83 E5 A5 A7 04 B6 DB 6D" "03 E5 A5 A7 04 B6 DB 6D 12 34 56 78 9A BC DE F1 00 00 01"
     ∷ did 0 0x15 "01 59 AB CD 04 B6 DB 6D" "01 59 AB CD 04 B6 DB 6D 12 34 56 78 9A BC DE F1 00 00 00"
+    ∷ sent 0 0 (full ++ memory) 3 0x1a 0 (bytes "02 C9 0F DA 11 92 23 A4 35 B6 47 C8 59 DA 6B EC 00 00 00 12 6F")
+    ∷ sent 1 1 (full ++ memory) 3 0x9a 0 (bytes "02 C9 0F DB 11 92 23 A4 35 B6 47 C8 59 DA 6B EC 00 00 01 12 6F")
+    -- words pushed again, popped, exchanged: of 16 and 32 bits, of floats
+    ∷ sent 0 0 full 3 0x77 0 (bytes "11 92 11 92 23 A4 35 B6 47 C8 59 DA 6B EC 7D FE 00 00 00")
+    ∷ sent 0 0 full 3 0xf8 0 (bytes "23 A4 35 B6 47 C8 59 DA 6B EC 7D FE 8F 01 11 92 00 00 01")
+    ∷ sent 0 0 full 3 0x79 0 (bytes "23 A4 11 92 35 B6 47 C8 59 DA 6B EC 7D FE 8F 01 00 00 00")
+    ∷ sent 0 0 full 3 0x37 0 (bytes "11 92 23 A4 11 92 23 A4 35 B6 47 C8 59 DA 6B EC 00 00 00")
+    ∷ sent 0 0 full 3 0xb8 0 (bytes "35 B6 47 C8 59 DA 6B EC 7D FE 8F 01 11 92 23 A4 00 00 01")
+    ∷ sent 0 0 full 3 0x39 0 (bytes "35 B6 47 C8 11 92 23 A4 59 DA 6B EC 7D FE 8F 01 00 00 00")
     ∷ sent 0 0 full 3 0x17 0 (bytes "11 92 23 A4 11 92 23 A4 35 B6 47 C8 59 DA 6B EC 00 00 00")
     ∷ sent 0 0 full 3 0x98 0 (bytes "35 B6 47 C8 59 DA 6B EC 7D FE 8F 01 11 92 23 A4 00 00 01")
     ∷ sent 0 0 full 3 0x19 0 (bytes "35 B6 47 C8 11 92 23 A4 59 DA 6B EC 7D FE 8F 01 00 00 00")
-    ∷ sent 0 0 (full ++ memory) 3 0x1a 0 (bytes "02 C9 0F DA 11 92 23 A4 35 B6 47 C8 59 DA 6B EC 00 00 00 12 6F")
-    ∷ sent 1 1 (full ++ memory) 3 0x9a 0 (bytes "02 C9 0F DB 11 92 23 A4 35 B6 47 C8 59 DA 6B EC 00 00 01 12 6F")
     -- conversions
     ∷ did 0 0x1c "7A 5C 6B 3D 83 E5 A5 A7" "1F F4 B8 D6 83 E5 A5 A7 12 34 56 78 00 00 00 00 00 00 00"
     ∷ did 1 0x9c "7A 5C 6B BD 83 E5 A5 A7" "1F F4 B8 D7 83 E5 A5 A7 12 34 56 78 00 00 00 00 00 00 01"
