@@ -25,7 +25,7 @@ use Rattle.sheet_promises.specs.OwnWords.{Every}
 use Rattle.sheet_promises.proofs.Turns.{word-front}
 use Rattle.sheet_promises.proofs.Split.{no-bytes}
 use Rattle.sheet_promises.proofs.Standing.{Stands}
-use Rattle.sheet_promises.proofs.Telling.{tells, its-records, its-replies, no-replies}
+use Rattle.sheet_promises.proofs.Telling.{along}
 
 -- ---- a keep that was answered 0 had nothing pending, and a slot
 
@@ -90,22 +90,8 @@ core-whole h l room z =
 
 -- ---- and so of a run
 
-abbrev pub Keeping : Held → List ℕ → ℕ → Outcome Held → Type 0
-Keeping h l room o =
-    (c : Card) (all : ℕ) (before : List (List ℕ)) (es : List Entry) → Stands c all before (h .card) room → Every Whole es
-    → Every Whole (cardHistory c all before (recordsOf l) (recordsOf (o .written)) es)
-
-pub keeping : (h : Held) (l : List ℕ) (room : ℕ) → Keeping h l room (runOf h l room)
+pub keeping : (h : Held) (l : List ℕ) (room : ℕ) (c : Card) (all : ℕ) (before : List (List ℕ)) (es : List Entry) → Stands c all before (h .card) room
+    → Every Whole es → Every Whole (cardHistory c all before (recordsOf l) (recordsOf (runOf h l room .written)) es)
 keeping =
-    through lawful Keeping
-    (λ h room c all before es s q. rw no-bytes q)
-    (λ h l room p z c all before es s q. rw (no-bytes, no-replies c all before (recordsOf l) es) q)
-    (λ h l room p z ih c all before es s q.
-    let t = lineOf h l room in
-    let o = runOf (t .state) (drop (t .size) l) (room - length (t .reply)) in
-    let r : List ℕ = take (t .size) l in
-    let w : TakenWhole h l t = taken (TakenWhole h l) h l room (λ o q g. own-whole h l o) (λ y. core-whole h l room y) z in
-    rw (its-records h l room z (o .written), its-replies h l room z (o .written))
-    (subst (λ (k : Card). Every Whole (cardHistory c all (before ++ (r ∷ [])) (recordsOf (drop (t .size) l)) (recordsOf (o .written))
-    (entryOn k r (getD (t .reply) 4 0) ∷ es))) (sym (s .card-is))
-    (ih c all (before ++ (r ∷ [])) (entryOn (h .card) r (getD (t .reply) 4 0) ∷ es) (tells h l room p z .stands c all before s) (w, q))))
+    along (λ es s. Every Whole es)
+    (λ h l room p z es q. (taken (TakenWhole h l) h l room (λ o q g. own-whole h l o) (λ y. core-whole h l room y) z, q))

@@ -93,20 +93,25 @@ frame-stops c l room =
 
 -- ---- a record of the core, alone
 
+-- what holds of each kind holds of all
+of-each : (P : EventKind → Type 0) → P PushKind → P PopKind → P CommandKind → P StatusKind → P ResetKind → P AcknowledgeKind → P RecallKind → P ForgetKind
+    → P UnknownKind → (k : EventKind) → P k
+of-each P a b c d e f g h i PushKind = a
+of-each P a b c d e f g h i PopKind = b
+of-each P a b c d e f g h i CommandKind = c
+of-each P a b c d e f g h i StatusKind = d
+of-each P a b c d e f g h i ResetKind = e
+of-each P a b c d e f g h i AcknowledgeKind = f
+of-each P a b c d e f g h i RecallKind = g
+of-each P a b c d e f g h i ForgetKind = h
+of-each P a b c d e f g h i UnknownKind = i
+
 -- a record's row does not look past its own bytes
-kind-alone : (most : ℕ) (k : EventKind) (first other : ℕ) → rowBy most k 0 first ≡ rowBy most k 0 other
-kind-alone most PushKind first other = refl
-kind-alone most PopKind first other = refl
-kind-alone most CommandKind first other = refl
-kind-alone most StatusKind first other = refl
-kind-alone most ResetKind first other = refl
-kind-alone most AcknowledgeKind first other = refl
-kind-alone most RecallKind first other = refl
-kind-alone most ForgetKind first other = refl
-kind-alone most UnknownKind first other = refl
+kind-alone : (most first other : ℕ) (k : EventKind) → rowBy most k 0 first ≡ rowBy most k 0 other
+kind-alone most first other = of-each (λ k. rowBy most k 0 first ≡ rowBy most k 0 other) refl refl refl refl refl refl refl refl refl
 
 row-alone : (most kind n first other : ℕ) → (0 < n → first ≡ other) → rowUnder most kind n first ≡ rowUnder most kind n other
-row-alone most kind zero first other e = kind-alone most (kindNamed kind) first other
+row-alone most kind zero first other e = kind-alone most first other (kindNamed kind)
 row-alone most kind (suc n) first other e = ap (rowUnder most kind (suc n)) (e (omega arith))
 
 pub word-front : (n : ℕ) (l : List ℕ) (i : ℕ) → i + 1 < n → wordAt (take n l) i ≡ wordAt l i
