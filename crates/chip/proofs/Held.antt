@@ -32,7 +32,7 @@ use Rattle.codes.specs.Codes.{sr, decoded}
 use Rattle.chip.specs.State.{State, left, afterReset, acknowledged, settled}
 use Rattle.chip.specs.declared.commands.Obeyed.{Obeyed}
 use Rattle.chip.specs.Commands.{outcomeOf, properOperands}
-use Rattle.chip.specs.Step.{done, refused, resetOf, acknowledgeOf, carried, commandUnder}
+use Rattle.chip.specs.Step.{done, refused, resetOf, acknowledgeOf, readOf, carried, commandUnder}
 use Rattle.chip.specs.Held.{held, flipped, Settles, SettlesEither, Obeys, Performs, halfWord, refusalOf, answerAs, Commanded}
 use Rattle.chip.proofs.Answers.{carried-half, carried-improper, carried-done, command-by}
 use Rattle.chip.proofs.InTurn.{turned}
@@ -58,6 +58,10 @@ turned-if false false = refl
 
 -- ---- events of a state that is not busy
 module _ (s : State) (h : s .status < 128) where
+  pub read-done : readOf s ≡ done (s .status) s
+  unfolding readOf
+  read-done = rw (lt-leb 128 (s .status) h)
+
   pub reset-done : (mode : Mode) → resetOf mode s ≡ done 0 (afterReset mode s)
   unfolding resetOf
   reset-done mode = rw (lt-leb 128 (s .status) h)
