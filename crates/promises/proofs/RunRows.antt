@@ -5,7 +5,7 @@ use Prim.Native.Nat.{ℕ, _<_}
 use mathlib.Core.List.{[], map}
 use native.Mathlib.Omega.{arith}
 use lib.Dec.{lit<, lit≤}
-use lib.ListN.{length, replicate, length-replicate}
+use lib.ListN.{length, length-replicate}
 use lib.Ieee.{size}
 use Rattle.fixed.specs.Fixed.{add as xadd, sub as xsub, mul as xmul, muu as xmuu, div as xdiv, chs as xchs}
 use Rattle.float.specs.Float.{add, sub, mul, div}

@@ -6,7 +6,7 @@ use mathlib.Core.List.{List, [], _∷_, _++_}
 use Prim.Native.Nat.{ℕ, _+_, _*_, _-_, _≤_, _<_}
 use native.Mathlib.Omega.{arith}
 use borrow.Author.Tests.{lt-leb, eq-eqb, ne-eqb, eqb-true, eqb-false}
-use lib.Dec.{eqb, leb, lit≤}
+use lib.Dec.{eqb, leb}
 use lib.ListN.{length, take, getD, length-append}
 use lib.Seq.{take-at, take-append-le, getD-append-add}
 use Rattle.terms.specs.declared.Mode.{Mode}

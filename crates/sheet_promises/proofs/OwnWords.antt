@@ -1,29 +1,27 @@
 -- 02, ask 11: a keep that was answered 0 had nothing pending, and a slot. Every run on the slice goes on from the history of those before it. Assumes nothing.
-use mathlib.Core.Path.{_≡_, refl, sym, subst, _∙_}
+use mathlib.Core.Path.{_≡_, refl, sym, _∙_}
 use mathlib.Core.Bool.{Bool, true, false, false≢true}
-use mathlib.Core.List.{List, [], _∷_, _++_}
+use mathlib.Core.List.{List}
 use Prim.Native.Nat.{ℕ, _+_, _-_, _≤_, _<_}
 use native.Mathlib.Omega.{arith}
 use lib.Dec.{lit<}
-use lib.ListN.{length, getD, take, drop}
+use lib.ListN.{getD, take, drop}
 use lib.Seq.{getD-take, getD-drop}
 use borrow.Author.Tests.{lt-ltb, le-ltb, ne-eqb, eqb-true}
 use Rattle.little.specs.Little.{wordAt}
-use Rattle.record_files.specs.Run.{Turned, Outcome}
+use Rattle.record_files.specs.Run.{Turned}
 use Rattle.record_files.proofs.Tests.{either-lt, either-eq}
-use Rattle.record_files.proofs.Through.{through}
 use Rattle.error_memory.specs.Memory.{Card}
 use Rattle.record_runs.specs.Record.{turnOf}
 use Rattle.sheet_bytes.specs.Ledger.{isOpen}
 use Rattle.sheet_bytes.specs.Entering.{Entered, numberOf, payloadFor, keepOf}
-use Rattle.sheets.specs.Step.{Held, topOf, entryOf, coreBy, lineOf, runOf}
-use Rattle.sheets.proofs.Lines.{Owns, done, taken, core-took, lawful}
+use Rattle.sheets.specs.Step.{Held, topOf, entryOf, coreBy, runOf}
+use Rattle.sheets.proofs.Lines.{Owns, done, taken, core-took}
 use Rattle.sheet_promises.specs.Records.{recordsOf}
 use Rattle.sheet_promises.specs.History.{Entry, keeps}
 use Rattle.sheet_promises.proofs.CardHistory.{entryOn, cardHistory}
 use Rattle.sheet_promises.specs.OwnWords.{Every}
 use Rattle.sheet_promises.proofs.Turns.{word-front}
-use Rattle.sheet_promises.proofs.Split.{no-bytes}
 use Rattle.sheet_promises.proofs.Standing.{Stands}
 use Rattle.sheet_promises.proofs.Telling.{along}
 
