@@ -100,26 +100,12 @@ returns-3 c =
 pub take-words-spec : {M : Type 1} → statement M
 take-words-spec =
     tie.close
-    (tie.spec
-    Inv-loop
-    μ-loop
-    loop-holds
-    (λ c κs. c .before .loop .inv .within)
-    (λ c. c .before .before .before .loop .inv .same)
-    returns
-    (λ c. omega (arith, c .before .next-word .ensures .ordered))
-    (λ c. search needs)
-    (λ c. search needs)
-    (λ c κs. search needs)
-    put-value-requires
-    (λ c. search needs)
+    (tie.spec Inv-loop μ-loop loop-holds (λ c κs. c .before .loop .inv .within)
+    (λ c. c .before .before .before .loop .inv .same) returns (λ c. omega (arith, c .before .next-word .ensures .ordered))
+    (λ c. search needs) (λ c. search needs) (λ c κs. search needs) put-value-requires (λ c. search needs)
     (λ c. search needs)
     (λ c.
     let at-put = c .before .before .before .before .before in
     let l = at-put .before .before .before .before .before .before .before .loop in
     let e : length (at-put .put-value .last .0) ≡ length (l .payload) = search needs in e ∙ l .inv .same)
-    returns-2
-    loop-less
-    loop-again
-    (λ c. c .before .loop .inv .same)
-    returns-3)
+    returns-2 loop-less loop-again (λ c. c .before .loop .inv .same) returns-3)
