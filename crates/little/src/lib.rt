@@ -1,5 +1,5 @@
-// Numbers as bytes, the low one first, as records, the report, the calls and buffers have them; and the other way round,
-// as the stack has them.
+// Numbers as bytes, the low one first, as records, the report, the calls and buffers have them; and the other way
+// round, as the stack has them.
 ghost use mathlib.Core.Path.{_≡_};
 ghost use Prim.Native.Nat.{_+_, _*_, _≤_};
 ghost use lib.ListN.{length};

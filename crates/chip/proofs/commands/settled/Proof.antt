@@ -22,17 +22,20 @@ add-status c = record { fits = omega (arith, byte-small (leb (2 ^ 63) (c .before
 
 add-status-2 : tie.Need-add-status-2
 add-status-2 c =
-    record { fits = omega (arith, byte-small (leb (2 ^ 63) (c .before .before .args .stack .top)), byte-small (eqb (c .tos .result) 0), c .before .before .pre) }
+    let e = c .before .before in
+    record { fits = omega (arith, byte-small (leb (2 ^ 63) (e .args .stack .top)), byte-small (eqb (c .tos .result) 0), e .pre) }
 
 add-status-3 : tie.Need-add-status-3
 add-status-3 c =
-    let a = c .before .before .args in
-    record { fits = omega (arith, byte-small (leb (2 ^ 63) (a .stack .top)), byte-small (eqb (c .tos .result) 0), byte-small (a .carry), c .before .before .pre) }
+    let e = c .before .before in
+    let a = e .args in
+    record { fits = omega (arith, byte-small (leb (2 ^ 63) (a .stack .top)), byte-small (eqb (c .tos .result) 0), byte-small (a .carry), e .pre) }
 
 cast-t17 : tie.Need-cast-t17
 cast-t17 c =
-    let a = c .before .before .args in
-    record { fits = omega (arith, byte-small (leb (2 ^ 63) (a .stack .top)), byte-small (eqb (c .tos .result) 0), byte-small (a .carry), c .before .before .pre) }
+    let e = c .before .before in
+    let a = e .args in
+    record { fits = omega (arith, byte-small (leb (2 ^ 63) (a .stack .top)), byte-small (eqb (c .tos .result) 0), byte-small (a .carry), e .pre) }
 
 returns : tie.Need-returns
 returns c =

@@ -34,7 +34,8 @@ returns c =
     let t = m .before .tos .result in
     let is = ⊎-elim (λ w. w .3 ∙ w .2 .ensures ∙ ap (λ (v : Width). fltOf (a .rule) v t) (sym (w .1 .given .1)))
     (λ w. w .3 ∙ w .2 .ensures ∙ ap (λ (v : Width). fltOf (a .rule) v t) (sym (w .1 .given .1))) (m .match .came) in
-    (c .settled .ensures .0 ∙ flt-row (a .rule) (a .width) (bytesIn (a .s)) (m .before .tos .ensures .0) is (c .before .convert .ensures), c .settled .ensures .1)
+    let row = flt-row (a .rule) (a .width) (bytesIn (a .s)) (m .before .tos .ensures .0) is (c .before .convert .ensures) in
+    (c .settled .ensures .0 ∙ row, c .settled .ensures .1)
 
 pub to-float-spec : {M : Type 1} → statement M
 to-float-spec =
