@@ -18,9 +18,10 @@ use Rattle.record_runs.specs.Record.{Push, Pop, Command, Status, Reset, Acknowl
 use Rattle.record_runs.specs.declared.head.Frame.the-variants.{Broken}
 use Rattle.record_runs.specs.Record.{Stop}
 use Rattle.little.specs.Little.{wordAt}
-use Rattle.record_runs.specs.declared.head.EventKind.{EventKind}
-use Rattle.record_runs.specs.declared.head.EventKind.the-variants.{Unknown as UnknownKind}
-use Rattle.record_runs.specs.Record.{kindOf, payloadOf, answeredOf, kindNamed, rowBy, rowUnder, frameUnder, headIn, headOf, Carried, Holds, stopped, turnUnder}
+use Rattle.terms.specs.declared.EventKind.{EventKind}
+use Rattle.terms.specs.declared.EventKind.the-variants.{Unknown as UnknownKind}
+use Rattle.terms.specs.Kind.{kindNamed}
+use Rattle.record_runs.specs.Record.{kindOf, payloadOf, answeredOf, rowBy, rowUnder, frameUnder, headIn, headOf, Carried, Holds, stopped, turnUnder}
 use Rattle.record_runs.specs.Record.{turnOf}
 use Rattle.record_files.proofs.Tests.{either-lt, either-eq}
 use Rattle.record_runs.proofs.Single.{stopped-by}
