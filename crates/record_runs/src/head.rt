@@ -1,7 +1,7 @@
 // The head of the record at the front of a file: its frame and its kind. Nothing is done here.
 use terms::Refusal;
 ghost use mathlib.Core.Path.{_≡_};
-ghost use Prim.Native.Nat.{_+_, _*_, _≤_};
+ghost use Prim.Native.Nat.{_+_, _≤_};
 ghost use lib.ListN.{length};
 ghost use Rattle.terms.specs.Limits.{mostPayload, mostInput};
 ghost use Rattle.record_runs.specs.Record.{frameUnder};
@@ -12,13 +12,6 @@ pub enum Frame {
     Broken(Refusal),
 }
 
-// Two bytes, the low one first.
-pub fn word(lo: u8, hi: u8) -> u16
-    ensures { λ r. ⌜ r ≡ lo + hi * 256 ⌝ }
-{
-    lo as u16 + hi as u16 * 256
-}
-
 // The frame of the record at the front of `rest`, which is what is left of a file of this size from a place on.
 pub fn read_frame(rest: &[u8], at: u32, size: u32) -> Frame
     requires { ⌜ (at + length (now rest) ≡ size) × (size ≤ mostInput) ⌝ }
@@ -27,7 +20,7 @@ pub fn read_frame(rest: &[u8], at: u32, size: u32) -> Frame
     if size < at + 2 {
         return Frame::Broken(Refusal::CutShort);
     }
-    let n = word(rest[0], rest[1]) as usize;
+    let n = little::two(rest[0], rest[1]) as usize;
     if (n < terms::LEAST_LENGTH) | (terms::MOST_LENGTH < n) {
         return Frame::Broken(Refusal::BadLength);
     }

@@ -2,7 +2,6 @@
 // payload; a record is worked on only once its payload is right and its reply has room, and its reply is written once,
 // in place. The card is not busy: a busy state is turned away at the door.
 use crate::head::Frame;
-use crate::head::word;
 use chip::State;
 use error_memory::Card;
 use error_memory::Memory;
@@ -273,7 +272,7 @@ pub fn pass_record(
     match crate::head::read_frame(rest, place.taken, place.size) {
         Frame::Framed(n) => {
             let end = 4 + n as usize;
-            let kind = terms::kind_of(word(rest[2], rest[3]) as u32);
+            let kind = terms::kind_of(little::two(rest[2], rest[3]) as u32);
             pass_kind(card, mode, rule, kind, &rest[4..end], room, place)
         }
         Frame::Broken(refusal) => stop(refusal, card, place),

@@ -29,15 +29,15 @@ returns-2 : tie.Need-returns-2
 returns-2 c =
     let e = c .before .before .before .before .before .before in
     let l = now (e .args .rest) in
-    let n = c .before .word .result in
+    let n = c .before .two .result in
     ⊎-elim (λ x. sym (low mostPayload l (omega (arith, e .pre .0)) (omega (arith, ltb-true n leastLength x))))
     (λ y. let h = ltb-true mostLength n y in sym (high mostPayload l (omega (arith, e .pre .0)) (omega arith) (omega arith)))
     (either (ltb n leastLength) (ltb mostLength n) (c .if2 .taken))
 
 -- the length is in range
-ranged : (k : tie.Else2) → let n = k .before .word .result in (leastLength ≤ n) × (n ≤ mostLength)
+ranged : (k : tie.Else2) → let n = k .before .two .result in (leastLength ≤ n) × (n ≤ mostLength)
 ranged k =
-    let n = k .before .word .result in
+    let n = k .before .two .result in
     let h = neither (ltb n leastLength) (ltb mostLength n) (k .if2 .left) in
     (ltb-false n leastLength (h .0), ltb-false mostLength n (h .1))
 
@@ -67,7 +67,7 @@ returns-4 : tie.Need-returns-4
 returns-4 c =
     let e = c .before .before .before .before .before .before .before in
     let n = ranged (c .before) in
-    rw (c .before .before .word .ensures)
+    rw (c .before .before .two .ensures)
     (sym (whole mostPayload (now (e .args .rest)) (omega (arith, e .pre .0)) (omega (arith, n .0))
     (omega (arith, n .1)) (omega (arith, e .pre .0, c .if3 .left))))
 

@@ -58,7 +58,7 @@ returns c =
     let n = k .before .n .given .0 .0 in
     let on = given (a .mode) (a .rule) in
     let w = c .before .before .pass-kind in
-    let kind = c .before .before .before .before .before .kind-of .ensures ∙ ap kindNamed (c .before .before .before .before .before .before .word .ensures) in
+    let kind = c .before .before .before .before .before .kind-of .ensures ∙ ap kindNamed (c .before .before .before .before .before .before .two .ensures) in
     framed on (a .place) (a .card) l (now (a .room)) _ n _ (w .result) (fit k .there) kind (frame k) (rw (add-sub-cancel-left 4 n) at (w .ensures))
 
 returns-2 : tie.Need-returns-2

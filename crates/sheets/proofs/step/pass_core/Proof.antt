@@ -62,7 +62,7 @@ returns-2 c =
     let t = turnOf (cardUnder on (a .card)) l (length (now (a .room))) in (
       r .ensures .0,
       core-turns (held (cardUnder on (a .card)) (now (a .sheets))) (wordAt l 2) t _ _ _ _ _ _ _ _ (r .ensures .1) (other-keeps (now (a .sheets))
-          (wordAt l 2) (t .refusal) (λ z. c .if2 .taken (c .before .word .ensures ∙ z))),
+          (wordAt l 2) (t .refusal) (λ z. c .if2 .taken (c .before .two .ensures ∙ z))),
     )
 
 returns-3 : tie.Need-returns-3
@@ -76,7 +76,7 @@ returns-3 c =
       r .ensures .0,
       core-turns (held (cardUnder on (a .card)) (now (a .sheets))) (wordAt l 2) t _ _ _ _ _ _ _ _ (r .ensures .1) (c .before .before .drop-open .ensures
           ∙ reset-drops (now (a .sheets)) (wordAt l 2) (t .refusal) (sym (r .ensures .1 .refusal-is) ∙ c .before .before .before .before .before .before .before
-          .before .if1 .left) (sym (c .before .before .before .before .before .word .ensures) ∙ c .before .before .before .before .if2 .left)),
+          .before .if1 .left) (sym (c .before .before .before .before .before .two .ensures) ∙ c .before .before .before .before .if2 .left)),
     )
 
 pub pass-core-spec : {M : Type 1} → statement M
