@@ -13,8 +13,8 @@ use lib.IntN.{ℤ, _*ℤ_}
 use lib.Ieee.{unlike}
 use lib.Pow.{pow-add, pow-pos}
 use lib.Signed.{quotZ, shrZ}
-use Rattle.whole.proofs.Differences.{either}
-use Rattle.whole.proofs.Signs.{times}
+use Rattle.numbers.proofs.Differences.{either}
+use Rattle.numbers.proofs.Signs.{times}
 use Rattle.terms.specs.declared.Refusal.the-variants.{Improper}
 use Rattle.terms.specs.declared.Rule.{Rule}
 use Rattle.fixed.specs.declared.Fixed.{Fixed}

@@ -10,7 +10,7 @@ use native.Mathlib.Omega.{arith}
 use borrow.Author.Tests.{eqb-true, eqb-false, eq-eqb, ne-eqb}
 use lib.Dec.{ltb, eqb, lit<}
 use lib.Pow.{pow-add, pow-pos, pow-mono}
-use Rattle.whole.specs.Signed.{withSign}
+use Rattle.numbers.specs.Signed.{withSign}
 use Rattle.terms.specs.declared.Rule.{Rule}
 use Rattle.terms.specs.declared.Rule.the-variants.{Cut}
 use Rattle.terms.specs.declared.Refusal.the-variants.{TooLarge, TooSmall}

@@ -13,7 +13,7 @@ use Rattle.terms.specs.declared.Rule.{Rule}
 use Rattle.float.specs.declared.Flagged.{Flagged}
 use Rattle.float.specs.Word.{size88}
 use Rattle.float.specs.Cut.{cut}
-use Rattle.whole.specs.Signed.{withSign}
+use Rattle.numbers.specs.Signed.{withSign}
 use Rattle.terms.specs.declared.Refusal.the-variants.{TooLarge, TooSmall}
 use Rattle.decimals.specs.declared.bring.Brought.{Brought}
 use Rattle.decimals.specs.declared.bring.Brought.the-variants.{Exact, Rounded, Refused}

@@ -5,7 +5,7 @@ use mathlib.Core.Logic.{_⊎_}
 use mathlib.Core.Bool.{Bool, true, false, cond}
 use mathlib.Core.List.{List, [], _∷_, _++_}
 use lib.ListN.{length}
-use Rattle.whole.specs.Signed.{withSign}
+use Rattle.numbers.specs.Signed.{withSign}
 use Rattle.terms.specs.declared.Rule.{Rule}
 use Rattle.float.specs.Word.{negative, size88}
 use Rattle.decimals.specs.declared.bring.Brought.the-variants.{Exact as Is}

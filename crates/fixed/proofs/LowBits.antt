@@ -9,8 +9,8 @@ use lib.IntN.{ℤ, pos, negsuc, subℕ, _+ℤ_, _*ℤ_}
 use lib.Signed.{mag, shrZ}
 use lib.Dec.{leb, ltb}
 use borrow.Author.Tests.{lt-ltb, le-ltb, le-leb, lt-leb, ltb-true}
-use Rattle.whole.specs.Signed.{withSign}
-use Rattle.whole.proofs.Differences.{either, sub-lt, sub-ge, sum-differences, neg-pos, pos-is}
+use Rattle.numbers.specs.Signed.{withSign}
+use Rattle.numbers.proofs.Differences.{either, sub-lt, sub-ge, sum-differences, neg-pos, pos-is}
 use Rattle.fixed.specs.Fixed.{signed, fits, LowBits, low}
 use Rattle.fixed.specs.Parts.{negativeAt}
 

@@ -10,9 +10,9 @@ use lib.Signed.{quotZ, shrZ}
 use lib.Dec.{eqb, ltb, lit<}
 use lib.Ieee.{unlike}
 use borrow.Author.Tests.{lt-ltb, le-ltb, le-leb, lt-leb, eq-eqb, ne-eqb}
-use Rattle.whole.specs.Signed.{withSign}
-use Rattle.whole.proofs.Differences.{either, same, neg-pos}
-use Rattle.whole.proofs.Signs.{zero-signed, times, opposite}
+use Rattle.numbers.specs.Signed.{withSign}
+use Rattle.numbers.proofs.Differences.{either, same, neg-pos}
+use Rattle.numbers.proofs.Signs.{zero-signed, times, opposite}
 use Rattle.fixed.specs.Parts.{Words, negativeAt, magnitudeAt}
 use Rattle.fixed.specs.Fixed.{signed, fits, low, overflowIf, outcome, eitherLeast, mul, muu, div, chs}
 use Rattle.fixed.proofs.LowBits.{not-negative}

@@ -9,7 +9,7 @@ use lib.IntN.{ℤ, negℤ, subℕ, _+ℤ_, _-ℤ_}
 use lib.Dec.{leb, ltb}
 use lib.Ieee.{unlike}
 use borrow.Author.Tests.{lt-ltb, le-ltb, le-leb, lt-leb}
-use Rattle.whole.proofs.Differences.{either, sum-differences, opposite-difference}
+use Rattle.numbers.proofs.Differences.{either, sum-differences, opposite-difference}
 use Rattle.fixed.specs.Parts.{Words, negativeAt}
 use Rattle.fixed.specs.Fixed.{signed, fits, low, isLeast, addOverflow, overflowIf, outcome, add, sub}
 use Rattle.fixed.proofs.LowBits.{not-negative, low-is, sign, signed-is, sign-pos, sign-neg, inside, over-up, over-down}

@@ -6,7 +6,7 @@ ghost use mathlib.Core.Bool.{true, false, not};
 ghost use Prim.Native.Nat.{_*_, _≤_, _<_};
 ghost use lib.Ieee.{unlike};
 ghost use lib.Signed.{shrZ};
-ghost use Rattle.whole.specs.Signed.{withSign};
+ghost use Rattle.numbers.specs.Signed.{withSign};
 ghost use Rattle.fixed.specs.Fixed.{outcome, overflowIf, low, fits, eitherLeast};
 ghost use Rattle.fixed.specs.Parts.{negativeAt, magnitudeAt};
 

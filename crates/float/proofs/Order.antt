@@ -10,9 +10,9 @@ use lib.IntN.{ℤ, pos, negℤ, natAbs, _*ℤ_}
 use lib.Signed.{_≤ℤ_}
 use lib.Ieee.{unlike}
 use lib.Pow.{pow-pos}
-use Rattle.whole.specs.Signed.{withSign}
-use Rattle.whole.proofs.Differences.{le-sum-left, le-sum-right, le-opposite}
-use Rattle.whole.proofs.Signs.{opposite, times}
+use Rattle.numbers.specs.Signed.{withSign}
+use Rattle.numbers.proofs.Differences.{le-sum-left, le-sum-right, le-opposite}
+use Rattle.numbers.proofs.Signs.{opposite, times}
 use Rattle.float.specs.declared.Flagged.{Flagged}
 use Rattle.float.specs.Word.{negative, biased, mantissa, size88, value}
 use Rattle.terms.specs.declared.Rule.{Rule}

@@ -14,10 +14,10 @@ use lib.IntN.{ℤ, pos, negℤ, natAbs, subℕ, _+ℤ_, _-ℤ_}
 use lib.Signed.{_≤ℤ_}
 use lib.Ieee.{size, unlike}
 use lib.Pow.{pow-add, pow-pos, pow-mono}
-use Rattle.whole.specs.Signed.{withSign}
-use Rattle.whole.proofs.Differences.{either, same, above, beneath, parts, le-parts, le-differences, differences-le, less-difference, more-difference}
-use Rattle.whole.proofs.Differences.{size-difference}
-use Rattle.whole.proofs.Signs.{sum-signs, opposite, times, size-of-signed}
+use Rattle.numbers.specs.Signed.{withSign}
+use Rattle.numbers.proofs.Differences.{either, same, above, beneath, parts, le-parts, le-differences, differences-le, less-difference, more-difference}
+use Rattle.numbers.proofs.Differences.{size-difference}
+use Rattle.numbers.proofs.Signs.{sum-signs, opposite, times, size-of-signed}
 use Rattle.float.specs.declared.Flagged.{Flagged}
 use Rattle.float.specs.Word.{negative, biased, exponent, mantissa, size88, value, proper}
 use Rattle.terms.specs.declared.Rule.{Rule}

@@ -10,7 +10,7 @@ ghost use mathlib.Core.Path.{_≡_};
 ghost use mathlib.Core.Bool.{true};
 ghost use Prim.Native.Nat.{_/_, _%_, _^_, _≤_, _<_};
 ghost use lib.IntN.{_+ℤ_};
-ghost use Rattle.whole.specs.Signed.{withSign};
+ghost use Rattle.numbers.specs.Signed.{withSign};
 ghost use Rattle.float.specs.Word.{proper, size88, value};
 ghost use Rattle.float.specs.Cut.{cut};
 ghost use Rattle.float.specs.Float.{add, sub};

@@ -5,7 +5,7 @@ use mathlib.Core.List.{List, _++_}
 use Prim.Native.Nat.{ℕ, _*_, _/_, _%_, _≤_, _<_}
 use lib.ListN.{length, drop}
 use borrow.Author.Tests.{eq-eqb, ne-eqb, lt-ltb, le-ltb}
-use Rattle.little.specs.Little.{le4, le8}
+use Rattle.numbers.specs.Little.{le4, le8}
 use Rattle.terms.specs.Settings.{isRule, ruleOf}
 use Rattle.host_floats.specs.declared.buffer.BufferReply.{BufferReply}
 use Rattle.host_floats.specs.Buffers.{wordEntry, floatEntry, wordEntries, floatEntries, replyTo, bytesOf, Turn, filledBy, wordsTurn, floatsTurn, Turns}

@@ -11,7 +11,7 @@ use lib.Pow.{pow-add, pow-pos, pow-mono}
 use borrow.Author.Tests.{le-leb, ltb-true, ltb-false, leb-true, leb-false, eqb-true, eqb-false}
 use lib.Ieee.{Float, binary32, ofBits}
 use Rattle.terms.specs.declared.Refusal.the-variants.{NotFinite, TooLarge, TooSmall, MinusZero}
-use Rattle.whole.proofs.Differences.{either}
+use Rattle.numbers.proofs.Differences.{either}
 use Rattle.float.specs.Word.{negative, biased, mantissa, size88}
 use Rattle.host_floats.specs.Host.{exponentField, fraction, minusZero, wordOf, takenOf}
 use Rattle.host_floats.specs.Values.{HasWord, Endless, IsMinusZero, Large, Small}

@@ -12,9 +12,9 @@ use lib.Pow.{pow-add, pow-pos, pow-mono}
 use lib.Ieee.{Float, nan, inf, fin, up, down, binary64, ofBits}
 use lib.Ieee.Exact.{HasValue}
 use lib.Ieee.Fits.{down-pos}
-use Rattle.whole.specs.Signed.{withSign}
-use Rattle.whole.proofs.Differences.{either}
-use Rattle.whole.proofs.Signs.{times}
+use Rattle.numbers.specs.Signed.{withSign}
+use Rattle.numbers.proofs.Differences.{either}
+use Rattle.numbers.proofs.Signs.{times}
 use Rattle.terms.specs.declared.Rule.{Rule}
 use Rattle.float.specs.Word.{negative, biased, mantissa, size88, value, FloatWord}
 use Rattle.float.proofs.cut.Signs.{alone}

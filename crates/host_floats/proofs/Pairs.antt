@@ -12,7 +12,7 @@ use lib.Signed.{_≤ℤ_}
 use lib.Pow.{pow-pos, pow-mono}
 use lib.Ieee.{up, down}
 use lib.Ieee.Fits.{up-pos, down-pos}
-use Rattle.whole.proofs.Differences.{either, above, beneath, parts, le-parts, sub-ge, less-difference}
+use Rattle.numbers.proofs.Differences.{either, above, beneath, parts, le-parts, sub-ge, less-difference}
 use Rattle.terms.specs.declared.Rule.{Rule}
 use Rattle.terms.specs.declared.Rule.the-variants.{Cut, Nearest}
 use Rattle.float.specs.Word.{mantissa, exponent, size88}

@@ -12,7 +12,7 @@ use borrow.Author.Tests.{lt-leb, le-leb}
 use lib.Ieee.Nearest.{closest}
 use Rattle.terms.specs.declared.Rule.{Rule}
 use Rattle.terms.specs.declared.Rule.the-variants.{Cut, Nearest}
-use Rattle.whole.proofs.Differences.{either}
+use Rattle.numbers.proofs.Differences.{either}
 use Rattle.float.specs.declared.Flagged.{Flagged}
 use Rattle.float.specs.Word.{negative, biased, mantissa}
 use Rattle.float.specs.Cut.{whole, mantissaOf, digitsOf, packed, stored}

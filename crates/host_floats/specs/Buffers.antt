@@ -6,7 +6,7 @@ use mathlib.Core.List.{List, [], _∷_, _++_}
 use lib.Dec.{eqb, ltb}
 use lib.ListN.{length, drop}
 use lib.Ieee.{binary64, toBits}
-use Rattle.little.specs.Little.{le4, le8, fourAt, eightAt}
+use Rattle.numbers.specs.Little.{le4, le8, fourAt, eightAt}
 use Rattle.terms.specs.declared.Refusal.{Refusal}
 use Rattle.terms.specs.declared.Refusal.the-variants.{NoRoom, BadRule, PartEntry}
 use Rattle.terms.specs.declared.Rule.{Rule}

@@ -4,7 +4,7 @@ use mathlib.Core.Bool.{cond}
 use mathlib.Core.List.{List, [], _∷_, _++_}
 use lib.Dec.{eqb, leb, ltb}
 use lib.ListN.{length, take, drop, replicate}
-use Rattle.little.specs.Little.{wordAt}
+use Rattle.numbers.specs.Little.{wordAt}
 use Rattle.terms.specs.Limits.{longStateBytes, reportBytes, mostInput}
 use Rattle.state_bytes.specs.Calls.{Called, callOf}
 use Rattle.listing.specs.Text.{decimal}

@@ -9,8 +9,8 @@ use lib.ListN.{length, take, drop, getD, length-append, length-take, length-drop
 use lib.Dec.{ltb}
 use borrow.Author.Tests.{lt-ltb}
 use lib.Seq.{drop-drop, take-all, getD-drop, take-append-seam, drop-append-seam}
-use Rattle.little.specs.Little.{wordAt, fourAt}
-use Rattle.little.proofs.Exact.{two-bytes}
+use Rattle.numbers.specs.Little.{wordAt, fourAt}
+use Rattle.numbers.proofs.Exact.{two-bytes}
 use Rattle.listing.specs.Text.{Adds}
 use Rattle.listing.specs.Listing.{lineOf, replyBytes, kindFrom, replyKind, replyRefusal, replyData, replySize, replyLine, hasReply, wholeSize, Front}
 use Rattle.listing.specs.Listing.{linesUpTo, linesOf, listingOf, printedOf}

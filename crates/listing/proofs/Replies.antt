@@ -7,7 +7,7 @@ use native.Mathlib.Omega.{arith}
 use lib.Dec.{leb}
 use lib.ListN.{length, getD}
 use borrow.Author.Tests.{le-leb, lt-leb, leb-true}
-use Rattle.little.specs.Little.{wordAt, fourAt}
+use Rattle.numbers.specs.Little.{wordAt, fourAt}
 use Rattle.listing.specs.Listing.{replySize, hasReply, wholeSize, Front}
 
 -- the first four bytes as one number: its low half is the length's word, its high half the kind's

@@ -14,7 +14,7 @@ ghost use Rattle.listing.specs.Listing.{Front, replyLine, linesOf, print
 use crate::text::add;
 use crate::text::add_decimal;
 use crate::text::add_hex;
-use little::four_at;
+use numbers::four_at;
 
 // The bytes of replies that the listing program lends.
 pub const REPLY_ROOM: usize = 65536;

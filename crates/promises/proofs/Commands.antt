@@ -14,8 +14,8 @@ use lib.ListN.{length}
 use lib.Seq.{take-at}
 use lib.Ieee.{unlike}
 use lib.Signed.{quotZ, shrZ}
-use Rattle.whole.specs.Signed.{withSign}
-use Rattle.whole.proofs.Differences.{either}
+use Rattle.numbers.specs.Signed.{withSign}
+use Rattle.numbers.proofs.Differences.{either}
 use Rattle.terms.specs.declared.Width.{Width}
 use Rattle.terms.specs.declared.Width.the-variants.{Single, Double}
 use Rattle.terms.specs.declared.Refusal.the-variants.{Improper}

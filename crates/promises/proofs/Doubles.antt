@@ -13,11 +13,11 @@ use borrow.Author.Tests.{le-leb, lt-leb, eqb-true, eqb-false}
 use lib.Ieee.{Float, binary64, ofBits, toBits}
 use lib.Ieee.Bits.{ofBits-fits, ofBits-toBits, toBits-ofBits, toBits-lt}
 use lib.Ieee.Exact.{HasValue}
-use Rattle.whole.proofs.Differences.{either}
+use Rattle.numbers.proofs.Differences.{either}
 use Rattle.terms.specs.declared.Rule.{Rule}
 use Rattle.terms.specs.Settings.{isRule, ruleOf}
-use Rattle.little.specs.Little.{le4, le8, fourAt, eightAt}
-use Rattle.little.proofs.Exact.{four-back, eight-back, le4-of, le8-of, four-lt, eight-lt}
+use Rattle.numbers.specs.Little.{le4, le8, fourAt, eightAt}
+use Rattle.numbers.proofs.Exact.{four-back, eight-back, le4-of, le8-of, four-lt, eight-lt}
 use Rattle.stack.specs.Stack.{Bytes}
 use Rattle.stack.proofs.Words.{byte-at}
 use Rattle.float.specs.Word.{negative, proper, size88, FloatWord}

@@ -10,7 +10,7 @@ use lib.Dec.{leb}
 use lib.IntN.{ℤ, pos, negℤ, natAbs, _*ℤ_}
 use lib.Ieee.{unlike}
 use lib.Pow.{pow-pos}
-use Rattle.whole.proofs.Signs.{times}
+use Rattle.numbers.proofs.Signs.{times}
 use Rattle.terms.specs.declared.Rule.{Rule}
 use Rattle.terms.specs.declared.Rule.the-variants.{Cut}
 use Rattle.float.specs.Word.{size88 as size-of, value as value-of}

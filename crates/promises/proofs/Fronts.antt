@@ -17,7 +17,7 @@ use Rattle.record_runs.specs.Record.{Event}
 use Rattle.record_runs.specs.Record.{Push, Pop, Command, Status, Reset, Acknowledge, Recall, Forget}
 use Rattle.record_runs.specs.declared.head.Frame.the-variants.{Broken}
 use Rattle.record_runs.specs.Record.{Stop}
-use Rattle.little.specs.Little.{wordAt}
+use Rattle.numbers.specs.Little.{wordAt}
 use Rattle.terms.specs.declared.EventKind.{EventKind}
 use Rattle.terms.specs.declared.EventKind.the-variants.{Unknown as UnknownKind}
 use Rattle.terms.specs.Kind.{kindNamed}

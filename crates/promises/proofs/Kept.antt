@@ -11,7 +11,7 @@ use lib.Dec.{eqb, lit<}
 use lib.ListN.{length, take, drop, getD, length-append, length-drop, take-append-drop}
 use lib.Seq.{length-take-le, getD-drop, getD-append-add, take-take}
 use borrow.Author.Tests.{ne-eqb, leb-true, le-leb, lt-leb}
-use Rattle.little.proofs.Exact.{le4-exact}
+use Rattle.numbers.proofs.Exact.{le4-exact}
 use Rattle.terms.specs.Refusal.{numberOf}
 use Rattle.terms.specs.declared.Rule.{Rule}
 use Rattle.terms.specs.Settings.{isMode, isRule}

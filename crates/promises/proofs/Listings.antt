@@ -24,7 +24,7 @@ use Rattle.listing.specs.Text.{spelled as their-spelled, decimal as their-decim
 use Rattle.promises.specs.PrintedText.{digit, spelled, decimal}
 use Rattle.promises.proofs.PrintedText.{decimal-is}
 use Rattle.listing.specs.Listing.{dataText, lineOf, endOf, replyKind, replyRefusal, replySize, replyData, linesUpTo, hasReply, linesOf, listingOf, printedOf}
-use Rattle.little.proofs.Exact.{two-bytes}
+use Rattle.numbers.proofs.Exact.{two-bytes}
 use Rattle.listing.proofs.Listed.{reply-listed, core-kind}
 use Rattle.listing.specs.declared.options.Asked.{Asked}
 use Rattle.listing.specs.declared.options.Asked.the-variants.{Under, Nothing}
@@ -39,7 +39,7 @@ use Rattle.promises.specs.Given.{Given, Chosen}
 use Rattle.promises.specs.Listings.{valueOf, Digits, Decimal, hexText, recordLine, linesFor, lastLine}
 use Rattle.promises.specs.Listings.{Asks, neither, older, nearest, both, resetCard, Listings}
 use Rattle.promises.proofs.Records.{record-run}
-use Rattle.little.proofs.Exact.{le4-exact}
+use Rattle.numbers.proofs.Exact.{le4-exact}
 use Rattle.record_runs.proofs.Prefix.{lawful}
 
 -- ---- the lines of the records

@@ -3,7 +3,7 @@ use mathlib.Core.Path.{_≡_, refl}
 use mathlib.Core.List.{List}
 use Prim.Native.Nat.{ℕ}
 use native.Mathlib.Omega.{arith}
-use Rattle.little.proofs.Exact.{four-lt}
+use Rattle.numbers.proofs.Exact.{four-lt}
 use Rattle.record_text.specs.Kinds.{Push, Pop, Command, Status, Reset, Acknowledge, Recall, Forget}
 use Rattle.record_text.specs.Kinds.{Open, Keep, Close, Unknown}
 use lib.Ieee.{size}

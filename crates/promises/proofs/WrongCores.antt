@@ -8,7 +8,7 @@ use native.Mathlib.Omega.{arith}
 use borrow.Author.Tests.{ltb-true}
 use lib.Dec.{ltb, lit<, lit≤}
 use lib.ListN.{length, take, getD}
-use Rattle.little.specs.Little.{le4}
+use Rattle.numbers.specs.Little.{le4}
 use Rattle.float.specs.Convert.{chsf}
 use Rattle.stack.specs.Stack.{Bytes, zeros}
 use Rattle.chip.specs.Step.{pushOf, resetOf}

@@ -41,7 +41,7 @@ pub extern "C" fn pundaliket_event(
 fn send(reply: host_floats::Reply, out: &mut [u8]) -> u32
     ensures { λ r. ⌜ Sends (sentOf reply (now (out .entry))) r (now (out .exit)) ⌝ }
 {
-    if out.len() != little::WORD_BYTES {
+    if out.len() != numbers::WORD_BYTES {
         return number(terms::Refusal::NoRoom) as u32;
     }
     let refusal = reply.refusal;
@@ -49,7 +49,7 @@ fn send(reply: host_floats::Reply, out: &mut [u8]) -> u32
     if code != 0 {
         return code as u32;
     }
-    little::put_word(out, reply.bits as usize);
+    numbers::put_word(out, reply.bits as usize);
     0
 }
 

@@ -20,7 +20,7 @@ pub fn read_frame(rest: &[u8], at: u32, size: u32) -> Frame
     if size < at + 2 {
         return Frame::Broken(Refusal::CutShort);
     }
-    let n = little::two(rest[0], rest[1]) as usize;
+    let n = numbers::two(rest[0], rest[1]) as usize;
     if (n < terms::LEAST_LENGTH) | (terms::MOST_LENGTH < n) {
         return Frame::Broken(Refusal::BadLength);
     }

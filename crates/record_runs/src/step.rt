@@ -272,7 +272,7 @@ pub fn pass_record(
     match crate::head::read_frame(rest, place.taken, place.size) {
         Frame::Framed(n) => {
             let end = 4 + n as usize;
-            let kind = terms::kind_of(little::two(rest[2], rest[3]) as u32);
+            let kind = terms::kind_of(numbers::two(rest[2], rest[3]) as u32);
             pass_kind(card, mode, rule, kind, &rest[4..end], room, place)
         }
         Frame::Broken(refusal) => stop(refusal, card, place),

@@ -10,8 +10,8 @@ use borrow.Author.Tests.{eq-eqb, ne-eqb, eqb-true, lt-ltb, le-ltb, ltb-false, le
 use lib.Dec.{eqb, ltb, leb}
 use lib.ListN.{length, take, getD, length-append}
 use Rattle.terms.specs.declared.Rule.{Rule}
-use Rattle.little.specs.Little.{le4, fourAt}
-use Rattle.little.proofs.Exact.{same-bytes, four-lt}
+use Rattle.numbers.specs.Little.{le4, fourAt}
+use Rattle.numbers.proofs.Exact.{same-bytes, four-lt}
 use Rattle.listing.specs.Text.{digit, decimal, hex}
 use Rattle.listing.specs.Listing.{blank}
 use Rattle.listing.specs.Hex.{hexOf}

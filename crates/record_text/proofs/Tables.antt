@@ -9,7 +9,7 @@ use native.Mathlib.Omega.{arith}
 use borrow.Author.Tests.{ne-eqb, lt-ltb, le-ltb, leb-true}
 use lib.Dec.{eqb, leb}
 use lib.ListN.{take, drop}
-use Rattle.little.specs.Little.{le4, fourAt}
+use Rattle.numbers.specs.Little.{le4, fourAt}
 use Rattle.record_text.specs.Letters.{same}
 use Rattle.record_text.specs.Names.{nameOf}
 use Rattle.record_text.specs.Kinds.{Kind, Unknown, numberedKind, kindAt, kindName, formOf}

@@ -9,8 +9,8 @@ use lib.Dec.{eqb}
 use lib.ListN.{length, take, drop, length-drop}
 use lib.Seq.{length-take-le}
 use Rattle.terms.specs.declared.Rule.{Rule}
-use Rattle.little.specs.Little.{le2, le4}
-use Rattle.little.proofs.Exact.{le2-small}
+use Rattle.numbers.specs.Little.{le2, le4}
+use Rattle.numbers.proofs.Exact.{le2-small}
 use Rattle.record_text.specs.Letters.{same}
 use Rattle.record_text.specs.Told.{srWord}
 use Rattle.record_text.specs.Kinds.{Command, kindNumber, formOf, numberAt, kindAt}

@@ -6,7 +6,7 @@ use lib.Dec.{ltb}
 use lib.ListN.{length, take}
 use Rattle.terms.specs.declared.Rule.{Rule}
 use Rattle.terms.specs.Limits.{mostPayload}
-use Rattle.little.specs.Little.{le2, le4}
+use Rattle.numbers.specs.Little.{le2, le4}
 use Rattle.record_text.specs.Letters.{same}
 use Rattle.record_text.specs.Told.{srWord}
 use Rattle.record_text.specs.Kinds.{Command, kindNumber, formOf, numberAt, kindAt}

@@ -6,7 +6,7 @@ use lib.ListN.{length, getD}
 use Rattle.terms.specs.declared.Rule.{Rule}
 use Rattle.terms.specs.declared.Rule.the-variants.{Cut}
 use Rattle.terms.specs.Limits.{mostPayload}
-use Rattle.little.specs.Little.{fourAt}
+use Rattle.numbers.specs.Little.{fourAt}
 use Rattle.record_text.specs.Kinds.{formOf, numberAt, kindAt, noPlace}
 use Rattle.record_text.specs.Told.{recordText}
 use Rattle.record_text.specs.Values.{rangeOf}

@@ -4,7 +4,7 @@ use mathlib.Core.Bool.{cond}
 use mathlib.Core.List.{List, [], _∷_, _++_}
 use lib.Dec.{eqb, leb}
 use lib.ListN.{length, getD}
-use Rattle.little.specs.Little.{fourAt}
+use Rattle.numbers.specs.Little.{fourAt}
 use Rattle.listing.specs.Text.{decimal, hex}
 use Rattle.listing.specs.Listing.{blank}
 use Rattle.listing.specs.Hex.{digitsTo}

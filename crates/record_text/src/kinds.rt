@@ -8,7 +8,7 @@ ghost use Rattle.record_text.specs.Letters.{same};
 ghost use Rattle.record_text.specs.Kinds.{numberAt, kindAt, noPlace, formOf, kindName};
 ghost use Rattle.record_text.specs.Held.{NamePlace, PlaceOf};
 use listing::text::add;
-use little::four_at;
+use numbers::four_at;
 
 // The place of the command's name, the first of module sheets, and the one where no name stands.
 pub const COMMAND: u8 = 130;

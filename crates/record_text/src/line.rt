@@ -9,7 +9,7 @@ use crate::values::Value;
 use crate::values::value_of;
 use crate::words::next_word;
 use listing::text::add;
-use little::put_word;
+use numbers::put_word;
 use terms::Rule;
 ghost use mathlib.Core.Path.{_≡_};
 ghost use Prim.Native.Nat.{_^_, _≤_, _<_};

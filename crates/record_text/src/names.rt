@@ -4,8 +4,8 @@ ghost use Prim.Native.Nat.{_%_, _≤_};
 ghost use Rattle.record_text.specs.Letters.{same};
 ghost use Rattle.record_text.specs.Names.{nameOf};
 ghost use Rattle.record_text.specs.Held.{lettersIn, HeldName};
-use little::four_at;
-use little::put_word;
+use numbers::four_at;
+use numbers::put_word;
 
 // The names of the codes 0 to 127 in turn, four letters each; dots fill them up.
 const NAMES: [u8; 512] = *b"NOP.SQRTSIN.COS.TAN.ASINACOSATANLOG.LN..EXP.PWR.................\

@@ -16,7 +16,7 @@ ghost use Prim.Native.Nat.{_+_, _*_, _≤_, _<_};
 ghost use lib.ListN.{length, getD};
 ghost use Rattle.listing.specs.Text.{Adds};
 ghost use Rattle.listing.specs.Listing.{blank};
-ghost use Rattle.little.specs.Little.{fourAt};
+ghost use Rattle.numbers.specs.Little.{fourAt};
 ghost use Rattle.record_text.specs.Kinds.{numberedKind};
 ghost use Rattle.record_text.specs.Told.{groupText, groupSize, groups, spaced, joined, srWords};
 ghost use Rattle.record_text.specs.Told.{commandWords, recordText};

@@ -1,10 +1,10 @@
 // The `sheets` slice: the one place where its layout is known.
-use little::put_word;
+use numbers::put_word;
 ghost use mathlib.Core.Path.{_≡_};
 ghost use mathlib.Core.List.{_++_};
 ghost use Prim.Native.Nat.{_+_, _≤_, _<_};
 ghost use lib.ListN.{length};
-ghost use Rattle.little.specs.Little.{le4};
+ghost use Rattle.numbers.specs.Little.{le4};
 ghost use Rattle.sheet_bytes.specs.Ledger.{sheetsBytes, mostSheets, isSheets, isOpen, closedIn, laidAt, dropped};
 ghost use Rattle.sheet_bytes.specs.Ledger.{opened, keptIn, closed, withBit, openSerial, openWords};
 

@@ -12,7 +12,7 @@ use lib.Dec.{lit<, eqb}
 use lib.ListN.{length, getD, set, take}
 use lib.Pow.{pow-add, shl-exact}
 use lib.Seq.{take-all, getD-set-same, getD-set-other}
-use Rattle.whole.proofs.Differences.{either}
+use Rattle.numbers.proofs.Differences.{either}
 use Rattle.float.specs.Word.{size88, proper}
 use Rattle.sheet_figures.specs.Limbs.{le, sumLimit, up, down}
 

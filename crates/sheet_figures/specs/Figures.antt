@@ -6,7 +6,7 @@ use mathlib.Core.List.{List, [], _∷_, _++_, List·Permᴰ}
 use lib.Dec.{eqb, leb}
 use lib.ListN.{length, replicate}
 use lib.IntN.{ℤ, pos, _+ℤ_, natAbs}
-use Rattle.little.specs.Little.{fourAt, le4}
+use Rattle.numbers.specs.Little.{fourAt, le4}
 use Rattle.float.specs.Word.{proper, value}
 
 -- ---- a sheet is a line of 20 bytes

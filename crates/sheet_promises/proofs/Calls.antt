@@ -11,7 +11,7 @@ use lib.Seq.{take-append-seam, drop-append-seam, length-take-le, getD-drop}
 use borrow.Author.Tests.{ne-eqb, leb-true}
 use Rattle.terms.specs.Settings.{modeOf, ruleOf}
 use Rattle.chip.specs.Step.{given}
-use Rattle.little.specs.Little.{wordAt}
+use Rattle.numbers.specs.Little.{wordAt}
 use Rattle.stack.proofs.Words.{bytes-take}
 use Rattle.record_files.proofs.Tests.{either-lt, either-eq}
 use Rattle.record_files.proofs.Through.{tally}

@@ -4,7 +4,7 @@ use mathlib.Core.Path.{_≡_}
 use mathlib.Core.List.{List, [], _∷_, _++_}
 use Prim.Native.Nat.{ℕ}
 use lib.ListN.{length, getD}
-use Rattle.little.specs.Little.{le4}
+use Rattle.numbers.specs.Little.{le4}
 use Rattle.error_memory.specs.Memory.{Card}
 use Rattle.record_runs.specs.Run.{Outcome, runOf as coreRun}
 use Rattle.sheets.specs.Step.{topOf}

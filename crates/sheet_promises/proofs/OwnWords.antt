@@ -8,7 +8,7 @@ use lib.Dec.{lit<}
 use lib.ListN.{getD, take, drop}
 use lib.Seq.{getD-take, getD-drop}
 use borrow.Author.Tests.{lt-ltb, le-ltb, ne-eqb, eqb-true}
-use Rattle.little.specs.Little.{wordAt}
+use Rattle.numbers.specs.Little.{wordAt}
 use Rattle.record_files.specs.Run.{Turned}
 use Rattle.record_files.proofs.Tests.{either-lt, either-eq}
 use Rattle.error_memory.specs.Memory.{Card}

@@ -6,7 +6,7 @@ use Prim.Native.Nat.{ℕ, suc, _+_, _-_, _≤_, _<_}
 use native.Mathlib.Omega.{arith}
 use lib.Dec.{lit≤}
 use lib.ListN.{length, getD, take, drop}
-use Rattle.little.specs.Little.{wordAt}
+use Rattle.numbers.specs.Little.{wordAt}
 use Rattle.terms.specs.declared.Refusal.the-variants.{BadLength}
 use Rattle.terms.specs.Limits.{mostPayload}
 use Rattle.record_files.specs.Run.{Turned, Outcome}

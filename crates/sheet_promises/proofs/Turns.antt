@@ -13,7 +13,7 @@ use borrow.Author.Tests.{lt-ltb, le-ltb, ltb-true, ltb-false, eq-eqb, ne-eqb}
 use Rattle.terms.specs.declared.Refusal.the-variants.{NoRoom}
 use Rattle.terms.specs.Limits.{mostPayload}
 use Rattle.terms.specs.Settings.{Settings}
-use Rattle.little.specs.Little.{wordAt, le4}
+use Rattle.numbers.specs.Little.{wordAt, le4}
 use Rattle.stack.specs.Stack.{tos}
 use Rattle.stack.proofs.Words.{byte-at}
 use Rattle.error_memory.specs.Memory.{Card}

@@ -4,7 +4,7 @@ use mathlib.Core.Bool.{cond}
 use mathlib.Core.List.{List, [], _∷_, _++_}
 use lib.ListN.{getD, drop, replicate}
 use Rattle.terms.specs.Limits.{stateBytes, reportBytes}
-use Rattle.little.specs.Little.{fourAt}
+use Rattle.numbers.specs.Little.{fourAt}
 use Rattle.sheet_bytes.specs.Ledger.{sheetsBytes, serialAt, linesOf, isOpen}
 use Rattle.sheet_figures.specs.Telling.{figuresBytes, figuresOf}
 use Rattle.sheets.specs.Calls.{Called, callOf}

@@ -17,7 +17,7 @@ use listing::options::Asked;
 use listing::options::asked_of;
 use listing::text::add;
 use listing::text::digit;
-use little::four_at;
+use numbers::four_at;
 use sheet_bytes::bytes::PLACE_BYTES;
 use sheet_bytes::bytes::SERIAL_AT;
 use sheet_bytes::bytes::SHEETS_BYTES;

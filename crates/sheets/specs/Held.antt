@@ -3,7 +3,7 @@ use Prim.Native.Nat.{ℕ}
 use mathlib.Core.Path.{_≡_}
 use mathlib.Core.List.{List}
 use lib.ListN.{length}
-use Rattle.little.specs.Little.{wordAt}
+use Rattle.numbers.specs.Little.{wordAt}
 use Rattle.terms.specs.Settings.{Settings}
 use Rattle.error_memory.specs.declared.Card.{Card}
 use Rattle.error_memory.specs.Held.{cardUnder}

@@ -1,7 +1,7 @@
 // The record step of this library, on a card and on the sheets where they lie: its own kinds, and the core's step for
 // all others.
 use error_memory::Card;
-use little::two;
+use numbers::two;
 use record_runs::head::Frame;
 use record_runs::head::read_frame;
 use record_runs::step::Pass;

@@ -8,8 +8,8 @@ use native.Mathlib.Omega.{arith}
 use lib.Dec.{lit≤}
 use lib.ListN.{length, getD, take, drop, set, drop-of-length-le}
 use lib.Seq.{paste, paste-zero, drop-cons, set-split, length-paste}
-use Rattle.little.specs.Little.{le4, le8, fourAt, eightAt}
-use Rattle.little.proofs.Exact.{le4-of, le8-of}
+use Rattle.numbers.specs.Little.{le4, le8, fourAt, eightAt}
+use Rattle.numbers.proofs.Exact.{le4-of, le8-of}
 use Rattle.stack.specs.Stack.{bytesOf, lowFirst, pushedAll, topByte, rotated, poppedAll, handedOut, tos}
 use Rattle.stack.proofs.Elems.{part}
 use Rattle.stack.proofs.Moves.{pushes-lay, pops-hand, pops-turn}

@@ -5,7 +5,7 @@ use Prim.Native.Nat.{ℕ, _/_, _≤_}
 use native.Mathlib.Omega.{arith}
 use lib.ListN.{length, take, drop, length-drop, take-append-drop, drop-of-length-le}
 use lib.Seq.{take-at, drop-at, take-all}
-use Rattle.little.specs.Little.{high4, high8}
+use Rattle.numbers.specs.Little.{high4, high8}
 use Rattle.stack.specs.Stack.{bytesOf}
 use Rattle.stack.specs.Words.{eight}
 use Rattle.stack.proofs.Windows.{split}

@@ -1,15 +1,15 @@
 // Bytes that a caller lends, and the stack: its 16 bytes read and written, blocks of bytes pushed and popped.
 use super::Stack;
-use little::eight_at;
-use little::put_eight;
-use little::reversed_8;
+use numbers::eight_at;
+use numbers::put_eight;
+use numbers::reversed_8;
 use terms::Width;
 ghost use mathlib.Core.Path.{_≡_};
 ghost use mathlib.Core.List.{_++_};
 ghost use Prim.Native.Nat.{_+_, _*_, _≤_};
 ghost use lib.ListN.{length, drop};
 ghost use lib.Seq.{paste};
-ghost use Rattle.little.specs.Little.{wordAt, le4, le8};
+ghost use Rattle.numbers.specs.Little.{wordAt, le4, le8};
 ghost use Rattle.stack.specs.Stack.{bytesOf, pushedAll, poppedAll, handedOut};
 ghost use Rattle.stack.specs.Words.{eight, bytesIn};
 
@@ -47,11 +47,11 @@ impl Stack {
             i += 8;
         }
         if 4 <= p.len() - i {
-            s = s.push(little::four_at(p, i) as u64, 4);
+            s = s.push(numbers::four_at(p, i) as u64, 4);
             i += 4;
         }
         if 2 <= p.len() - i {
-            s = s.push(little::two(p[i], p[i + 1]) as u64, 2);
+            s = s.push(numbers::two(p[i], p[i + 1]) as u64, 2);
             i += 2;
         }
         if i < p.len() {
@@ -77,12 +77,12 @@ impl Stack {
             i = end;
         }
         if 4 <= n - i {
-            little::put_high_4(room, i, s.tos(Width::Double));
+            numbers::put_high_4(room, i, s.tos(Width::Double));
             s = s.turn(4);
             i += 4;
         }
         if 2 <= n - i {
-            little::put_high_2(room, i, s.tos(Width::Single));
+            numbers::put_high_2(room, i, s.tos(Width::Single));
             s = s.turn(2);
             i += 2;
         }

@@ -9,7 +9,7 @@ use native.Mathlib.Omega.{arith}
 use lib.ListN.{length, take, drop, set, getD, length-append, length-drop, take-append-drop, drop-of-length-le}
 use borrow.Author.Tests.{eq-eqb, ne-eqb}
 use lib.Seq.{length-take-le, drop-cons, drop-drop, drop-at, take-at, sets, sets-eq}
-use Rattle.little.specs.Little.{le4}
+use Rattle.numbers.specs.Little.{le4}
 use Rattle.chip.specs.State.{State}
 use Rattle.chip.specs.Held.{held}
 use Rattle.error_memory.specs.declared.Memory.{Memory}

@@ -6,7 +6,7 @@ use mathlib.Core.Bool.{Bool, true, false, cond}
 use mathlib.Core.List.{List, [], _∷_, _++_}
 use lib.Dec.{eqb, ltb}
 use lib.ListN.{length, take, getD}
-use Rattle.little.specs.Little.{le4}
+use Rattle.numbers.specs.Little.{le4}
 use Rattle.terms.specs.Limits.{stackBytes, stateBytes, longStateBytes}
 use Rattle.terms.specs.declared.Refusal.{Refusal}
 use Rattle.terms.specs.declared.Refusal.the-variants.{Done, BadState, BadMode, BadRule}

@@ -5,7 +5,7 @@ pub mod calls;
 use chip::State;
 use error_memory::Card;
 use error_memory::Memory;
-use little::put_word;
+use numbers::put_word;
 use terms::Refusal;
 ghost use mathlib.Core.Path.{_≡_};
 ghost use Prim.Native.Nat.{_≤_};

@@ -7,9 +7,9 @@ use borrow.Author.Tests.{le-leb, lt-leb, leb-true, leb-false, eqb-true}
 use lib.Dec.{leb, eqb, lit<}
 use lib.IntN.{ℤ, negℤ, _+ℤ_}
 use lib.Signed.{_≤ℤ_}
-use Rattle.whole.specs.Signed.{withSign}
-use Rattle.whole.proofs.Differences.{le-opposite}
-use Rattle.whole.proofs.Signs.{opposite}
+use Rattle.numbers.specs.Signed.{withSign}
+use Rattle.numbers.proofs.Differences.{le-opposite}
+use Rattle.numbers.proofs.Signs.{opposite}
 use Rattle.float.specs.Word.{negative, biased, mantissa, size88, value, FloatWord}
 use Rattle.terms.specs.declared.Rule.{Rule}
 use Rattle.float.specs.Cut.{cut}

@@ -13,8 +13,8 @@ use lib.IntN.{ℤ, pos, natAbs, _*ℤ_}
 use lib.Pow.{pow-add, pow-pos}
 use lib.Ieee.{size, nearest}
 use lib.Ieee.Digits.{size-le}
-use Rattle.whole.specs.Signed.{withSign}
-use Rattle.whole.proofs.Signs.{size-of-signed}
+use Rattle.numbers.specs.Signed.{withSign}
+use Rattle.numbers.proofs.Signs.{size-of-signed}
 use Rattle.float.specs.declared.Flagged.{Flagged}
 use Rattle.float.specs.Word.{negative, biased, mantissa, size88, value, FloatWord}
 use Rattle.terms.specs.declared.Rule.{Rule}

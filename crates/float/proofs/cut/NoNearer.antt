@@ -9,7 +9,7 @@ use lib.Ieee.{up, down}
 use lib.Pow.{pow-add, pow-pos, pow-mono}
 use Rattle.float.specs.Nearest.{belowMark, Marks, NearPair, apart, NoNearer}
 use Rattle.float.proofs.Powers.{sub-mul}
-use Rattle.whole.proofs.Differences.{either, above, beneath}
+use Rattle.numbers.proofs.Differences.{either, above, beneath}
 use Rattle.float.proofs.cut.OnePair.{scaled, other, at-one}
 use Rattle.float.proofs.cut.NearWhole.{sides}
 use Rattle.float.proofs.cut.NearPair.{NearAt, mark-least, mark-more, least-or-more, lessened}

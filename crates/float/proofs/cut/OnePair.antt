@@ -11,7 +11,7 @@ use lib.IntN.{ℤ, pos, negsuc, subℕ, _+ℤ_, _-ℤ_, +ℤ-negℤ-cancel, -ℤ
 use lib.Pow.{pow-add, pow-pos}
 use lib.Ieee.{up, down, size}
 use lib.Ieee.Digits.{size-lt}
-use Rattle.whole.proofs.Differences.{either, sub-lt, sub-ge, same, above, beneath, parts}
+use Rattle.numbers.proofs.Differences.{either, sub-lt, sub-ge, same, above, beneath, parts}
 use Rattle.terms.specs.declared.Rule.the-variants.{Cut}
 use Rattle.float.specs.Cut.{lastPlace, Pair, kept, lost}
 use Rattle.float.proofs.cut.Pair.{PairAt, cuts-only, cuts-one}

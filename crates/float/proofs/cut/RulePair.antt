@@ -11,7 +11,7 @@ use Rattle.terms.specs.declared.Rule.{Rule}
 use Rattle.terms.specs.declared.Rule.the-variants.{Cut, Nearest}
 use Rattle.float.specs.Cut.{lastPlace, kept, lost, mantissaOf, digitsOf}
 use Rattle.float.specs.Nearest.{belowMark, aboveMark, Between, Marks, NearPair, PairBy}
-use Rattle.whole.proofs.Differences.{same, above, beneath, parts}
+use Rattle.numbers.proofs.Differences.{same, above, beneath, parts}
 use Rattle.float.proofs.cut.OnePair.{scaled, other, down-pos, one-pair, a-pair}
 use Rattle.float.proofs.cut.NearPair.{NearAt, near-one, near-only}
 

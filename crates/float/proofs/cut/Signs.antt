@@ -8,9 +8,9 @@ use lib.IntN.{ℤ, pos, negsuc, natAbs, _*ℤ_}
 use lib.Signed.{_≤ℤ_}
 use lib.Ieee.{unlike}
 use lib.Pow.{pow-add, pow-pos}
-use Rattle.whole.specs.Signed.{withSign}
-use Rattle.whole.proofs.Differences.{above, beneath, le-differences, le-parts}
-use Rattle.whole.proofs.Signs.{sign-difference, times}
+use Rattle.numbers.specs.Signed.{withSign}
+use Rattle.numbers.proofs.Differences.{above, beneath, le-differences, le-parts}
+use Rattle.numbers.proofs.Signs.{sign-difference, times}
 use Rattle.terms.specs.declared.Rule.{Rule}
 use Rattle.float.specs.Cut.{below0, cutSize, cut}
 use Rattle.float.proofs.cut.Pair.{cut-zero}

@@ -8,7 +8,7 @@ use native.Mathlib.Omega.{arith}
 use borrow.Author.Tests.{lt-ltb, le-ltb, le-leb, lt-leb, ltb-true, ltb-false, leb-false}
 use lib.Dec.{ltb, leb}
 use lib.Pow.{pow-add, pow-pos}
-use Rattle.whole.specs.Signed.{withSign}
+use Rattle.numbers.specs.Signed.{withSign}
 use Rattle.float.specs.declared.Flagged.{Flagged}
 use Rattle.float.specs.Word.{negative, biased, mantissa, size88, value}
 use Rattle.terms.specs.declared.Rule.{Rule}

@@ -11,7 +11,7 @@ use lib.Dec.{lit<}
 use lib.IntN.{ℤ}
 use lib.Ieee.{unlike}
 use lib.Pow.{pow-add, pow-pos}
-use Rattle.whole.proofs.Signs.{times}
+use Rattle.numbers.proofs.Signs.{times}
 use Rattle.float.specs.Word.{proper, mantissa, biased, negative, size88}
 use Rattle.terms.specs.declared.Rule.{Rule}
 use Rattle.float.specs.Cut.{cutSize, cut}

@@ -5,7 +5,7 @@ use mathlib.Core.Logic.{_⊎_, inl, inr, ⊎-elim}
 use Prim.Native.Nat.{ℕ, _+_, _-_, _*_, _/_, _%_, _^_, _≤_, _<_}
 use native.Mathlib.Nat.{le-trans, mul-le-mul, mul-le-mul-right, div-mul-le-self, div-le-self, div-add-mod', mod-lt, eq-zero-or-pos}
 use native.Mathlib.Omega.{arith}
-use Rattle.whole.proofs.Differences.{either}
+use Rattle.numbers.proofs.Differences.{either}
 use Rattle.float.specs.Traced.{Beyond, Traced}
 
 -- four times a product is at most the square of the sum

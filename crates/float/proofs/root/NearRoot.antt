@@ -10,7 +10,7 @@ use lib.Pow.{pow-add, pow-pos}
 use Rattle.float.specs.Nearest.{belowMark, aboveMark, Marks}
 use Rattle.float.specs.Root.{wholeRoot, rootHalves, squareExponent, SquareMarks, NearRoot}
 use Rattle.float.proofs.Powers.{parted}
-use Rattle.whole.proofs.Differences.{either, sum-differences, same, above, beneath, parts}
+use Rattle.numbers.proofs.Differences.{either, sum-differences, same, above, beneath, parts}
 use Rattle.float.proofs.cut.OnePair.{scaled, other, down-pos}
 use Rattle.float.proofs.cut.NearPair.{NearAt, near-only}
 use Rattle.float.proofs.cut.RulePair.{rescaled}

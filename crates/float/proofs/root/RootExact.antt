@@ -13,8 +13,8 @@ use lib.IntN.{ℤ, pos, subℕ, _+ℤ_, _-ℤ_, _*ℤ_, -ℤ-+ℤ-cancel}
 use lib.Signed.{_≤ℤ_}
 use lib.Ieee.{up, down}
 use lib.Pow.{pow-add, pow-pos}
-use Rattle.whole.specs.Signed.{withSign}
-use Rattle.whole.proofs.Differences.{sum-differences, same, above, beneath, parts, le-differences, less-difference}
+use Rattle.numbers.specs.Signed.{withSign}
+use Rattle.numbers.proofs.Differences.{sum-differences, same, above, beneath, parts, le-differences, less-difference}
 use Rattle.float.specs.declared.Flagged.{Flagged}
 use Rattle.float.specs.Word.{negative, size88, value, proper, FloatWord}
 use Rattle.terms.specs.declared.Rule.{Rule}

@@ -19,9 +19,9 @@ use Rattle.float.specs.Float.{exactDifference, sub}
 use Rattle.float.specs.Close.{Close, Lossless}
 use Rattle.float.proofs.Powers.{parted, sub-mul}
 use Rattle.float.proofs.cut.Pair.{kept-le, cut-zero}
-use Rattle.whole.specs.Signed.{withSign}
-use Rattle.whole.proofs.Differences.{either}
-use Rattle.whole.proofs.Signs.{zero-signed, opposite, sum-unlike, times}
+use Rattle.numbers.specs.Signed.{withSign}
+use Rattle.numbers.proofs.Differences.{either}
+use Rattle.numbers.proofs.Signs.{zero-signed, opposite, sum-unlike, times}
 use Rattle.float.proofs.word.Proper.{proper-cases}
 use Rattle.float.proofs.cut.Signs.{alone, cut-scaled}
 use Rattle.float.proofs.cut.Values.{packed-mantissa, packed-biased, packed-sign, size-kept, error-in, error-under, settled, cut-stored}

@@ -9,8 +9,8 @@ use lib.Dec.{lit<}
 use lib.IntN.{ℤ, _+ℤ_, +ℤ-comm}
 use lib.Pow.{pow-lt, pow-mono, shr-le}
 use lib.Ieee.{unlike}
-use Rattle.whole.specs.Signed.{withSign}
-use Rattle.whole.proofs.Signs.{sum-alike, sum-unlike, opposite}
+use Rattle.numbers.specs.Signed.{withSign}
+use Rattle.numbers.proofs.Signs.{sum-alike, sum-unlike, opposite}
 use Rattle.float.specs.Word.{size88, mantissa, biased, proper, negative, value}
 use Rattle.terms.specs.declared.Rule.{Rule}
 use Rattle.float.specs.Cut.{cutSize, cut}

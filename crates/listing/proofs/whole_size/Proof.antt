@@ -6,7 +6,7 @@ use native.Mathlib.Omega.{arith}
 use borrow.Author.Needs.{needs}
 use lib.ListN.{getD}
 use denote.Ref.{now}
-use Rattle.little.specs.Little.{wordAt}
+use Rattle.numbers.specs.Little.{wordAt}
 use Rattle.listing.specs.Listing.{replySize}
 use Rattle.listing.proofs.Replies.{size-of, kind-of, too-short, low-length, cut-off, low-kind, is-whole}
 use Rattle.listing.proofs.whole_size.Statement.{statement}

@@ -4,7 +4,7 @@ use Prim.Native.Nat.{ℕ}
 use native.Mathlib.Omega.{arith}
 use denote.Ref.{now}
 use borrow.Author.Needs.{needs}
-use Rattle.little.specs.Little.{eightAt}
+use Rattle.numbers.specs.Little.{eightAt}
 use Rattle.host_floats.specs.declared.entry.Inward.{Inward}
 use Rattle.host_floats.specs.Double.{inwardOf}
 use Rattle.host_floats.specs.Buffers.{inwardEntry}

@@ -7,7 +7,7 @@ use lib.ListN.{length, drop}
 use denote.Ref.{now}
 use borrow.Author.Needs.{needs}
 use borrow.Author.Tests.{not-true, not-false}
-use Rattle.little.specs.Little.{le4}
+use Rattle.numbers.specs.Little.{le4}
 use Rattle.terms.specs.declared.Rule.{Rule}
 use Rattle.host_floats.specs.Buffers.{floatEntries, replyTo, bytesOf}
 use Rattle.host_floats.proofs.Answers.{no-rule, part-floats, no-room-floats, bad-float, floats-written}

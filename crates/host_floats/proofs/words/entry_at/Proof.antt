@@ -3,7 +3,7 @@ use mathlib.Core.Path.{_≡_, sym, ap, _∙_}
 use Prim.Native.Nat.{ℕ}
 use denote.Ref.{now}
 use borrow.Author.Needs.{needs}
-use Rattle.little.specs.Little.{fourAt}
+use Rattle.numbers.specs.Little.{fourAt}
 use Rattle.host_floats.proofs.DoubleOut.{no-nan-out}
 use Rattle.host_floats.specs.declared.entry.Outward.{Outward}
 use Rattle.host_floats.specs.Double.{outwardOf}

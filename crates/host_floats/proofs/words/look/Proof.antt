@@ -6,7 +6,7 @@ use denote.Ref.{now}
 use Rattle.host_floats.specs.declared.entry.Outward.{Outward}
 use Rattle.host_floats.specs.declared.entry.Outward.the-variants.{Float, Refused}
 use Rattle.host_floats.specs.Double.{outwardOf}
-use Rattle.little.specs.Little.{fourAt}
+use Rattle.numbers.specs.Little.{fourAt}
 use Rattle.host_floats.specs.declared.buffer.Entry.{Entry}
 use Rattle.host_floats.specs.Buffers.{outwardEntry, wordEntry}
 use Rattle.host_floats.proofs.Looking.{Seen, looks-start, looks-bad, looks-past, looks-end}

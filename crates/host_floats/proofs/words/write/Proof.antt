@@ -4,7 +4,7 @@ use Prim.Native.Nat.{_-_}
 use native.Mathlib.Omega.{arith}
 use lib.ListN.{length}
 use denote.Ref.{now}
-use Rattle.little.specs.Little.{le8}
+use Rattle.numbers.specs.Little.{le8}
 use Rattle.host_floats.specs.declared.buffer.Entry.{Entry}
 use Rattle.host_floats.specs.Buffers.{wordEntry}
 use Rattle.host_floats.proofs.Writing.{Written, write-start, part-next, write-on, write-end}

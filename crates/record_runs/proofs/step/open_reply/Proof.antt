@@ -5,7 +5,7 @@ use Prim.Native.Nat.{ℕ, _+_, _/_, _%_}
 use native.Mathlib.Omega.{arith}
 use lib.ListN.{drop, length-set}
 use denote.Ref.{now}
-use Rattle.little.proofs.Exact.{le2-small}
+use Rattle.numbers.proofs.Exact.{le2-small}
 use Rattle.record_runs.specs.Record.{le2}
 use Rattle.record_runs.proofs.Writes.{front}
 use borrow.Author.Needs.{needs}

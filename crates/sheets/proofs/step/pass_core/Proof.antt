@@ -4,7 +4,7 @@ use Prim.Native.Nat.{_≤_}
 use native.Mathlib.Omega.{arith}
 use lib.ListN.{length}
 use denote.Ref.{now}
-use Rattle.little.specs.Little.{wordAt}
+use Rattle.numbers.specs.Little.{wordAt}
 use Rattle.chip.specs.Step.{given}
 use Rattle.error_memory.specs.Held.{cardUnder}
 use Rattle.record_runs.specs.Record.{turnOf}

@@ -7,7 +7,7 @@ use native.Mathlib.Nat.{add-sub-cancel-left}
 use lib.Dec.{lit≤}
 use lib.ListN.{take, drop}
 use denote.Ref.{now}
-use Rattle.little.specs.Little.{wordAt, le2}
+use Rattle.numbers.specs.Little.{wordAt, le2}
 use Rattle.sheet_bytes.specs.Entering.{payloadFor}
 use Rattle.sheets.proofs.Lines.{owns}
 use Rattle.sheets.proofs.Turning.{own-bad, own-full, own-done}

@@ -10,17 +10,17 @@ use lib.Seq.{paste}
 use denote.Ref.{now}
 use Rattle.stack.specs.Stack.{handedOut}
 use Rattle.stack.specs.Words.{bytesIn}
-use Rattle.little.proofs.Laid.{part-laid}
+use Rattle.numbers.proofs.Laid.{part-laid}
 use Rattle.stack.proofs.Several.{length-handed}
 use Rattle.stack.proofs.Reversed.{high-4, high-8}
 use Rattle.stack.proofs.TwoWords.{turn-eight}
 use Rattle.stack.proofs.Blocks.{left, eight-handed, word-handed, byte-laid, Popped, pop-none, pop-more, pop-not, pop-all}
 use Rattle.stack.proofs.Stack.pop_all.Reads as reads
 use Rattle.stack.proofs.Stack.pop_all.Lts as lts
-use Rattle.little.proofs.put_eight.Reads as put-8
-use Rattle.little.proofs.put_high_2.Reads as put-2
-use Rattle.little.proofs.put_high_4.Reads as put-4
-use Rattle.little.proofs.reversed_8.Reads as reversed
+use Rattle.numbers.proofs.put_eight.Reads as put-8
+use Rattle.numbers.proofs.put_high_2.Reads as put-2
+use Rattle.numbers.proofs.put_high_4.Reads as put-4
+use Rattle.numbers.proofs.reversed_8.Reads as reversed
 use Rattle.stack.proofs.Stack.top_byte.Reads as top
 use Rattle.stack.proofs.Stack.tos.Reads as tos
 use Rattle.stack.proofs.Stack.turn.Reads as turn

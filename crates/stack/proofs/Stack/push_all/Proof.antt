@@ -13,9 +13,9 @@ use Rattle.stack.proofs.TwoWords.{push-eight}
 use Rattle.stack.proofs.Blocks.{by-1, by-2, by-4, by-8, Pushed, push-more, push-not}
 use Rattle.stack.proofs.Stack.push_all.Reads as reads
 use Rattle.stack.proofs.Stack.push_all.Lts as lts
-use Rattle.little.proofs.eight_at.Reads as eight-at
-use Rattle.little.proofs.four_at.Reads as four-at
-use Rattle.little.proofs.two.Reads as two-bytes
+use Rattle.numbers.proofs.eight_at.Reads as eight-at
+use Rattle.numbers.proofs.four_at.Reads as four-at
+use Rattle.numbers.proofs.two.Reads as two-bytes
 use Rattle.stack.proofs.Stack.push.Reads as push
 use borrow.Author.Needs.{needs}
 use Rattle.stack.proofs.Stack.push_all.Statement.{statement}

@@ -5,9 +5,9 @@ use mathlib.Core.List.{List, _++_}
 use native.Mathlib.Omega.{arith}
 use lib.ListN.{getD}
 use denote.Ref.{now}
-use Rattle.little.specs.Little.{le8}
-use Rattle.little.proofs.Exact.{le8-of}
-use Rattle.little.proofs.Reversed.{back}
+use Rattle.numbers.specs.Little.{le8}
+use Rattle.numbers.proofs.Exact.{le8-of}
+use Rattle.numbers.proofs.Reversed.{back}
 use Rattle.stack.proofs.Reversed.{high-8, halves}
 use borrow.Author.Needs.{needs}
 use Rattle.stack.proofs.lent.load.Statement.{statement}

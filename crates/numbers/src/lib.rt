@@ -1,10 +1,10 @@
 // Numbers as bytes, the low one first, as records, the report, the calls and buffers have them; and the other way
-// round, as the stack has them.
+// round, as the stack has them. The definitions and laws of whole numbers with a sign stand beside them.
 ghost use mathlib.Core.Path.{_≡_};
 ghost use Prim.Native.Nat.{_+_, _*_, _≤_};
 ghost use lib.ListN.{length};
 ghost use lib.Seq.{paste};
-ghost use Rattle.little.specs.Little.{wordBytes, le4, fourAt, eightAt, le8, high2, high4, high8};
+ghost use Rattle.numbers.specs.Little.{wordBytes, le4, fourAt, eightAt, le8, high2, high4, high8};
 
 // The bytes of a slice that takes a word or an f32.
 pub const WORD_BYTES: usize = 4;

@@ -6,8 +6,8 @@ use native.Mathlib.Nat.{mul-zero, zero-mul}
 use native.Mathlib.Omega.{arith}
 use lib.IntN.{pos, negℤ, negℤ-negℤ, natAbs, subℕ, _+ℤ_, _*ℤ_}
 use lib.Ieee.{unlike}
-use Rattle.whole.specs.Signed.{withSign}
-use Rattle.whole.proofs.Differences.{sub-ge, same, sum-differences, neg-pos, pos-is}
+use Rattle.numbers.specs.Signed.{withSign}
+use Rattle.numbers.proofs.Differences.{sub-ge, same, sum-differences, neg-pos, pos-is}
 
 pub sign-difference : (s : Bool) (n : ℕ) → withSign s n ≡ subℕ (cond s 0 n) (cond s n 0)
 sign-difference true n = neg-pos n

@@ -5,8 +5,8 @@ use Prim.Native.Nat.{ℕ, _+_, _*_, _/_, _%_, _<_}
 use native.Mathlib.Nat.{mod-lt}
 use native.Mathlib.Omega.{arith}
 use lib.Dec.{lit<}
-use Rattle.little.specs.Little.{le4, le8, high4, high8}
-use Rattle.little.proofs.Exact.{same-bytes, le8-joined}
+use Rattle.numbers.specs.Little.{le4, le8, high4, high8}
+use Rattle.numbers.proofs.Exact.{same-bytes, le8-joined}
 
 pub four : (w : ℕ) → w < 4294967296 → le4 (w % 256 * 16777216 + w / 256 % 256 * 65536 + w / 65536 % 256 * 256 + w / 16777216) ≡ high4 w
 four w h =

@@ -1,8 +1,8 @@
--- `little::reversed_8` meets its contract: the halves change places, and the bytes of each. Assumes nothing.
-use Rattle.little.proofs.Reversed.{eight}
+-- `numbers::reversed_8` meets its contract: the halves change places, and the bytes of each. Assumes nothing.
+use Rattle.numbers.proofs.Reversed.{eight}
 use borrow.Author.Needs.{needs}
-use Rattle.little.proofs.reversed_8.Statement.{statement}
-use Rattle.little.proofs.reversed_8.Tie as tie
+use Rattle.numbers.proofs.reversed_8.Statement.{statement}
+use Rattle.numbers.proofs.reversed_8.Tie as tie
 
 returns : tie.Need-returns
 returns c =

@@ -1,4 +1,4 @@
--- `little::put_high_2` meets its contract: two bytes stored are the word's bytes. Assumes nothing.
+-- `numbers::put_high_2` meets its contract: two bytes stored are the word's bytes. Assumes nothing.
 use mathlib.Core.Path.{_∙_, ap}
 use Prim.Native.Nat.{ℕ, _/_, _%_}
 use mathlib.Core.List.{[], _∷_}
@@ -8,8 +8,8 @@ use lib.ListN.{length-set, set}
 use lib.Seq.{sets-eq}
 use denote.Ref.{now}
 use borrow.Author.Needs.{needs}
-use Rattle.little.proofs.put_high_2.Statement.{statement}
-use Rattle.little.proofs.put_high_2.Tie as tie
+use Rattle.numbers.proofs.put_high_2.Statement.{statement}
+use Rattle.numbers.proofs.put_high_2.Tie as tie
 
 slice-write-s-2 : tie.Need-slice-write-s-2
 slice-write-s-2 c = simp length-set (omega (arith, c .pre))

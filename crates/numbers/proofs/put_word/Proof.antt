@@ -1,10 +1,10 @@
--- `little::put_word` meets its contract: four stores, one at each place. Assumes nothing.
+-- `numbers::put_word` meets its contract: four stores, one at each place. Assumes nothing.
 use denote.Ref.{now}
-use Rattle.little.specs.Little.{le4}
-use Rattle.little.proofs.Laid.{filled}
+use Rattle.numbers.specs.Little.{le4}
+use Rattle.numbers.proofs.Laid.{filled}
 use borrow.Author.Needs.{needs}
-use Rattle.little.proofs.put_word.Statement.{statement}
-use Rattle.little.proofs.put_word.Tie as tie
+use Rattle.numbers.proofs.put_word.Statement.{statement}
+use Rattle.numbers.proofs.put_word.Tie as tie
 
 pub put-word-spec : {M : Type 1} → statement M
 put-word-spec =

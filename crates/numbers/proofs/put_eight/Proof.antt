@@ -1,12 +1,12 @@
--- `little::put_eight` meets its contract: eight stores, one at each place. Assumes nothing.
+-- `numbers::put_eight` meets its contract: eight stores, one at each place. Assumes nothing.
 use native.Mathlib.Omega.{arith}
 use lib.ListN.{length-set}
 use denote.Ref.{now}
-use Rattle.little.specs.Little.{le8}
-use Rattle.little.proofs.Laid.{filled}
+use Rattle.numbers.specs.Little.{le8}
+use Rattle.numbers.proofs.Laid.{filled}
 use borrow.Author.Needs.{needs}
-use Rattle.little.proofs.put_eight.Statement.{statement}
-use Rattle.little.proofs.put_eight.Tie as tie
+use Rattle.numbers.proofs.put_eight.Statement.{statement}
+use Rattle.numbers.proofs.put_eight.Tie as tie
 
 pub put-eight-spec : {M : Type 1} → statement M
 put-eight-spec =

@@ -8,7 +8,7 @@ use native.Mathlib.Numerals.{add-one}
 use lib.Dec.{lit<, lit≤}
 use lib.ListN.{length, take, drop, getD}
 use lib.Seq.{getD-take, getD-drop, drop-cons, take-take, take-add, drop-drop, drop-at}
-use Rattle.little.specs.Little.{le2, le4, le8, fourAt, eightAt}
+use Rattle.numbers.specs.Little.{le2, le4, le8, fourAt, eightAt}
 
 -- two bytes give back every number, since the second is not cut
 pub two-bytes : (n : ℕ) → n % 256 + n / 256 * 256 ≡ n

@@ -1,13 +1,13 @@
--- `little::put_high_4` meets its contract: four bytes of the part are the word's. Assumes nothing.
+-- `numbers::put_high_4` meets its contract: four bytes of the part are the word's. Assumes nothing.
 use mathlib.Core.Path.{refl, _∙_}
 use Prim.Native.Nat.{_+_, _-_}
 use native.Mathlib.Omega.{arith}
 use denote.Ref.{now}
-use Rattle.little.specs.Little.{high4}
-use Rattle.little.proofs.Laid.{part-laid}
+use Rattle.numbers.specs.Little.{high4}
+use Rattle.numbers.proofs.Laid.{part-laid}
 use borrow.Author.Needs.{needs}
-use Rattle.little.proofs.put_high_4.Statement.{statement}
-use Rattle.little.proofs.put_high_4.Tie as tie
+use Rattle.numbers.proofs.put_high_4.Statement.{statement}
+use Rattle.numbers.proofs.put_high_4.Tie as tie
 
 returns : tie.Need-returns
 returns c =

@@ -1,4 +1,0 @@
--- The laws of numbers as bytes.
-pub mod Laid
-pub mod Exact
-pub mod Reversed
