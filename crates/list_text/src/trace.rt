@@ -12,7 +12,7 @@ use listing::add_data;
 use listing::options::Asked;
 use listing::text::add;
 use listing::text::add_decimal;
-use record_runs::head::word;
+use numbers::two;
 use terms::LONG_STATE_BYTES;
 use terms::REPORT_BYTES;
 
@@ -46,7 +46,7 @@ fn add_lines(out: &mut [u8], mode: u32, rule: u32, input: &[u8]) -> usize
     let mut number: u64 = 1;
     let mut at = 0;
     while at + 2 <= input.len() {
-        let end = at + 2 + word(input[at], input[at + 1]) as usize;
+        let end = at + 2 + two(input[at], input[at + 1]) as usize;
         if input.len() < end {
             return place;
         }

@@ -7,9 +7,9 @@ use libc::STDOUT_FILENO;
 use listing::ends::line_end;
 use listing::ends::trimmed;
 use listing::options::rule_named;
+use numbers::two;
 use record_runs::head::Frame;
 use record_runs::head::read_frame;
-use record_runs::head::word;
 use record_text::kinds::Form;
 use record_text::kinds::form_of;
 use record_text::kinds::kind_of;
@@ -120,7 +120,7 @@ fn write_framed(input: &[u8], at: usize, end: usize) -> usize
     let mut text = [0u8; TEXT_ROOM];
     let n = tell_record(&input[at..end], &mut text);
     if n == 0 {
-        write_stopped(at, refusal_of(word(input[at + 2], input[at + 3])));
+        write_stopped(at, refusal_of(two(input[at + 2], input[at + 3])));
         return STOPPED;
     }
     io::write_all(STDOUT_FILENO, &text[..n]);

@@ -26,7 +26,7 @@ returns c =
     let a = start .args in
     let input = now (a .input) in
     let test = c .before .before .before .before .loop-test .taken in
-    let end = end-is input (l .at) (c .before .word .ensures) in (
+    let end = end-is input (l .at) (c .before .two .ensures) in (
       ends (a .mode) (a .rule) input (now (a .out)) (l .out) (l .place) (l .number) (l .at) (l .inv) (omega (arith, start .pre .0, start .pre .1))
           (cut-off (length input + 1 - l .number) (a .mode) (a .rule) input (l .number) (l .at) (omega (arith, test)) (omega (arith, c .if1 .taken, end))),
       omega (arith, l .inv .room, l .inv .in-it, start .pre .0),
@@ -65,7 +65,7 @@ loop-again c =
     let input = now (a .input) in
     let after = c .before .before .add-after in
     goes-on (a .mode) (a .rule) input (now (a .out)) (l .out) (l .place) (l .number) (l .at) (l .inv) (omega (arith, start .pre .0, start .pre .1))
-    (after .last .0) (after .result) _ (omega (arith, k .before .before .before .before .loop-test .taken)) (end-is input (l .at) (k .before .word .ensures))
+    (after .last .0) (after .result) _ (omega (arith, k .before .before .before .before .loop-test .taken)) (end-is input (l .at) (k .before .two .ensures))
     (omega (arith, k .if1 .left)) (search needs) (after .ensures .1) (after .ensures .0)
 
 returns-2 : tie.Need-returns-2 Inv-loop μ-loop

@@ -19,11 +19,11 @@ add-if1 c = let e = c .before in omega (arith, e .pre .0, e .pre .1)
 returns : tie.Need-returns
 returns c = let e = c .before .before in sym (short mostPayload (now (e .args .rest)) (omega (arith, e .pre .0)))
 
-shared-slice-read-word : tie.Need-shared-slice-read-word
-shared-slice-read-word c = let e = c .before .before .before in omega (arith, e .pre .0)
+shared-slice-read-two : tie.Need-shared-slice-read-two
+shared-slice-read-two c = let e = c .before .before .before in omega (arith, e .pre .0)
 
-shared-slice-read-word-2 : tie.Need-shared-slice-read-word-2
-shared-slice-read-word-2 c = let e = c .before .before .before .before in omega (arith, e .pre .0)
+shared-slice-read-two-2 : tie.Need-shared-slice-read-two-2
+shared-slice-read-two-2 c = let e = c .before .before .before .before in omega (arith, e .pre .0)
 
 returns-2 : tie.Need-returns-2
 returns-2 c =
@@ -74,5 +74,5 @@ returns-4 c =
 pub read-frame-spec : {M : Type 1} → statement M
 read-frame-spec =
     tie.close
-    (tie.spec add-if1 returns shared-slice-read-word shared-slice-read-word-2 (λ c κs. search needs)
+    (tie.spec add-if1 returns shared-slice-read-two shared-slice-read-two-2 (λ c κs. search needs)
     (λ c. search needs) returns-2 add-if3 cast-if3 add-if3-2 returns-3 cast-t5 sub-t16 returns-4)

@@ -31,11 +31,11 @@ fit k = fits mostPayload (now (k .before .before .before .before .before .before
 add-end : tie.Need-add-end
 add-end c = let f = fit c in omega (arith, f .small)
 
-shared-slice-read-word : tie.Need-shared-slice-read-word
-shared-slice-read-word c = let f = fit (c .before) in omega (arith, f .there)
+shared-slice-read-two : tie.Need-shared-slice-read-two
+shared-slice-read-two c = let f = fit (c .before) in omega (arith, f .there)
 
-shared-slice-read-word-2 : tie.Need-shared-slice-read-word-2
-shared-slice-read-word-2 c = let f = fit (c .before .before) in omega (arith, f .there)
+shared-slice-read-two-2 : tie.Need-shared-slice-read-two-2
+shared-slice-read-two-2 c = let f = fit (c .before .before) in omega (arith, f .there)
 
 part-pass-kind-end : tie.Need-part-pass-kind-end
 part-pass-kind-end c = let f = fit (c .before .before .before .before) in omega (arith, f .there)
@@ -71,6 +71,6 @@ returns-2 c =
 pub pass-record-spec : {M : Type 1} → statement M
 pass-record-spec =
     tie.close
-    (tie.spec (λ c κs. c .before .before .pre .1) (λ c. search needs) (λ c. search needs) add-end shared-slice-read-word shared-slice-read-word-2
+    (tie.spec (λ c κs. c .before .before .pre .1) (λ c. search needs) (λ c. search needs) add-end shared-slice-read-two shared-slice-read-two-2
     (λ c κs. search needs) (λ c. search needs) (λ c κs. search needs) (λ c. search needs) (λ c. search needs) part-pass-kind-end pass-kind-requires
     (λ c. search needs) (λ c κs. search needs) (λ c. search needs) returns returns-2)

@@ -46,11 +46,11 @@ four k =
     let took = core-took (cardUnder on (a .card)) (now (a .rest)) (length (now (a .room))) (sym (r .refusal-is) ∙ k .if1 .left) in
     omega (arith, r .within, took .four)
 
-shared-slice-read-word : tie.Need-shared-slice-read-word
-shared-slice-read-word c = omega (arith, four (c .before))
+shared-slice-read-two : tie.Need-shared-slice-read-two
+shared-slice-read-two c = omega (arith, four (c .before))
 
-shared-slice-read-word-2 : tie.Need-shared-slice-read-word-2
-shared-slice-read-word-2 c = omega (arith, four (c .before .before))
+shared-slice-read-two-2 : tie.Need-shared-slice-read-two-2
+shared-slice-read-two-2 c = omega (arith, four (c .before .before))
 
 returns-2 : tie.Need-returns-2
 returns-2 c =
@@ -82,5 +82,5 @@ returns-3 c =
 pub pass-core-spec : {M : Type 1} → statement M
 pass-core-spec =
     tie.close
-    (tie.spec pass-record-requires (λ c. search needs) returns shared-slice-read-word shared-slice-read-word-2 (λ c κs. search needs)
+    (tie.spec pass-record-requires (λ c. search needs) returns shared-slice-read-two shared-slice-read-two-2 (λ c κs. search needs)
     (λ c. search needs) returns-2 (λ c κs. search needs) (λ c. search needs) (λ c. search needs) returns-3)

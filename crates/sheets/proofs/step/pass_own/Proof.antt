@@ -15,19 +15,19 @@ use borrow.Author.Needs.{needs}
 use Rattle.sheets.proofs.step.pass_own.Statement.{statement}
 use Rattle.sheets.proofs.step.pass_own.Tie as tie
 
-shared-slice-read-word : tie.Need-shared-slice-read-word
-shared-slice-read-word c = let e = c .before .before .before .before in let o = owns (now (e .args .rest)) (e .pre .1) in omega (arith, o .there, o .in-range)
+shared-slice-read-two : tie.Need-shared-slice-read-two
+shared-slice-read-two c = let e = c .before .before .before .before in let o = owns (now (e .args .rest)) (e .pre .1) in omega (arith, o .there, o .in-range)
 
-shared-slice-read-word-2 : tie.Need-shared-slice-read-word-2
-shared-slice-read-word-2 c = let e = c .before .before .before .before .before in let o = owns (now (e .args .rest)) (e .pre .1)
+shared-slice-read-two-2 : tie.Need-shared-slice-read-two-2
+shared-slice-read-two-2 c = let e = c .before .before .before .before .before in let o = owns (now (e .args .rest)) (e .pre .1)
     in omega (arith, o .there, o .in-range)
 
-shared-slice-read-word-3 : tie.Need-shared-slice-read-word-3
-shared-slice-read-word-3 c = let e = c .before .before .before .before .before .before .before .before in let o = owns (now (e .args .rest)) (e .pre .1)
+shared-slice-read-two-3 : tie.Need-shared-slice-read-two-3
+shared-slice-read-two-3 c = let e = c .before .before .before .before .before .before .before .before in let o = owns (now (e .args .rest)) (e .pre .1)
     in omega (arith, o .there, o .in-range)
 
-shared-slice-read-word-4 : tie.Need-shared-slice-read-word-4
-shared-slice-read-word-4 c = let e = c .before .before .before .before .before .before .before .before .before in let o = owns (now (e .args .rest)) (e .pre .1)
+shared-slice-read-two-4 : tie.Need-shared-slice-read-two-4
+shared-slice-read-two-4 c = let e = c .before .before .before .before .before .before .before .before .before in let o = owns (now (e .args .rest)) (e .pre .1)
     in omega (arith, o .there, o .in-range)
 
 returns : tie.Need-returns
@@ -114,7 +114,7 @@ returns-3 c =
 pub pass-own-spec : {M : Type 1} → statement M
 pass-own-spec =
     tie.close
-    (tie.spec shared-slice-read-word shared-slice-read-word-2 (λ c κs. search needs) (λ c κs. search needs) shared-slice-read-word-3
-    shared-slice-read-word-4 (λ c κs. search needs) (λ c. search needs) (λ c. search needs) (λ c κs. search needs) returns add-if2 (λ c κs. search needs)
+    (tie.spec shared-slice-read-two shared-slice-read-two-2 (λ c κs. search needs) (λ c κs. search needs) shared-slice-read-two-3
+    shared-slice-read-two-4 (λ c κs. search needs) (λ c. search needs) (λ c. search needs) (λ c κs. search needs) returns add-if2 (λ c κs. search needs)
     returns-2 (λ c. search needs) (λ c κs. search needs) (λ c. search needs) (λ c. search needs) part-enter-end (λ c κs. search needs) add-open-reply
     (λ c κs. search needs) open-reply-requires cast-finish finish-requires (λ c. search needs) (λ c. search needs) returns-3)
