@@ -32,7 +32,8 @@ use Rattle.float.proofs.cut.OnePair.{from-scale}
 use Rattle.float.proofs.cut.NearPair.{near-one}
 use Rattle.float.proofs.cut.RulePair.{from-near}
 use Rattle.float.proofs.cut.Signs.{nought}
-use Rattle.float.proofs.cut.Values.{packed-mantissa, packed-biased, packed-sign, error-in, error-over, error-under, digits-near, settled, grid, cut-stored}
+use Rattle.float.proofs.cut.Values.{packed-mantissa, packed-biased, packed-sign, error-in, error-over, error-under}
+use Rattle.float.proofs.cut.Values.{digits-near, settled, grid, cut-stored}
 use Rattle.float.proofs.Results.{kept-big, mantissa-big}
 use Rattle.float.proofs.cut.Kept.{fits-exact}
 use Rattle.float.proofs.Order.{size-pos, div-cut}

@@ -10,7 +10,8 @@ ghost use Prim.Native.Nat.{_+_, _≤_, _<_};
 ghost use lib.ListN.{length, take, drop, getD, set};
 ghost use lib.Seq.{sets};
 ghost use Rattle.formula.specs.Reader.{constantOf, leafOf, factorOf, productOf, sumOf};
-ghost use Rattle.formula.specs.Told.{mostText, atOf, endOf, nowhere, closedAt, longerOf, signCode, signOf, Asks, Reads};
+ghost use Rattle.formula.specs.Told.{mostText, atOf, endOf, nowhere, closedAt, longerOf, signCode, signOf};
+ghost use Rattle.formula.specs.Told.{Asks, Reads};
 
 // The place after no part: past every text, so that nothing can be joined to it.
 pub const NOWHERE: u32 = 511;

@@ -1,4 +1,4 @@
--- Bytes with the high one first, as `little` writes them, are those of a word, and 16 lent bytes are two such words. Assumes nothing.
+-- Bytes with the high one first, as `numbers` writes them, are those of a word, and 16 lent bytes are two such words. Assumes nothing.
 use mathlib.Core.Path.{_≡_, refl, sym, ap, ap₂, _∙_}
 use mathlib.Core.List.{List, _++_, append-nil}
 use Prim.Native.Nat.{ℕ, _/_, _≤_}

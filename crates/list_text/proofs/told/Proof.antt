@@ -25,7 +25,8 @@ returns-2 : tie.Need-returns-2
 returns-2 c =
     let a = c .before .before .before .before .before .before .before .before .before .args in
     at-front (lists (a .words) (now (a .first)) (now (a .second)) (now (a .third)) (now (a .input))
-    (sym (c .before .before .before .before .is-trace .ensures) ∙ c .before .before .before .if1 .left) (c .before .before .asked-of2 .ensures)) (c .list .ensures)
+    (sym (c .before .before .before .before .is-trace .ensures) ∙ c .before .before .before .if1 .left)
+    (c .before .before .asked-of2 .ensures)) (c .list .ensures)
 
 pub told-spec : {M : Type 1} → statement M
 told-spec =

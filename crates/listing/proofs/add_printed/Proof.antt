@@ -63,7 +63,8 @@ returns c =
     let k : length (now (a .replies)) ≡ 65536 = search needs in
     let e = as-printed (now (a .replies)) (now (a .report)) (n .lesser .result) (n .before .four-at .result) (taken .four-at2 .result)
     k (n .lesser .ensures .0) (n .before .four-at .ensures) (taken .four-at2 .ensures) in
-    (rw e at (both (lines .add-lines .ensures .0) (end .add-end .ensures)), omega (arith, end .add-end .ensures .moved, end-fits lines (taken .four-at2 .result)))
+    let added = both (lines .add-lines .ensures .0) (end .add-end .ensures) in
+    (rw e at added, omega (arith, end .add-end .ensures .moved, end-fits lines (taken .four-at2 .result)))
 
 pub add-printed-spec : {M : Type 1} → statement M
 add-printed-spec =

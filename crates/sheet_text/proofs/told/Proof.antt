@@ -12,14 +12,16 @@ returns : tie.Need-returns
 returns c =
     let at-asked = c .before .before .before in
     let at-words = at-asked .before .before in
-    let asked = asked-as printoutUnder (now (at-words .before .before .before .before .args .input)) (sym (at-words .asked-of .ensures) ∙ at-asked .asked .given .1) in
+    let input = now (at-words .before .before .before .before .args .input) in
+    let asked = asked-as printoutUnder input (sym (at-words .asked-of .ensures) ∙ at-asked .asked .given .1) in
     (c .print .ensures .0, c .print .ensures .1 ∙ asked)
 
 returns-2 : tie.Need-returns-2
 returns-2 c =
     let at-told = c .before .before .before in
     let at-words = at-told .before .before in
-    at-front (asked-as printoutUnder (now (at-words .before .before .before .before .args .input)) (sym (at-words .asked-of .ensures) ∙ at-told .enum-told .given .1)) (c .add .ensures)
+    let input = now (at-words .before .before .before .before .args .input) in
+    at-front (asked-as printoutUnder input (sym (at-words .asked-of .ensures) ∙ at-told .enum-told .given .1)) (c .add .ensures)
 
 pub told-spec : {M : Type 1} → statement M
 told-spec =

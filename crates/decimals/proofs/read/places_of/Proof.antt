@@ -21,7 +21,11 @@ returns-3 : tie.Need-returns-3
 returns-3 c =
     let start = c .before .before .before in
     let a = start .args in (
-      rw (ne-eqb (a .count) 0 (c .before .before .if1 .left), le-ltb 27 (a .count) (c .before .if2 .left), lt-ltb (a .at + a .count) (a .length) (c .if3 .taken)),
+      rw (
+        ne-eqb (a .count) 0 (c .before .before .if1 .left),
+        le-ltb 27 (a .count) (c .before .if2 .left),
+        lt-ltb (a .at + a .count) (a .length) (c .if3 .taken),
+      ),
       omega (arith, start .pre .2, start .pre .3),
     )
 
@@ -29,7 +33,11 @@ returns-4 : tie.Need-returns-4
 returns-4 c =
     let s = c .before .before .before in
     let a = s .args in (
-      rw (ne-eqb (a .count) 0 (c .before .before .if1 .left), le-ltb 27 (a .count) (c .before .if2 .left), le-ltb (a .at + a .count) (a .length) (c .if3 .left)),
+      rw (
+        ne-eqb (a .count) 0 (c .before .before .if1 .left),
+        le-ltb 27 (a .count) (c .before .if2 .left),
+        le-ltb (a .at + a .count) (a .length) (c .if3 .left),
+      ),
       (c .before .if2 .left, s .pre .0, s .pre .1),
     )
 

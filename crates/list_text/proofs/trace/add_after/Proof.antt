@@ -15,12 +15,15 @@ returns : tie.Need-returns
 returns c =
     let at-run = c .before .before .before .before in
     let a = at-run .before .before .before .before .before .before .args in (
-      told-as (sym (stopped (a .mode) (a .rule) (a .number) (now (a .file)) (at-run .run .ensures .result-is) (c .if1 .taken))) (nothing (now (a .out)) (a .place)),
+      told-as (sym (stopped (a .mode) (a .rule) (a .number) (now (a .file)) (at-run .run .ensures .result-is) (c .if1 .taken)))
+          (nothing (now (a .out)) (a .place)),
       omega arith,
     )
 
 add-decimal-requires : tie.Need-add-decimal-requires
-add-decimal-requires c κs = let start = c .before .before .before .before .before .before .before .before .before .before .before in omega (arith, start .pre, at-most 20 (start .args .number))
+add-decimal-requires c κs =
+    let start = c .before .before .before .before .before .before .before .before .before .before .before in
+    omega (arith, start .pre, at-most 20 (start .args .number))
 
 add-data-requires : tie.Need-add-data-requires
 add-data-requires c κs =

@@ -11,17 +11,27 @@ use Rattle.listing.proofs.options.asked_of.Statement.{statement}
 use Rattle.listing.proofs.options.asked_of.Tie as tie
 
 -- what the code compares the first word with where there is more than one
-first-is : (c : tie.After-same) → let a = c .before .before .before .before .before .args in (eqb (a .words) 1 ≡ false) × (sameText (now (a .first)) am9511Text ≡ c .same .result)
+first-is : (c : tie.After-same)
+    → let a = c .before .before .before .before .before .args in
+    (eqb (a .words) 1 ≡ false) × (sameText (now (a .first)) am9511Text ≡ c .same .result)
 first-is c =
     let test = c .before .before in
     (ne-eqb _ 1 (test .if1 .left), tells (now (test .before .before .before .args .first)) am9511Text _ (c .same .ensures .0) (c .same .ensures .1))
 
 -- and then, of two, the same word; of three, the other
-one-is : (c : tie.After-same2) → sameText (now (c .before .before .before .before .before .before .before .before .before .args .first)) nearestText ≡ c .same2 .result
-one-is c = tells (now (c .before .before .before .before .before .before .before .before .before .args .first)) nearestText _ (c .same2 .ensures .0) (c .same2 .ensures .1)
+one-is : (c : tie.After-same2)
+    → sameText (now (c .before .before .before .before .before .before .before .before .before .args .first)) nearestText
+    ≡ c .same2 .result
+one-is c =
+    let a = c .before .before .before .before .before .before .before .before .before .args in
+    tells (now (a .first)) nearestText _ (c .same2 .ensures .0) (c .same2 .ensures .1)
 
-other-is : (c : tie.After-same3) → sameText (now (c .before .before .before .before .before .before .before .before .before .before .args .second)) nearestText ≡ c .same3 .result
-other-is c = tells (now (c .before .before .before .before .before .before .before .before .before .before .args .second)) nearestText _ (c .same3 .ensures .0) (c .same3 .ensures .1)
+other-is : (c : tie.After-same3)
+    → sameText (now (c .before .before .before .before .before .before .before .before .before .before .args .second)) nearestText
+    ≡ c .same3 .result
+other-is c =
+    let a = c .before .before .before .before .before .before .before .before .before .before .args in
+    tells (now (a .second)) nearestText _ (c .same3 .ensures .0) (c .same3 .ensures .1)
 
 returns : tie.Need-returns
 unfolding askedOf
@@ -47,13 +57,27 @@ returns-5 : tie.Need-returns-5
 unfolding askedOf
 returns-5 c =
     let f = first-is (c .before .before .before .before .before .before) in
-    rw (f .0, ne-eqb _ 2 (c .before .before .before .before .before .if2 .left), eq-eqb _ 3 (c .before .before .before .before .if5 .taken), f .1 ∙ c .before .before .before .if6 .taken, other-is (c .before) ∙ c .if7 .taken)
+    let at-older = c .before .before .before in
+    rw (
+      f .0,
+      ne-eqb _ 2 (at-older .before .before .if2 .left),
+      eq-eqb _ 3 (at-older .before .if5 .taken),
+      f .1 ∙ at-older .if6 .taken,
+      other-is (c .before) ∙ c .if7 .taken,
+    )
 
 returns-6 : tie.Need-returns-6
 unfolding askedOf
 returns-6 c =
     let f = first-is (c .before .before .before .before .before .before) in
-    rw (f .0, ne-eqb _ 2 (c .before .before .before .before .before .if2 .left), eq-eqb _ 3 (c .before .before .before .before .if5 .taken), f .1 ∙ c .before .before .before .if6 .taken, other-is (c .before) ∙ c .if7 .left)
+    let at-older = c .before .before .before in
+    rw (
+      f .0,
+      ne-eqb _ 2 (at-older .before .before .if2 .left),
+      eq-eqb _ 3 (at-older .before .if5 .taken),
+      f .1 ∙ at-older .if6 .taken,
+      other-is (c .before) ∙ c .if7 .left,
+    )
 
 returns-7 : tie.Need-returns-7
 unfolding askedOf
