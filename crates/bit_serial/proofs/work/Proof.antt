@@ -47,6 +47,10 @@ module _ (p : tie.After-bits-of) where
       → {r : Answer} → r ≡ f h n b a → r ≡ answerOf op rule b a
   said is f e {r} = answered is half-is (p .bits-of .ensures .0 ∙ ap bitsOf (p .before .before .width-of .ensures)) rule b a (λ h n. f h n b a) e r
 
+-- SMUL and DMUL: the lower half of the product
+returns : tie.Need-returns
+returns c = said (c .before .before .before) (c .before .enum-told .given .1) (halfAnswer false) refl (c .mul .ensures)
+
 pub work-spec : {M : Type 1} → statement M
 work-spec =
     tie.close
@@ -54,7 +58,7 @@ work-spec =
     (λ c. search needs) (λ c κs. given (c .before .before)) (λ c. search needs) (λ c κs. given (c .before .before))
     (λ c. search needs) (λ c κs. given (c .before .before)) (λ c. search needs) (λ c κs. search needs)
     (λ c. search needs) (λ c κs. search needs)
-    (λ c. said (c .before .before .before) (c .before .enum-told .given .1) (halfAnswer false) refl (c .mul .ensures))
+    returns
     (λ c. said (c .before .before .before) (c .before .enum-told2 .given .1) (halfAnswer true) refl (c .mul2 .ensures))
     (λ c. said (c .before .before .before) (c .before .enum-told3 .given .1) divAnswer refl (c .div .ensures))
     (λ c. let p = c .before .before .before in said p (c .before .enum-told4 .given .1) (λ h n. fmulAnswer (rule p)) refl (c .fmul .ensures))
