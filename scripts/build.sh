@@ -20,14 +20,16 @@ room() {
     return 1
 }
 
-# toolchain: where its parts are: sets kit, tools, parts (the C library's folder), clang, lld
+# toolchain: which it is, and where its parts are: sets identity, kit, tools, parts (the C library's folder), clang, lld
 toolchain() {
+    [ -z "${identity:-}" ] || return 0
     command -v rt >/dev/null 2>&1 || { say "rt, the command of the Rattle toolchain, is not on the PATH"; exit 1; }
     kit=$(dirname "$(dirname "$(rt doc)")")
     tools=$kit/on/$(uname -m)/toolchain/bin
     parts=$kit/toolchain/lib
     clang=$tools/clang
     lld=$tools/ld.lld
+    identity=$(rt version)
 }
 
 # start PROGRAM ARGUMENT..: by the kit's loader, and on a machine that is not x86-64 under its emulator
@@ -76,7 +78,7 @@ contents() {
         cd "$top" || exit
         # shellcheck disable=SC2046
         {
-            rt version
+            echo "${identity:-$(rt version)}"
             echo "$resting"
             find $(echo "$resting" | sed 's|:.*||; s|^|crates/|') -type f ! -path '*/must-fail/*' -exec sha256sum {} + 2>/dev/null | LC_ALL=C sort
         } | sha256sum

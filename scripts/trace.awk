@@ -1,5 +1,5 @@
 # A run for people: of each record its words, what it read or why it was refused, and the state after it. Reads four files:
-# the record bytes as `od -A n -v -t x1` shows them, the listing with words, the states of the program `trace`, and what the
+# the record bytes as `od -A n -v -t x1` shows them, the listing with words, the states of `buslist --trace`, and what the
 # program `word` tells of each word of a stack. Listing, states and decimals are proved; the words beside them are not.
 
 BEGIN {
@@ -14,7 +14,7 @@ BEGIN {
 function hex(text,    n, i) { for (i = 1; i <= length(text); i++) n = 16 * n + index("0123456789ABCDEF", substr(text, i, 1)) - 1; return n }
 function signed(text,    n, all) { n = hex(text); all = 16 ^ length(text); return n < all / 2 ? n : n - all }
 
-# the words of the record at byte `at`, whose kind the listing has, as crate record_words tells them: the bytes of a push as
+# the words of the record at byte `at`, whose kind the listing has, as crate record_text tells them: the bytes of a push as
 # words of four, then one of two, then one, low byte first
 function record_words(    size, said, code, step, i, j) {
     size = hex(byte[at]) + 256 * hex(byte[at + 1]) - 2

@@ -25,12 +25,12 @@ static void wide(const struct group *g, uint32_t i, uint32_t b, uint32_t a) { on
 
 static void edges_16(const struct group *g, uint32_t i) { narrow(g, edge(16, i / EDGES_16), edge(16, i % EDGES_16)); }
 
-/* every A against 16 B, every B against 16 A: eight about zero, the signs and the halves, eight drawn */
+/* every A against eight B, every B against eight A: zero, the signs and the halves */
 static void sweeps(const struct group *g, uint32_t i)
 {
     static const uint32_t others[8] = { 0x0000, 0x0001, 0xFFFF, 0x7FFF, 0x8000, 0x8001, 0x00FF, 0x0100 };
-    uint32_t all = i % 65536, way = i / 65536 % 16, other = way < 8 ? others[way] : below(65536);
-    if (i / 65536 < 16)
+    uint32_t all = i % 65536, other = others[i / 65536 % 8];
+    if (i / 65536 < 8)
         narrow(g, other, all);
     else
         narrow(g, all, other);
@@ -173,12 +173,12 @@ static void drawn_roots(const struct group *g, uint32_t i) { wide(g, i, drawn_wo
 
 static void moves(const struct group *g, uint32_t i) { wide(g, i, drawn_word(), drawn_word()); }
 
-#define FIXED_16(name, code) { name, "edges", 102 * 102, 0, edges_16, code }, { name, "sweeps", 32 * 65536, 1, sweeps, code }, \
+#define FIXED_16(name, code) { name, "edges", 102 * 102, 0, edges_16, code }, { name, "sweeps", 16 * 65536, 1, sweeps, code }, \
     { name, "drawn", 65536, 1, drawn_16, code }
-#define FIXED_32(name, code) { name, "edges", 198 * 198, 0, edges_32, code }, { name, "drawn", 1000000, 1, drawn_32, code }
+#define FIXED_32(name, code) { name, "edges", 198 * 198, 0, edges_32, code }, { name, "drawn", 300000, 1, drawn_32, code }
 #define FLOATS(name, code) { name, "edges", 2 * 91 * 91, 0, float_edges, code }, { name, "distances", 2 * 12800, 0, distances, code }, \
     { name, "neighbours", 2 * 2304, 0, neighbours, code }, { name, "exponents", 2 * 128 * 128, 1, exponents, code }, \
-    { name, "drawn", 2000000, 1, drawn_floats, code }, { name, "improper", 8192, 1, improper, code }
+    { name, "drawn", 500000, 1, drawn_floats, code }, { name, "improper", 8192, 1, improper, code }
 
 const struct group word_groups[] = {
     FIXED_16("SADD", 0x6C), FIXED_16("SSUB", 0x6D), FIXED_16("SMUL", 0x6E), FIXED_16("SMUU", 0x76), FIXED_16("SDIV", 0x6F),
@@ -208,7 +208,7 @@ const struct group word_groups[] = {
     { "proper", "drawn", 100000, 1, drawn_one, 0x1E },
     { "SQRT", "edges", 2 * 1280, 0, float_fractions, 0x01 },
     { "SQRT", "squares", 2 * 6144, 0, squares, 0x01 },
-    { "SQRT", "drawn", 1000000, 1, drawn_roots, 0x01 },
+    { "SQRT", "drawn", 500000, 1, drawn_roots, 0x01 },
     { "POPD", "drawn", 20000, 1, moves, 0x38 },
     { "PTOD", "drawn", 20000, 1, moves, 0x37 },
     { "XCHD", "drawn", 20000, 1, moves, 0x39 },

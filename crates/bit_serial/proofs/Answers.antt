@@ -10,7 +10,7 @@ use borrow.Author.Tests.{eq-eqb, ne-eqb}
 use lib.Ieee.{unlike}
 use lib.Pow.{pow-add, pow-pos}
 use lib.Signed.{shrZ}
-use Rattle.whole.specs.Signed.{withSign}
+use Rattle.numbers.specs.Signed.{withSign}
 use Rattle.terms.specs.declared.Refusal.the-variants.{Improper}
 use Rattle.terms.specs.declared.Rule.{Rule}
 use Rattle.fixed.specs.Fixed.{low, fits, overflowIf, eitherLeast}
@@ -20,26 +20,23 @@ use Rattle.float.specs.declared.Flagged.{Flagged}
 use Rattle.float.specs.Word.{negative, biased, mantissa, proper}
 use Rattle.float.specs.Cut.{cutSize, cut}
 use Rattle.float.proofs.Powers.{parted}
-use Rattle.float.proofs.Jams.{stands-cut}
-use Rattle.float.proofs.Signs.{cut-sign, cut-scaled}
+use Rattle.float.proofs.cut.Jams.{stands-cut}
+use Rattle.float.proofs.cut.Signs.{cut-sign, cut-scaled}
 use Rattle.bit_serial.specs.declared.multiply.Product.{Product}
 use Rattle.bit_serial.specs.declared.divide.Division.{Division}
 use Rattle.bit_serial.specs.declared.Answer.the-variants.{Word, Refused}
 use Rattle.bit_serial.specs.Product.{product}
 use Rattle.bit_serial.specs.Quotient.{division}
-use Rattle.bit_serial.specs.Engine.{sizesMultiplied, sizesDivided, leastAnswer, lowHalf, upperHalf, mulAnswer, muuAnswer, divAnswer, after, marked}
-use Rattle.bit_serial.specs.Engine.{mantissasMultiplied, mantissasDivided, fmulAnswer, fdivAnswer}
+use Rattle.bit_serial.specs.Engine.{sizesMultiplied, sizesDivided, leastAnswer, lowHalf, upperHalf, mulAnswer, muuAnswer, halfAnswer, divAnswer}
+use Rattle.bit_serial.specs.Engine.{after, marked, mantissasMultiplied, mantissasDivided, fmulAnswer, fdivAnswer}
 use Rattle.bit_serial.proofs.Products.{below}
 
 -- ---- a row that names the operands
 module _ (h n b a : ℕ) (t : Bool) (E : t ≡ eitherLeast h b a) where
-  pub mul-least : t ≡ true → leastAnswer h ≡ mulAnswer h n b a
-  unfolding mulAnswer
-  mul-least f = rw (sym E ∙ f)
-
-  pub muu-least : t ≡ true → leastAnswer h ≡ muuAnswer h n b a
-  unfolding muuAnswer
-  muu-least f = rw (sym E ∙ f)
+  pub mul-least : t ≡ true → (u : Bool) → leastAnswer h ≡ halfAnswer u h n b a
+  unfolding mulAnswer muuAnswer
+  mul-least f true = rw (sym E ∙ f)
+  mul-least f false = rw (sym E ∙ f)
 
   pub div-least : (a ≡ 0 → ⊥) → t ≡ true → leastAnswer h ≡ divAnswer h n b a
   unfolding divAnswer
@@ -47,24 +44,21 @@ module _ (h n b a : ℕ) (t : Bool) (E : t ≡ eitherLeast h b a) where
 
   -- ---- the general row: a sign, the magnitudes, and what their steps lead to
   module _ (F : t ≡ false) (s : Bool) (x y : ℕ) (S : s ≡ unlike (negativeAt h b) (negativeAt h a)) (X : x ≡ magnitudeAt h b) (Y : y ≡ magnitudeAt h a) where
-    pub mul-rest : (p : Product) (w e : ℕ) (o : Bool) → p ≡ product n x y → w ≡ low h (withSign s (p .partial)) → o ≡ not (fits h (withSign s (p .partial)))
-        → e ≡ overflowIf o
-        → Word w e (p .steps) ≡ mulAnswer h n b a
-    unfolding mulAnswer
-    mul-rest p w e o P W O R =
-        rw (sym E ∙ F)
-        ((λ i. Word (W i) ((R ∙ ap overflowIf O) i) (p .steps)) ∙ (λ i. lowHalf h (withSign (S i) (same i .partial)) (same i .steps)))
-      where
-        same : p ≡ sizesMultiplied h n b a
-        same = P ∙ ap₂ (product n) X Y
+    module _ (p : Product) (P : p ≡ product n x y) where
+      steps-same : p ≡ sizesMultiplied h n b a
+      steps-same = P ∙ ap₂ (product n) X Y
 
-    pub muu-rest : (p : Product) (w : ℕ) → p ≡ product n x y → w ≡ low h (shrZ (withSign s (p .partial)) (2 * h)) → Word w 0 (p .steps) ≡ muuAnswer h n b a
-    unfolding muuAnswer
-    muu-rest p w P W =
-        rw (sym E ∙ F) ((λ i. Word (W i) 0 (p .steps)) ∙ (λ i. upperHalf h (withSign (S i) (same i .partial)) (same i .steps)))
-      where
-        same : p ≡ sizesMultiplied h n b a
-        same = P ∙ ap₂ (product n) X Y
+      pub mul-rest : (w e : ℕ) (o u : Bool) → w ≡ low h (withSign s (p .partial)) → o ≡ not (fits h (withSign s (p .partial))) → e ≡ overflowIf o → u ≡ false
+          → Word w e (p .steps) ≡ halfAnswer u h n b a
+      unfolding mulAnswer
+      mul-rest w e o u W O R U =
+          rw (U, sym E ∙ F)
+          ((λ i. Word (W i) ((R ∙ ap overflowIf O) i) (p .steps)) ∙ (λ i. lowHalf h (withSign (S i) (steps-same i .partial)) (steps-same i .steps)))
+
+      pub muu-rest : (w : ℕ) (u : Bool) → w ≡ low h (shrZ (withSign s (p .partial)) (2 * h)) → u ≡ true → Word w 0 (p .steps) ≡ halfAnswer u h n b a
+      unfolding muuAnswer
+      muu-rest w u W U =
+          rw (U, sym E ∙ F) ((λ i. Word (W i) 0 (p .steps)) ∙ (λ i. upperHalf h (withSign (S i) (steps-same i .partial)) (steps-same i .steps)))
 
     pub div-rest : (q : Division) (w : ℕ) → (a ≡ 0 → ⊥) → q ≡ division n x y → w ≡ low h (withSign s (q .quotient)) → Word w 0 (n - q .left) ≡ divAnswer h n b a
     unfolding divAnswer

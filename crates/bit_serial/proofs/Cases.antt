@@ -1,9 +1,10 @@
 -- The operations by their cases: an operation's width has words of at most 32 bits, and what its case says is said of it. Assumes nothing.
-use mathlib.Core.Path.{_≡_, sym, ap, _∙_, subst}
-use mathlib.Core.Bool.{Bool, true, false, _&&_}
+use mathlib.Core.Path.{_≡_, refl, sym, ap, _∙_}
+use mathlib.Core.Bool.{Bool, true, false, _&&_, cond}
 use Prim.Native.Nat.{ℕ, _*_, _^_, _<_}
 use native.Mathlib.Omega.{arith}
 use borrow.Author.Tests.{eq-eqb, ne-eqb}
+use lib.Dec.{eqb}
 use Rattle.terms.specs.declared.Rule.{Rule}
 use Rattle.terms.specs.declared.Width.{Width}
 use Rattle.terms.specs.declared.Width.the-variants.{Single, Double}
@@ -15,62 +16,69 @@ use Rattle.bit_serial.specs.declared.Operation.{Operation}
 use Rattle.bit_serial.specs.declared.Answer.{Answer}
 use Rattle.bit_serial.specs.declared.tasks.Task.{Task}
 use Rattle.bit_serial.specs.declared.tasks.Task.the-variants.{Nothing, Multiply, Divide}
-use Rattle.bit_serial.specs.Work.{widthOf, Operands, answerOf, taskOf, Narrow, mulTask, divTask, fmulTask, fdivTask}
+use Rattle.bit_serial.specs.Work.{widthOf, Operands, answerOf, taskOf, Narrow, mulTask, divTask, fmulTask, fdivTask, sizesTask, mantissasTask}
 
 -- words of an operation's width
-pub words : {op k : Operation} (h b a : ℕ) → op ≡ k → h ≡ half (bitsOf (widthOf k)) → Operands op b a → Words h b a
-words {k = k} h b a e f l = by-width (widthOf k) f (subst (λ (o : Operation). Operands o b a) e l)
+pub words : (op : Operation) (h b a : ℕ) → h ≡ half (bitsOf (widthOf op)) → Operands op b a → Words h b a
+words op h b a f l = by-width (widthOf op) f l
   where
     by-width : (w : Width) → h ≡ half (bitsOf w) → (b < 2 ^ bitsOf w) × (a < 2 ^ bitsOf w) → Words h b a
     by-width Single g m = record { some = omega arith; narrow = omega arith; left = omega arith; right = omega arith }
     by-width Double g m = record { some = omega arith; narrow = omega arith; left = omega arith; right = omega arith }
 
--- ---- what is said of an operation's case is said of it
-pub answered : (rule : Rule) (b a : ℕ) {op k : Operation} (r : Answer) → op ≡ k → r ≡ answerOf k rule b a → r ≡ answerOf op rule b a
-answered rule b a r e f = f ∙ ap (λ (op : Operation). answerOf op rule b a) (sym e)
+-- ---- what is said of an operation's case k, at the width of the operation, is said of it
+module _ {op k : Operation} {h n : ℕ} (is : op ≡ k) (H : h ≡ half (bitsOf (widthOf op))) (N : n ≡ bitsOf (widthOf op)) where
+  at-width : {A : Type 0} (f : ℕ → ℕ → A) → f h n ≡ f (half (bitsOf (widthOf k))) (bitsOf (widthOf k))
+  at-width f = (λ i. f (H i) (N i)) ∙ ap (λ (o : Operation). f (half (bitsOf (widthOf o))) (bitsOf (widthOf o))) is
 
-pub tasked : (b a : ℕ) {op k : Operation} (r : Task) → op ≡ k → (r ≡ taskOf k b a) × Narrow r → (r ≡ taskOf op b a) × Narrow r
-tasked b a r e f = (f .0 ∙ ap (λ (op : Operation). taskOf op b a) (sym e), f .1)
+  pub answered : (rule : Rule) (b a : ℕ) (f : ℕ → ℕ → Answer) → f (half (bitsOf (widthOf k))) (bitsOf (widthOf k)) ≡ answerOf k rule b a
+      → (r : Answer) → r ≡ f h n → r ≡ answerOf op rule b a
+  answered rule b a f e r p = p ∙ at-width f ∙ e ∙ ap (λ (o : Operation). answerOf o rule b a) (sym is)
+
+  pub tasked : (b a : ℕ) (f : ℕ → ℕ → Task) → f (half (bitsOf (widthOf k))) (bitsOf (widthOf k)) ≡ taskOf k b a → (r : Task)
+      → (r ≡ f h n) × Narrow r → (r ≡ taskOf op b a) × Narrow r
+  tasked b a f e r p = (p .0 ∙ at-width f ∙ e ∙ ap (λ (o : Operation). taskOf o b a) (sym is), p .1)
 
 -- ---- the tasks
+always : (t : Bool) (x : Task) → x ≡ cond t x x
+always true x = refl
+always false x = refl
+
 module _ (h n b a : ℕ) (t : Bool) (E : t ≡ eitherLeast h b a) where
-  pub mul-nothing : t ≡ true → Nothing ≡ mulTask h n b a
-  unfolding mulTask
-  mul-nothing f = rw (sym E ∙ f)
+  pub sizes-least : t ≡ true → (o : Bool) → Nothing ≡ sizesTask o h n b a
+  unfolding mulTask divTask
+  sizes-least f true = rw (sym E ∙ f) (always (eqb a 0) Nothing)
+  sizes-least f false = rw (sym E ∙ f)
 
-  pub div-nothing : (a ≡ 0 → ⊥) → t ≡ true → Nothing ≡ divTask h n b a
-  unfolding divTask
-  div-nothing z f = rw (ne-eqb a 0 z, sym E ∙ f)
+  module _ (F : t ≡ false) (x y : ℕ) (X : x ≡ magnitudeAt h b) (Y : y ≡ magnitudeAt h a) where
+    pub sizes-times : (o : Bool) → o ≡ false → Multiply x y n ≡ sizesTask o h n b a
+    unfolding mulTask
+    sizes-times o p = rw (p, sym E ∙ F) (λ i. Multiply (X i) (Y i) n)
 
-  pub mul-task : t ≡ false → (x y : ℕ) → x ≡ magnitudeAt h b → y ≡ magnitudeAt h a → Multiply x y n ≡ mulTask h n b a
-  unfolding mulTask
-  mul-task f x y X Y = rw (sym E ∙ f) (λ i. Multiply (X i) (Y i) n)
+    pub sizes-over : (o : Bool) → o ≡ true → (a ≡ 0 → ⊥) → Divide x y n ≡ sizesTask o h n b a
+    unfolding divTask
+    sizes-over o p z = rw (p, ne-eqb a 0 z, sym E ∙ F) (λ i. Divide (X i) (Y i) n)
 
-  pub div-task : (a ≡ 0 → ⊥) → t ≡ false → (x y : ℕ) → x ≡ magnitudeAt h b → y ≡ magnitudeAt h a → Divide x y n ≡ divTask h n b a
-  unfolding divTask
-  div-task z f x y X Y = rw (ne-eqb a 0 z, sym E ∙ f) (λ i. Divide (X i) (Y i) n)
-
-pub div-zero : (h n b a : ℕ) → a ≡ 0 → Nothing ≡ divTask h n b a
+pub sizes-zero : (h n b a : ℕ) (o : Bool) → o ≡ true → a ≡ 0 → Nothing ≡ sizesTask o h n b a
 unfolding divTask
-div-zero h n b a z = rw (eq-eqb a 0 z)
+sizes-zero h n b a o p z = rw (p, eq-eqb a 0 z)
 
 module _ (b a : ℕ) (t : Bool) (E : t ≡ (proper b && proper a)) where
-  pub fmul-nothing : t ≡ false → Nothing ≡ fmulTask b a
-  unfolding fmulTask
-  fmul-nothing f = rw (sym E ∙ f)
+  pub mantissas-refused : t ≡ false → (o : Bool) → Nothing ≡ mantissasTask o b a
+  unfolding fmulTask fdivTask
+  mantissas-refused f true = rw (sym E ∙ f)
+  mantissas-refused f false = rw (sym E ∙ f)
 
-  pub fdiv-nothing : t ≡ false → Nothing ≡ fdivTask b a
-  unfolding fdivTask
-  fdiv-nothing f = rw (sym E ∙ f)
+  module _ (F : t ≡ true) (x y : ℕ) (X : x ≡ mantissa b) (Y : y ≡ mantissa a) where
+    pub mantissas-times : (o : Bool) → o ≡ false → Multiply x y 24 ≡ mantissasTask o b a
+    unfolding fmulTask
+    mantissas-times o p = rw (p, sym E ∙ F) (λ i. Multiply (X i) (Y i) 24)
 
-  pub fmul-task : t ≡ true → (x y : ℕ) → x ≡ mantissa b → y ≡ mantissa a → Multiply x y 24 ≡ fmulTask b a
-  unfolding fmulTask
-  fmul-task f x y X Y = rw (sym E ∙ f) (λ i. Multiply (X i) (Y i) 24)
+    pub mantissas-zero : (o : Bool) → o ≡ true → y ≡ 0 → Nothing ≡ mantissasTask o b a
+    unfolding fdivTask
+    mantissas-zero o p z = rw (p, sym E ∙ F, eq-eqb (mantissa a) 0 (sym Y ∙ z))
 
-  pub fdiv-zero : t ≡ true → (d : ℕ) → d ≡ mantissa a → d ≡ 0 → Nothing ≡ fdivTask b a
-  unfolding fdivTask
-  fdiv-zero f d e z = rw (sym E ∙ f, eq-eqb (mantissa a) 0 (sym e ∙ z))
-
-  pub fdiv-task : t ≡ true → (x d : ℕ) → x ≡ mantissa b * 2 ^ 25 → d ≡ mantissa a → (d ≡ 0 → ⊥) → Divide x d 26 ≡ fdivTask b a
-  unfolding fdivTask
-  fdiv-task f x d X D z = rw (sym E ∙ f, ne-eqb (mantissa a) 0 (λ e. z (D ∙ e))) (λ i. Divide (X i) (D i) 26)
+    pub mantissas-over : (o : Bool) → o ≡ true → (y ≡ 0 → ⊥) → (v : ℕ) → v ≡ x * 2 ^ 25 → Divide v y 26 ≡ mantissasTask o b a
+    unfolding fdivTask
+    mantissas-over o p z v raised =
+        rw (p, sym E ∙ F, ne-eqb (mantissa a) 0 (λ e. z (Y ∙ e))) (λ i. Divide ((raised ∙ ap (λ (k : ℕ). k * 2 ^ 25) X) i) (Y i) 26)

@@ -9,7 +9,7 @@ use native.Mathlib.Omega.{arith}
 use lib.Dec.{eqb}
 use lib.Pow.{pow-mono, pow-pos, shr-shr, mod-pow-add}
 use borrow.Author.Tests.{eqb-true, eqb-false}
-use Rattle.whole.proofs.Differences.{either}
+use Rattle.numbers.proofs.Differences.{either}
 use Rattle.bit_serial.specs.declared.multiply.Product.{Product}
 use Rattle.bit_serial.specs.Product.{begun, added, addedUpTo, product}
 

@@ -10,7 +10,7 @@ use native.Mathlib.Omega.{arith}
 use lib.Dec.{leb, eqb}
 use lib.Pow.{pow-add, pow-pos}
 use borrow.Author.Tests.{eqb-true, eqb-false, leb-true, leb-false}
-use Rattle.whole.proofs.Differences.{either}
+use Rattle.numbers.proofs.Differences.{either}
 use Rattle.bit_serial.specs.declared.divide.Division.{Division}
 use Rattle.bit_serial.specs.Quotient.{begun, shifted, subtracted, subtractedUpTo, division}
 use Rattle.bit_serial.proofs.Subtracting.{halves, Subtracting, starts, subtracts}

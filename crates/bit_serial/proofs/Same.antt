@@ -13,8 +13,8 @@ use lib.IntN.{ℤ, _*ℤ_}
 use lib.Ieee.{unlike}
 use lib.Pow.{pow-add, pow-pos}
 use lib.Signed.{quotZ, shrZ}
-use Rattle.whole.proofs.Differences.{either}
-use Rattle.whole.proofs.Signs.{times}
+use Rattle.numbers.proofs.Differences.{either}
+use Rattle.numbers.proofs.Signs.{times}
 use Rattle.terms.specs.declared.Refusal.the-variants.{Improper}
 use Rattle.terms.specs.declared.Rule.{Rule}
 use Rattle.fixed.specs.declared.Fixed.{Fixed}
@@ -27,10 +27,10 @@ use Rattle.float.specs.Cut.{cut}
 use Rattle.float.specs.Float.{mul as fmul, div as fdiv}
 use Rattle.float.specs.Jam.{Jammed}
 use Rattle.float.proofs.Powers.{moved, parted}
-use Rattle.float.proofs.Jams.{Stands, stands-cut}
-use Rattle.float.proofs.ProductCut.{stands-scale, stands-of}
-use Rattle.float.proofs.Signs.{cut-sign}
-use Rattle.float.proofs.Proper.{proper-norm}
+use Rattle.float.proofs.cut.Jams.{Stands, stands-cut}
+use Rattle.float.proofs.product.ProductCut.{stands-scale, stands-of}
+use Rattle.float.proofs.cut.Signs.{cut-sign}
+use Rattle.float.proofs.word.Proper.{proper-norm}
 use Rattle.bit_serial.specs.declared.Answer.{Answer}
 use Rattle.bit_serial.specs.declared.Answer.the-variants.{Word, Refused}
 use Rattle.bit_serial.specs.Answer.{stepsIn}
@@ -50,41 +50,20 @@ module _ (h n b a : ℕ) (W : Words h b a) (N : h < 2 ^ n) where
   product-is =
       ap (signedFor h b a) (whole n (magnitudeAt h b) (magnitudeAt h a) (lt-of-le-of-lt (size-le h a (W .right)) N)) ∙ sym (exact-product h b a W)
 
+  -- the row of a least operand, and the general one: a word and an error that both engines make of the exact result
+  row : (t : Bool) (word error : ℤ → ℕ) (k : ℕ) {x y : ℤ} → x ≡ y → cond t (leastAnswer h) (Word (word x) (error x) k)
+      ≡ Word (cond t (outcome h 1 false) (outcome (word y) (error y) false) .word) (cond t (outcome h 1 false) (outcome (word y) (error y) false) .error)
+      (stepsIn (cond t (leastAnswer h) (Word (word x) (error x) k)))
+  row true word error k e = refl
+  row false word error k e = λ i. Word (word (e i)) (error (e i)) k
+
   pub same-mul : mulAnswer h n b a ≡ Word (mul h b a .word) (mul h b a .error) (stepsIn (mulAnswer h n b a))
   unfolding mulAnswer mul
-  same-mul = go (eitherLeast h b a)
-    where
-      k : ℕ
-      k = sizesMultiplied h n b a .steps
-
-      general : Answer
-      general = lowHalf h (signedFor h b a (sizesMultiplied h n b a .partial)) k
-
-      first : Fixed
-      first = outcome (low h (signed h b *ℤ signed h a)) (overflowIf (not (fits h (signed h b *ℤ signed h a)))) false
-
-      go : (t : Bool) → cond t (leastAnswer h) general ≡ Word (cond t (outcome h 1 false) first .word) (cond t (outcome h 1 false) first .error)
-          (stepsIn (cond t (leastAnswer h) general))
-      go true = refl
-      go false = ap (λ (z : ℤ). lowHalf h z k) product-is
+  same-mul = row (eitherLeast h b a) (low h) (λ z. overflowIf (not (fits h z))) (sizesMultiplied h n b a .steps) product-is
 
   pub same-muu : muuAnswer h n b a ≡ Word (muu h b a .word) (muu h b a .error) (stepsIn (muuAnswer h n b a))
   unfolding muuAnswer muu
-  same-muu = go (eitherLeast h b a)
-    where
-      k : ℕ
-      k = sizesMultiplied h n b a .steps
-
-      general : Answer
-      general = upperHalf h (signedFor h b a (sizesMultiplied h n b a .partial)) k
-
-      first : Fixed
-      first = outcome (low h (shrZ (signed h b *ℤ signed h a) (2 * h))) 0 false
-
-      go : (t : Bool) → cond t (leastAnswer h) general ≡ Word (cond t (outcome h 1 false) first .word) (cond t (outcome h 1 false) first .error)
-          (stepsIn (cond t (leastAnswer h) general))
-      go true = refl
-      go false = ap (λ (z : ℤ). upperHalf h z k) product-is
+  same-muu = row (eitherLeast h b a) (λ z. low h (shrZ z (2 * h))) (λ z. 0) (sizesMultiplied h n b a .steps) product-is
 
   -- n digits are enough for the quotient
   pub divisor-some : (a ≡ 0 → ⊥) → 0 < magnitudeAt h a
@@ -98,23 +77,18 @@ module _ (h n b a : ℕ) (W : Words h b a) (N : h < 2 ^ n) where
 
   pub same-div : divAnswer h n b a ≡ Word (div h b a .word) (div h b a .error) (stepsIn (divAnswer h n b a))
   unfolding divAnswer div
-  same-div = go (eqb a 0) (eqb-false a 0) (eitherLeast h b a)
+  same-div = go (eqb a 0) (eqb-false a 0)
     where
-      k : ℕ
-      k = n - sizesDivided h n b a .left
-
       general : Answer
-      general = Word (low h (signedFor h b a (sizesDivided h n b a .quotient))) 0 k
+      general = cond (eitherLeast h b a) (leastAnswer h) (Word (low h (signedFor h b a (sizesDivided h n b a .quotient))) 0 (n - sizesDivided h n b a .left))
 
       first : Fixed
-      first = outcome (low h (quotZ (signed h b) (signed h a))) 0 false
+      first = cond (eitherLeast h b a) (outcome h 1 false) (outcome (low h (quotZ (signed h b) (signed h a))) 0 false)
 
-      go : (o : Bool) → (o ≡ false → a ≡ 0 → ⊥) → (t : Bool) → cond o (Word b 8 0) (cond t (leastAnswer h) general)
-          ≡ Word (cond o (outcome b 8 false) (cond t (outcome h 1 false) first) .word) (cond o (outcome b 8 false) (cond t (outcome h 1 false) first) .error)
-          (stepsIn (cond o (Word b 8 0) (cond t (leastAnswer h) general)))
-      go true z t = refl
-      go false z true = refl
-      go false z false = ap (λ (x : ℤ). Word (low h x) 0 k) (quotient-is (z refl))
+      go : (o : Bool) → (o ≡ false → a ≡ 0 → ⊥) → cond o (Word b 8 0) general ≡ Word (cond o (outcome b 8 false) first .word)
+          (cond o (outcome b 8 false) first .error) (stepsIn (cond o (Word b 8 0) general))
+      go true z = refl
+      go false z = row (eitherLeast h b a) (low h) (λ x. 0) (n - sizesDivided h n b a .left) (quotient-is (z refl))
 
 -- ---- floats, under either rule
 

@@ -78,9 +78,9 @@ module _ (P : Task → ℕ → Type 0) (none : P Nothing 0) (times : (x y n : �
         (pos-of-ne-zero (eqb-false (mantissa a) 0 z)) (narrow rule b a p (eqb-false (mantissa a) 0 z))))
 
   pub each : (op : Operation) (rule : Rule) (b a : ℕ) → Operands op b a → P (taskOf op b a) (stepsIn (answerOf op rule b a))
-  each (Mul w) rule b a l = of-mul (half (bitsOf w)) (bitsOf w) b a (words {op = Mul w} (half (bitsOf w)) b a refl refl l) (below-all w)
-  each (Muu w) rule b a l = of-muu (half (bitsOf w)) (bitsOf w) b a (words {op = Muu w} (half (bitsOf w)) b a refl refl l) (below-all w)
-  each (Div w) rule b a l = of-div (half (bitsOf w)) (bitsOf w) b a (words {op = Div w} (half (bitsOf w)) b a refl refl l) (below-all w)
+  each (Mul w) rule b a l = of-mul (half (bitsOf w)) (bitsOf w) b a (words (Mul w) (half (bitsOf w)) b a refl l) (below-all w)
+  each (Muu w) rule b a l = of-muu (half (bitsOf w)) (bitsOf w) b a (words (Muu w) (half (bitsOf w)) b a refl l) (below-all w)
+  each (Div w) rule b a l = of-div (half (bitsOf w)) (bitsOf w) b a (words (Div w) (half (bitsOf w)) b a refl l) (below-all w)
   each Fmul rule b a l = of-fmul rule b a
   each Fdiv rule b a l = of-fdiv rule b a
 

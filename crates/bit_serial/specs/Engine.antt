@@ -1,12 +1,12 @@
 -- The second engine: MUL, MUU, DIV on words of n bits, FMUL and FDIV under a rule, the magnitudes or mantissas a bit at a time. Definitions only.
 -- Assumes nothing.
 use Prim.Native.Nat.{ℕ, _+_, _-_, _*_, _^_}
-use mathlib.Core.Bool.{true, not, _&&_, cond}
+use mathlib.Core.Bool.{Bool, true, false, not, _&&_, cond}
 use lib.Dec.{eqb}
 use lib.IntN.{ℤ}
 use lib.Ieee.{unlike}
 use lib.Signed.{shrZ}
-use Rattle.whole.specs.Signed.{withSign}
+use Rattle.numbers.specs.Signed.{withSign}
 use Rattle.terms.specs.declared.Refusal.the-variants.{Improper}
 use Rattle.terms.specs.declared.Rule.{Rule}
 use Rattle.terms.specs.Errors.{divideByZero}
@@ -58,6 +58,11 @@ mulAnswer h n b a = unlessLeast h b a (lowHalf h (signedFor h b a (sizesMultipli
 unfoldable pub muuAnswer : ℕ → ℕ → ℕ → ℕ → Answer
 unfolding low addedUpTo
 muuAnswer h n b a = unlessLeast h b a (upperHalf h (signedFor h b a (sizesMultiplied h n b a .partial)) (sizesMultiplied h n b a .steps))
+
+-- MUL or MUU
+abbrev pub halfAnswer : Bool → ℕ → ℕ → ℕ → ℕ → Answer
+halfAnswer true h n b a = muuAnswer h n b a
+halfAnswer false h n b a = mulAnswer h n b a
 
 -- DIV: the quotient, which is cut toward zero since its magnitude is; with A = 0 the result is B, the error divide by zero, and no step is made
 unfoldable pub divAnswer : ℕ → ℕ → ℕ → ℕ → Answer

@@ -2,7 +2,7 @@
 use Prim.Native.Nat.{ℕ, _-_, _*_, _/_, _%_, _^_, _≤_, _<_}
 use mathlib.Core.Path.{_≡_}
 use mathlib.Core.Logic.{_↔_}
-use mathlib.Core.Bool.{_&&_, cond}
+use mathlib.Core.Bool.{Bool, true, false, _&&_, cond}
 use lib.Dec.{eqb}
 use Rattle.terms.specs.declared.Rule.{Rule}
 use Rattle.terms.specs.declared.Width.{Width}
@@ -57,6 +57,16 @@ unfoldable pub fdivTask : ℕ → ℕ → Task
 fdivTask b a = cond (proper b && proper a) (cond (eqb (mantissa a) 0) Nothing (Divide (mantissa b * 2 ^ (quotientDigits - 1)) (mantissa a) quotientDigits))
     Nothing
 
+-- the magnitudes multiplied or, for true, divided; the mantissas likewise
+abbrev pub sizesTask : Bool → ℕ → ℕ → ℕ → ℕ → Task
+sizesTask true h n b a = divTask h n b a
+sizesTask false h n b a = mulTask h n b a
+
+abbrev pub mantissasTask : Bool → ℕ → ℕ → Task
+mantissasTask true b a = fdivTask b a
+mantissasTask false b a = fmulTask b a
+
+-- of each operation
 abbrev pub taskOf : Operation → ℕ → ℕ → Task
 taskOf (Mul w) b a = mulTask (half (bitsOf w)) (bitsOf w) b a
 taskOf (Muu w) b a = mulTask (half (bitsOf w)) (bitsOf w) b a
@@ -64,7 +74,7 @@ taskOf (Div w) b a = divTask (half (bitsOf w)) (bitsOf w) b a
 taskOf Fmul b a = fmulTask b a
 taskOf Fdiv b a = fdivTask b a
 
--- what keeps its steps within 64 bits: at most 32 of them, and a shifted operand of 32 bits
+-- what keeps a task's steps within 64 bits: at most 32 of them, and a shifted operand of 32 bits
 abbrev pub Narrow : Task → Type 0
 Narrow Nothing = Unit
 Narrow (Multiply x y n) = (x < 2 ^ 32) × (n ≤ 32)
@@ -78,14 +88,14 @@ mostOf Nothing = 0
 mostOf (Multiply x y n) = n
 mostOf (Divide v d n) = n
 
--- what remains after k steps of the operand that is used up: of the multiplier all bits but the last k, of the dividend what the divisor, as many
--- places up as digits are left, does not measure
+-- what remains, after k steps, of the operand that is used up. Of the multiplier y all bits but the last k: of 13, 1101 in binary, 11 after 2 steps. Of
+-- the dividend v its remainder by the divisor at the place of the last digit found: 13 over 3 in 4 digits leaves 13 % (3 * 2) = 1 after 3 steps
 abbrev pub remains : Task → ℕ → ℕ
 remains Nothing k = 0
 remains (Multiply x y n) k = y / 2 ^ k
 remains (Divide v d n) k = v % (d * 2 ^ (n - k))
 
--- so many steps are made: at most the task's number, and fewer exactly where no bits remain
+-- so many steps are made: at most the task's number, and k are enough exactly where nothing remains after them
 pub record Made (task : Task) (steps : ℕ) : Type 0 where
   pub at-most : steps ≤ mostOf task
   pub fewer : (k : ℕ) → k < mostOf task → (steps ≤ k) ↔ (remains task k ≡ 0)

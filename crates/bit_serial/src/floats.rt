@@ -7,7 +7,6 @@ use float::word::biased_of;
 use float::word::is_negative;
 use float::word::is_proper;
 use float::word::mantissa_of;
-use float::word::unlike_signs;
 use terms::Refusal;
 use terms::Rule;
 ghost use mathlib.Core.Path.{_≡_};
@@ -41,7 +40,7 @@ pub fn fmul(rule: Rule, b: u32, a: u32) -> Answer
         return Answer::Refused(Refusal::Improper);
     }
     let p = multiplied(mantissa_of(b), mantissa_of(a), MANTISSA_BITS);
-    let neg = unlike_signs(is_negative(b), is_negative(a));
+    let neg = is_negative(b) != is_negative(a);
     let x = biased_of(b) + biased_of(a) + PRODUCT_UNIT;
     let r = cut_word(rule, neg, p.partial, x);
     Answer::Word {
@@ -79,7 +78,7 @@ pub fn fdiv(rule: Rule, b: u32, a: u32) -> Answer
     }
     let s = divided(mantissa_of(b) << (QUOTIENT_DIGITS - 1), d, QUOTIENT_DIGITS);
     let t = mark(s.quotient, s.rest);
-    let neg = unlike_signs(is_negative(b), is_negative(a));
+    let neg = is_negative(b) != is_negative(a);
     let x = biased_of(b) + QUOTIENT_UNIT - biased_of(a);
     let r = cut_word(rule, neg, t, x);
     Answer::Word {

@@ -70,10 +70,13 @@ pub fn work(operation: Operation, rule: Rule, b: u32, a: u32) -> Answer
     requires { ⌜ Operands operation b a ⌝ }
     ensures { λ r. ⌜ r ≡ answerOf operation rule b a ⌝ }
 {
+    let width = width_of(operation);
+    let h = half_of(width);
+    let n = bits_of(width);
     match operation {
-        Operation::Mul(width) => words::mul(half_of(width), bits_of(width), b, a),
-        Operation::Muu(width) => words::muu(half_of(width), bits_of(width), b, a),
-        Operation::Div(width) => words::div(half_of(width), bits_of(width), b, a),
+        Operation::Mul(_) => words::mul(h, n, b, a, false),
+        Operation::Muu(_) => words::mul(h, n, b, a, true),
+        Operation::Div(_) => words::div(h, n, b, a),
         Operation::Fmul => floats::fmul(rule, b, a),
         Operation::Fdiv => floats::fdiv(rule, b, a),
     }

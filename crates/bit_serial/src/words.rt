@@ -13,7 +13,7 @@ use fixed::parts::upper_bits;
 ghost use mathlib.Core.Path.{_≡_};
 ghost use Prim.Native.Nat.{_≤_};
 ghost use Rattle.fixed.specs.Parts.{Words};
-ghost use Rattle.bit_serial.specs.Engine.{leastAnswer, mulAnswer, muuAnswer, divAnswer};
+ghost use Rattle.bit_serial.specs.Engine.{leastAnswer, halfAnswer, divAnswer};
 
 // A least operand: the least word and overflow, and no step is made.
 fn least(h: u32) -> Answer
@@ -26,38 +26,28 @@ fn least(h: u32) -> Answer
     }
 }
 
-// MUL: the low half of the product.
-pub fn mul(h: u32, n: u32, b: u32, a: u32) -> Answer
+// MUL and MUU: the low half of the product, or the upper half, rounded down.
+pub fn mul(h: u32, n: u32, b: u32, a: u32, upper: bool) -> Answer
     requires { ⌜ Words h b a × (n ≤ 32) ⌝ }
-    ensures { λ r. ⌜ r ≡ mulAnswer h n b a ⌝ }
+    ensures { λ r. ⌜ r ≡ halfAnswer upper h n b a ⌝ }
 {
     if either_least(h, b, a) {
         return least(h);
     }
     let p = multiplied(magnitude(h, b), magnitude(h, a), n);
     let neg = unlike_signs(h, b, a);
+    if upper {
+        return Answer::Word {
+            word: upper_bits(h, neg, p.partial),
+            error: 0,
+            steps: p.steps,
+        };
+    }
     let word = low_bits(h, neg, p.partial);
     let over = exceeds(h, neg, p.partial);
     Answer::Word {
         word,
         error: overflow_bit(over),
-        steps: p.steps,
-    }
-}
-
-// MUU: the upper half of the product, rounded down.
-pub fn muu(h: u32, n: u32, b: u32, a: u32) -> Answer
-    requires { ⌜ Words h b a × (n ≤ 32) ⌝ }
-    ensures { λ r. ⌜ r ≡ muuAnswer h n b a ⌝ }
-{
-    if either_least(h, b, a) {
-        return least(h);
-    }
-    let p = multiplied(magnitude(h, b), magnitude(h, a), n);
-    let neg = unlike_signs(h, b, a);
-    Answer::Word {
-        word: upper_bits(h, neg, p.partial),
-        error: 0,
         steps: p.steps,
     }
 }

@@ -3,12 +3,14 @@
 use mathlib.Core.Path.{_≡_, refl, sym, ap, subst, _∙_}
 use mathlib.Core.Logic.{inl, inr, ⊎-elim}
 use mathlib.Core.Bool.{Bool, true, false, not, cond}
-use mathlib.Core.List.{List}
+use mathlib.Core.List.{List, [], _∷_}
 use Prim.Native.Nat.{ℕ, zero, suc, _*_, _/_, _%_, _≤_, _<_}
 use native.Mathlib.Omega.{arith}
 use borrow.Author.Tests.{lt-leb, lt-ltb, le-ltb}
 use lib.Dec.{ltb}
 use lib.Ieee.{unlike}
+use types.Run.{OneOf, miss}
+use denote.Enum.Declared.{tagOf}
 use Rattle.terms.specs.declared.Mode.{Mode}
 use Rattle.terms.specs.declared.Mode.the-variants.{Am9511A, Am9511}
 use Rattle.terms.specs.declared.Rule.{Rule}
@@ -18,11 +20,14 @@ use Rattle.terms.specs.Refusal.{numberOf}
 use Rattle.stack.specs.declared.Stack.{Stack}
 use Rattle.stack.specs.Words.{bytesIn}
 use Rattle.codes.specs.declared.Kind.{Kind as Coded}
+use Rattle.codes.specs.declared.Kind.the-variants.{Nop as NopCode, Fixed as FixedCode, Float as FloatCode, Chsf as ChsfCode, Flt as FltCode, Fix as FixCode}
+use Rattle.codes.specs.declared.Kind.the-variants.{Move as MoveCode, Pupi as PupiCode, Sqrt as SqrtCode, Derived as DerivedKind, Unknown as UnknownKind}
+use Rattle.codes.proofs.Kind.{the-type as kind-type}
 use Rattle.codes.specs.declared.FixedOp.{FixedOp}
 use Rattle.codes.specs.declared.FixedOp.the-variants.{Add as AddOp, Sub as SubOp, Mul as MulOp, Muu as MuuOp, Div as DivOp, Chs as ChsOp}
 use Rattle.codes.specs.declared.MoveOp.{MoveOp}
 use Rattle.codes.specs.declared.MoveOp.the-variants.{Pto as PtoOp, Pop as PopOp, Xch as XchOp}
-use Rattle.codes.specs.Command.{Command, Kind, Known, Derived, Unknown, fixedIn, moveIn, kindIn}
+use Rattle.codes.specs.Command.{Command, Kind, Known, Derived, Unknown, Chsf, Flt, fixedIn, moveIn, kindIn}
 use Rattle.codes.specs.Codes.{sr, decoded}
 use Rattle.chip.specs.State.{State, left, afterReset, acknowledged, settled}
 use Rattle.chip.specs.declared.commands.Obeyed.{Obeyed}
@@ -112,22 +117,30 @@ module _ (s : State) (code : ℕ) (o : Obeyed) where
   turned-down rule Derived ep h e w = command-by rule s code h e refl (as-number (numberOf DerivedCode * 256) w)
   turned-down rule Unknown ep h e w = command-by rule s code h e refl (as-number (numberOf UnknownCode * 256) w)
 
--- what was found of a kind, an operation or a rule holds of it under its own name
+-- the kinds that are neither derived nor unknown
+pub half-known : (k : Coded) → OneOf (0 ∷ 1 ∷ 2 ∷ 3 ∷ 4 ∷ 5 ∷ 6 ∷ 7 ∷ 8 ∷ []) (tagOf kind-type k) → HalfWord ≡ halfWord (kindIn k)
+half-known NopCode h = refl
+half-known (FixedCode op w) h = refl
+half-known (FloatCode op) h = refl
+half-known ChsfCode h = refl
+half-known (FltCode w) h = refl
+half-known (FixCode w) h = refl
+half-known (MoveCode op w) h = refl
+half-known PupiCode h = refl
+half-known SqrtCode h = refl
+half-known DerivedKind h = absurd (miss (0 ∷ 1 ∷ 2 ∷ 3 ∷ 4 ∷ 5 ∷ 6 ∷ 7 ∷ 8 ∷ []) 9 tt h)
+half-known UnknownKind h = absurd (miss (0 ∷ 1 ∷ 2 ∷ 3 ∷ 4 ∷ 5 ∷ 6 ∷ 7 ∷ 8 ∷ []) 10 tt h)
+
+-- what was found of a kind or a rule holds of it under its own name
 pub performs-as : (rule : Rule) (s : Stack) (o : Obeyed) {k l : Coded} → k ≡ l → Performs rule (kindIn l) s o → Performs rule (kindIn k) s o
 performs-as rule s o e = subst (λ (x : Coded). Performs rule (kindIn x) s o) (sym e)
-
-pub works-as : (w : Width) (s : Stack) (o : Obeyed) {k l : FixedOp} → k ≡ l → SettlesEither (fixedIn l w) s o → SettlesEither (fixedIn k w) s o
-works-as w s o e = subst (λ (x : FixedOp). SettlesEither (fixedIn x w) s o) (sym e)
-
-pub moves-as : (w : Width) (s : Stack) (o : Obeyed) {k l : MoveOp} → k ≡ l → SettlesEither (moveIn l w) s o → SettlesEither (moveIn k w) s o
-moves-as w s o e = subst (λ (x : MoveOp). SettlesEither (moveIn x w) s o) (sym e)
 
 pub by-rule : (pending : Bool) (code : ℕ) (stack : Stack) {rule r : Rule} {o x : Obeyed} → rule ≡ r → o ≡ x → Commanded r pending code stack x
     → Commanded rule pending code stack o
 by-rule pending code stack e f h = rw (e, f) h
 
 -- operands are asked for by no fixed-point operation and no move
-pub fixed-proper : (op : FixedOp) (w : Width) (s : List ℕ) → properOperands (fixedIn op w) s ≡ true
+fixed-proper : (op : FixedOp) (w : Width) (s : List ℕ) → properOperands (fixedIn op w) s ≡ true
 fixed-proper AddOp w s = refl
 fixed-proper SubOp w s = refl
 fixed-proper MulOp w s = refl
@@ -135,7 +148,21 @@ fixed-proper MuuOp w s = refl
 fixed-proper DivOp w s = refl
 fixed-proper ChsOp w s = refl
 
-pub move-proper : (op : MoveOp) (w : Width) (s : List ℕ) → properOperands (moveIn op w) s ≡ true
+move-proper : (op : MoveOp) (w : Width) (s : List ℕ) → properOperands (moveIn op w) s ≡ true
 move-proper PtoOp w s = refl
 move-proper PopOp w s = refl
 move-proper XchOp w s = refl
+
+module _ (rule : Rule) (s : Stack) (o : Obeyed) {k : Coded} where
+  pub fixed-by : {op : FixedOp} {w v : Width} → k ≡ FixedCode op w → w ≡ v → SettlesEither (fixedIn op v) s o → Performs rule (kindIn k) s o
+  fixed-by {op} {w} {v} e f h =
+      performs-as rule s o (e ∙ ap (FixedCode op) f) (done-by rule (fixedIn op v) s o (fixed-proper op v (bytesIn s)) (h rule))
+
+  pub move-by : {op : MoveOp} {w : Width} → k ≡ MoveCode op w → SettlesEither (moveIn op w) s o → Performs rule (kindIn k) s o
+  move-by {op} {w} e h = performs-as rule s o e (done-by rule (moveIn op w) s o (move-proper op w (bytesIn s)) (h rule))
+
+  pub flt-by : {w : Width} → k ≡ FltCode w → Settles (outcomeOf rule (Flt w) (bytesIn s)) o → Performs rule (kindIn k) s o
+  flt-by {w} e h = performs-as rule s o e (done-by rule (Flt w) s o refl h)
+
+  pub chsf-by : k ≡ ChsfCode → SettlesEither Chsf s o → Performs rule (kindIn k) s o
+  chsf-by e h = performs-as rule s o e (done-by rule Chsf s o refl (h rule))

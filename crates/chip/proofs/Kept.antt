@@ -3,7 +3,6 @@ use mathlib.Core.Path.{_≡_, refl}
 use mathlib.Core.Logic.{_⊎_, inl, inr}
 use mathlib.Core.Bool.{Bool, true, false, cond}
 use Prim.Native.Nat.{ℕ, _%_}
-use Rattle.terms.specs.declared.Mode.{Mode}
 use Rattle.terms.specs.declared.Refusal.the-variants.{Done, BadState}
 use Rattle.terms.specs.declared.Rule.{Rule}
 use Rattle.terms.specs.Settings.{Settings}
@@ -30,26 +29,6 @@ keeps-cond s false x y p q = q
 unless-busy : (s : State) (x : Answer) → Keeps s x → Keeps s (unlessBusy s x)
 unless-busy s x p = keeps-cond s (busy s) (refused BadState s) x (inr refl) p
 
-push-keeps : (s : State) (b : ℕ) → Keeps s (pushOf s b)
-unfolding pushOf
-push-keeps s b = unless-busy s _ (inl refl)
-
-pop-keeps : (s : State) → Keeps s (popOf s)
-unfolding popOf
-pop-keeps s = unless-busy s _ (inl refl)
-
-reset-keeps : (mode : Mode) (s : State) → Keeps s (resetOf mode s)
-unfolding resetOf
-reset-keeps mode s = unless-busy s _ (inl refl)
-
-acknowledge-keeps : (s : State) → Keeps s (acknowledgeOf s)
-unfolding acknowledgeOf
-acknowledge-keeps s = unless-busy s _ (inl refl)
-
-read-keeps : (s : State) → Keeps s (readOf s)
-unfolding readOf
-read-keeps s = unless-busy s _ (inl refl)
-
 carried-keeps : (rule : Rule) (s : State) (service : Bool) (k : Command) → Keeps s (carried rule s service k)
 unfolding carried
 carried-keeps rule s service k = keeps-cond s (s .pending) _ _ (inr refl) (keeps-cond s (properOperands k (s .stack)) _ _ (inl refl) (inr refl))
@@ -65,9 +44,10 @@ command-keeps rule s code = unless-busy s _ (answer-keeps rule s (sr code) (deco
 
 -- every event of the bus
 pub event-keeps : (on : Settings) (s : State) (e : Event) → Keeps s (answerTo on s e)
-event-keeps on s (Push b) = push-keeps s b
-event-keeps on s Pop = pop-keeps s
+unfolding pushOf popOf readOf resetOf acknowledgeOf
+event-keeps on s (Push b) = unless-busy s _ (inl refl)
+event-keeps on s Pop = unless-busy s _ (inl refl)
 event-keeps on s (CommandEvent code) = command-keeps (on .rule) s code
-event-keeps on s Status = read-keeps s
-event-keeps on s Reset = reset-keeps (on .mode) s
-event-keeps on s Acknowledge = acknowledge-keeps s
+event-keeps on s Status = unless-busy s _ (inl refl)
+event-keeps on s Reset = unless-busy s _ (inl refl)
+event-keeps on s Acknowledge = unless-busy s _ (inl refl)

@@ -9,15 +9,19 @@ use Rattle.terms.specs.declared.Refusal.{Refusal}
 use Rattle.terms.specs.declared.Refusal.the-variants.{UnknownCode, DerivedCode, HalfWord, Improper}
 use Rattle.terms.specs.Refusal.{numberOf}
 use Rattle.terms.specs.declared.Rule.{Rule}
+use Rattle.terms.specs.declared.Width.{Width}
+use Rattle.fixed.specs.declared.Fixed.{Fixed}
 use Rattle.stack.specs.declared.Stack.{Stack}
 use Rattle.stack.specs.Words.{bytesIn}
+use Rattle.codes.specs.declared.FixedOp.{FixedOp}
+use Rattle.codes.specs.declared.FixedOp.the-variants.{Add, Sub, Mul, Muu, Div, Chs}
 use Rattle.codes.specs.Command.{Command, Kind, Known, Derived, Unknown}
 use Rattle.codes.specs.Codes.{sr}
 use Rattle.chip.specs.declared.State.{State as Held}
 use Rattle.chip.specs.declared.Answer.{Answer as HeldAnswer}
 use Rattle.chip.specs.declared.commands.Obeyed.{Obeyed}
 use Rattle.chip.specs.State.{State, Answer, CommandOutcome, left, settled}
-use Rattle.chip.specs.Commands.{outcomeOf, properOperands}
+use Rattle.chip.specs.Commands.{keepsA, losesA, changesA, outcomeOf, properOperands}
 use Rattle.chip.specs.Step.{done, refused, commandUnder}
 
 -- a state of its parts
@@ -42,6 +46,15 @@ blockMoved s n stack = held stack (flipped n (s .pending)) (s .status) (s .servi
 -- accepted, with this outcome
 abbrev pub Settles : CommandOutcome → Obeyed → Type 0
 Settles out o = (left (bytesIn (o .stack)) (o .answer) ≡ out) × (o .answer < 256)
+
+-- the result of a fixed-point operation where its row has it
+abbrev pub laidOf : FixedOp → Width → List ℕ → Fixed → CommandOutcome
+laidOf Add w s r = keepsA w s r
+laidOf Sub w s r = keepsA w s r
+laidOf Mul w s r = losesA w s r
+laidOf Muu w s r = losesA w s r
+laidOf Div w s r = losesA w s r
+laidOf Chs w s r = changesA w s r
 
 -- accepted, with the same outcome under either rule
 abbrev pub SettlesEither : Command → Stack → Obeyed → Type 0

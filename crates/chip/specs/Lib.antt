@@ -5,5 +5,6 @@ pub mod Status
 pub mod Commands
 pub mod Step
 pub mod Events
-pub mod Held
 pub mod InTurn
+-- how the code holds them
+pub mod Held

@@ -23,70 +23,35 @@ Row = ℕ × Kind
 -- 16-bit fixed-point operations: SADD, SSUB, SMUL, SMUU, SDIV
 abbrev pub sixteenBit : List Row
 sixteenBit =
-    (0x6c, Known (Add Single))
-    ∷ (0x6d, Known (Sub Single))
-    ∷ (0x6e, Known (Mul Single))
-    ∷ (0x76, Known (Muu Single))
-    ∷ (0x6f, Known (Div Single))
-    ∷ []
+    (0x6c, Known (Add Single)) ∷ (0x6d, Known (Sub Single)) ∷ (0x6e, Known (Mul Single)) ∷ (0x76, Known (Muu Single))
+    ∷ (0x6f, Known (Div Single)) ∷ []
 
 -- 32-bit fixed-point operations: DADD, DSUB, DMUL, DMUU, DDIV
 abbrev pub thirtyTwoBit : List Row
 thirtyTwoBit =
-    (0x2c, Known (Add Double))
-    ∷ (0x2d, Known (Sub Double))
-    ∷ (0x2e, Known (Mul Double))
-    ∷ (0x36, Known (Muu Double))
-    ∷ (0x2f, Known (Div Double))
-    ∷ []
+    (0x2c, Known (Add Double)) ∷ (0x2d, Known (Sub Double)) ∷ (0x2e, Known (Mul Double)) ∷ (0x36, Known (Muu Double))
+    ∷ (0x2f, Known (Div Double)) ∷ []
 
 -- 32-bit floating-point primary operations: FADD, FSUB, FMUL, FDIV
 abbrev pub primary : List Row
 primary =
-    (0x10, Known (Float FAdd))
-    ∷ (0x11, Known (Float FSub))
-    ∷ (0x12, Known (Float FMul))
-    ∷ (0x13, Known (Float FDiv))
+    (0x10, Known (Float FAdd)) ∷ (0x11, Known (Float FSub)) ∷ (0x12, Known (Float FMul)) ∷ (0x13, Known (Float FDiv))
     ∷ []
 
 -- 32-bit floating-point derived operations: SQRT, which is carried; SIN, COS, TAN, ASIN, ACOS, ATAN, LOG, LN, EXP, PWR
 abbrev pub derived : List Row
 derived =
-    (0x01, Known Sqrt)
-    ∷ (0x02, Derived)
-    ∷ (0x03, Derived)
-    ∷ (0x04, Derived)
-    ∷ (0x05, Derived)
-    ∷ (0x06, Derived)
-    ∷ (0x07, Derived)
-    ∷ (0x08, Derived)
-    ∷ (0x09, Derived)
-    ∷ (0x0a, Derived)
-    ∷ (0x0b, Derived)
-    ∷ []
+    (0x01, Known Sqrt) ∷ (0x02, Derived) ∷ (0x03, Derived) ∷ (0x04, Derived) ∷ (0x05, Derived) ∷ (0x06, Derived)
+    ∷ (0x07, Derived) ∷ (0x08, Derived) ∷ (0x09, Derived) ∷ (0x0a, Derived) ∷ (0x0b, Derived) ∷ []
 
 -- data and stack manipulation: NOP, FIXS, FIXD, FLTS, FLTD, CHSS, CHSD, CHSF, PTOS, PTOD, PTOF, POPS, POPD, POPF, XCHS, XCHD, XCHF, PUPI
 abbrev pub manipulation : List Row
 manipulation =
-    (0x00, Known Nop)
-    ∷ (0x1f, Known (Fix Single))
-    ∷ (0x1e, Known (Fix Double))
-    ∷ (0x1d, Known (Flt Single))
-    ∷ (0x1c, Known (Flt Double))
-    ∷ (0x74, Known (Chs Single))
-    ∷ (0x34, Known (Chs Double))
-    ∷ (0x15, Known Chsf)
-    ∷ (0x77, Known (Pto Single))
-    ∷ (0x37, Known (Pto Double))
-    ∷ (0x17, Known (Pto Double))
-    ∷ (0x78, Known (Pop Single))
-    ∷ (0x38, Known (Pop Double))
-    ∷ (0x18, Known (Pop Double))
-    ∷ (0x79, Known (Xch Single))
-    ∷ (0x39, Known (Xch Double))
-    ∷ (0x19, Known (Xch Double))
-    ∷ (0x1a, Known Pupi)
-    ∷ []
+    (0x00, Known Nop) ∷ (0x1f, Known (Fix Single)) ∷ (0x1e, Known (Fix Double)) ∷ (0x1d, Known (Flt Single))
+    ∷ (0x1c, Known (Flt Double)) ∷ (0x74, Known (Chs Single)) ∷ (0x34, Known (Chs Double)) ∷ (0x15, Known Chsf)
+    ∷ (0x77, Known (Pto Single)) ∷ (0x37, Known (Pto Double)) ∷ (0x17, Known (Pto Double))
+    ∷ (0x78, Known (Pop Single)) ∷ (0x38, Known (Pop Double)) ∷ (0x18, Known (Pop Double))
+    ∷ (0x79, Known (Xch Single)) ∷ (0x39, Known (Xch Double)) ∷ (0x19, Known (Xch Double)) ∷ (0x1a, Known Pupi) ∷ []
 
 -- Figure 8, row by row
 abbrev pub figure8 : List Row

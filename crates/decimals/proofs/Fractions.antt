@@ -10,7 +10,7 @@ use borrow.Author.Tests.{lt-ltb, le-ltb, ltb-true, ltb-false, eqb-true, eqb-fals
 use lib.Dec.{ltb, eqb, lit≤}
 use lib.ListN.{length, length-append}
 use lib.Pow.{pow-add, pow-pos}
-use Rattle.whole.specs.Signed.{withSign}
+use Rattle.numbers.specs.Signed.{withSign}
 use Rattle.listing.specs.Text.{digit, spelled}
 use Rattle.decimals.specs.Exact.{minus, placesText, signText, exactText}
 use Rattle.decimals.specs.Read.{isDigit}

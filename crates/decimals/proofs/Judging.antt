@@ -10,7 +10,7 @@ use native.Mathlib.Omega.{arith}
 use borrow.Author.Tests.{eqb-true, eqb-false, eq-eqb, ne-eqb}
 use lib.Dec.{ltb, eqb, lit<}
 use lib.Pow.{pow-add, pow-pos, pow-mono}
-use Rattle.whole.specs.Signed.{withSign}
+use Rattle.numbers.specs.Signed.{withSign}
 use Rattle.terms.specs.declared.Rule.{Rule}
 use Rattle.terms.specs.declared.Rule.the-variants.{Cut}
 use Rattle.terms.specs.declared.Refusal.the-variants.{TooLarge, TooSmall}
@@ -18,10 +18,10 @@ use Rattle.float.specs.declared.Flagged.{Flagged}
 use Rattle.float.specs.Word.{negative, biased, mantissa, size88}
 use Rattle.float.specs.Cut.{lost, kept, mantissaOf, digitsOf, stored, cutSize, cut}
 use Rattle.float.proofs.Powers.{parted}
-use Rattle.float.proofs.Pair.{cuts-one, kept-le}
-use Rattle.float.proofs.Jams.{stands-cut}
-use Rattle.float.proofs.Signs.{cut-sign}
-use Rattle.float.proofs.Values.{cut-stored, packed-mantissa, packed-biased, error-kept, digits-near}
+use Rattle.float.proofs.cut.Pair.{cuts-one, kept-le}
+use Rattle.float.proofs.cut.Jams.{stands-cut}
+use Rattle.float.proofs.cut.Signs.{cut-sign}
+use Rattle.float.proofs.cut.Values.{cut-stored, packed-mantissa, packed-biased, error-kept, digits-near}
 use Rattle.float.proofs.Results.{kept-big, mantissa-big}
 use Rattle.decimals.specs.declared.bring.Brought.{Brought}
 use Rattle.decimals.specs.declared.bring.Brought.the-variants.{Exact, Rounded, Refused}

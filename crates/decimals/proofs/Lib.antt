@@ -8,10 +8,8 @@ pub mod Judging
 pub mod Scanning
 pub mod Parsing
 pub mod Shortest
-pub mod HexReading
 pub mod SumReading
 pub mod Lines
 pub mod Fractions
 pub mod Texts
 pub mod ReadBack
-pub mod HexBack

@@ -1,6 +1,6 @@
--- The parts of a line: digits to a base, marks, and what fits into its room. Assumes nothing.
+-- The parts of a line: marks, and what fits into its room. Assumes nothing.
 use mathlib.Core.Path.{_≡_, refl, sym, ap, ap₂, _∙_, subst}
-use mathlib.Core.Bool.{Bool, true, false, cond, not}
+use mathlib.Core.Bool.{Bool, true, false, cond}
 use mathlib.Core.List.{List, [], _∷_, _++_}
 use Prim.Native.Nat.{ℕ, zero, suc, _+_, _-_, _*_, _/_, _%_, _^_, _≤_, _<_}
 use native.Mathlib.Omega.{arith}
@@ -10,39 +10,21 @@ use lib.Dec.{lit<, lit≤}
 use lib.Pow.{pow-pos, pow-mono, high, low}
 use lib.ListN.{length, length-append}
 use Rattle.terms.specs.declared.Rule.{Rule}
-use Rattle.float.specs.Word.{negative, biased, proper, size88}
-use Rattle.listing.specs.Text.{digit, Adds}
-use Rattle.listing.proofs.Adding.{nothing, both}
-use Rattle.decimals.specs.Exact.{minus, exactText}
+use Rattle.float.specs.Word.{biased, proper, size88}
+use Rattle.listing.specs.Text.{Adds}
+use Rattle.listing.proofs.Adding.{nothing}
+use Rattle.decimals.specs.Exact.{minus}
 use Rattle.decimals.specs.Short.{shortOf}
-use Rattle.decimals.specs.Line.{digitsTo, improperMark, shortText, valueText, wrongLine, readLine, eightLine, lineOf}
+use Rattle.listing.specs.declared.hex.Hex.{Hex}
+use Rattle.listing.specs.declared.hex.Hex.the-variants.{Nothing as Unread}
+use Rattle.decimals.specs.declared.line.End.{End}
+use Rattle.decimals.specs.declared.short.Short.the-variants.{Nothing}
+use Rattle.decimals.specs.declared.read.Reading.{Reading}
+use Rattle.decimals.specs.declared.read.Reading.the-variants.{Exact, Rounded, Refused, Wrong}
+use Rattle.decimals.specs.Line.{improperMark, briefOf, wordIn, readingIn, lineBy, lineOf, EndOf, Tellable}
 use Rattle.decimals.specs.declared.read.Fault.the-variants.{ManyDigits}
-use Rattle.decimals.specs.Read.{readOf}
-use Rattle.decimals.specs.Hex.{hexOf}
-use Rattle.decimals.proofs.Scanning.{not-true, not-false}
-
--- ---- digits to a base
-pub no-digits : (b n count place : ℕ) (l : List ℕ) → count ≡ 0 → Adds (digitsTo b count n) l l place place
-unfolding digitsTo
-no-digits b n count place l e = rw e (nothing l place)
-
-pub last-digit : (base n count x : ℕ) {a b c : List ℕ} {p q r : ℕ} → (count ≡ 0 → ⊥) → x ≡ digit (n % base) → Adds (digitsTo base (count - 1)
-    (n / base)) a b p q
-    → Adds (x ∷ []) b c q r → Adds (digitsTo base count n) a c p r
-unfolding digitsTo
-last-digit base n zero x z e h k = absurd (z refl)
-last-digit base n (suc count) x {a} {b} {c} {p} {q} {r} z e h k =
-    let m : suc count - 1 ≡ count = omega arith in
-    both (subst (λ (m : ℕ). Adds (digitsTo base m (n / base)) a b p q) m h) (subst (λ (y : ℕ). Adds (y ∷ []) b c q r) e k)
-
-pub digits-length : (base count n : ℕ) → length (digitsTo base count n) ≡ count
-unfolding digitsTo
-digits-length base zero n = refl
-digits-length base (suc count) n = let e = digits-length base count (n / base) in omega (
-  arith,
-  length-append (digitsTo base count (n / base)) (digit
-      (n % base) ∷ []),
-)
+use Rattle.decimals.specs.Read.{Placed, readOf}
+use Rattle.listing.specs.Hex.{hexOf}
 
 -- ---- a minus sign or none
 pub minus-added : (s : Bool) {a b : List ℕ} {p q : ℕ} → s ≡ true → Adds (minus ∷ []) a b p q → Adds (cond s (minus ∷ []) []) a b p q
@@ -52,10 +34,6 @@ minus-added false e h = let z : _≡_ {A = ℕ} 0 1 = cc in absurd (omega arith)
 pub minus-none : (s : Bool) (l : List ℕ) (p : ℕ) → s ≡ false → Adds (cond s (minus ∷ []) []) l l p p
 minus-none false l p e = nothing l p
 minus-none true l p e = let z : _≡_ {A = ℕ} 0 1 = cc in absurd (omega arith)
-
--- ---- text that is another text
-pub told-as : {x y a b : List ℕ} {p q : ℕ} → x ≡ y → Adds x a b p q → Adds y a b p q
-told-as {a = a} {b = b} {p = p} {q = q} e h = subst (λ (t : List ℕ). Adds t a b p q) e h
 
 -- ---- the whole part of a word's magnitude
 pub size-small : (w : ℕ) → size88 w < 2 ^ 151
@@ -79,27 +57,47 @@ module _ (w h l a b : ℕ) (e : (h * 2 ^ 48 + l) * 2 ^ 88 + (a * 2 ^ 40 + b) ≡
   pub rest-is : a < 2 ^ 48 → b < 2 ^ 40 → a * 2 ^ 40 + b ≡ size88 w % 2 ^ 88
   rest-is A B = sym (low (h * 2 ^ 48 + l) 88 (small A B)) ∙ ap (λ (x : ℕ). x % 2 ^ 88) e
 
--- ---- the value of a word
-module _ (rule : Rule) (exact : Bool) (w : ℕ) (s : Bool) {a b : List ℕ} {p q : ℕ} where
-  pub improper-value : s ≡ proper w → not s ≡ true → Adds (exactText (negative w) (size88 w) ++ improperMark) a b p q → Adds (valueText rule exact w) a b p q
-  improper-value e n h = rw (not-true s (proper w) e n) h
+-- ---- the short decimal, or none
+module _ (rule : Rule) (exact : Bool) (w : ℕ) where
+  pub exact-asked : exact ≡ true → Nothing ≡ briefOf rule exact w
+  exact-asked e = rw e
 
-  pub exact-value : s ≡ proper w → not s ≡ false → exact ≡ true → Adds (exactText (negative w) (size88 w)) a b p q → Adds (valueText rule exact w) a b p q
-  exact-value e n x h = rw (not-false s (proper w) e n, x) h
+  pub not-proper : exact ≡ false → proper w ≡ false → Nothing ≡ briefOf rule exact w
+  not-proper e n = rw (e, n)
 
-  pub short-value : s ≡ proper w → not s ≡ false → exact ≡ false → Adds (shortText rule w (shortOf rule w)) a b p q → Adds (valueText rule exact w) a b p q
-  short-value e n x h = rw (not-false s (proper w) e n, x) h
+  pub in-brief : exact ≡ false → proper w ≡ true → shortOf rule w ≡ briefOf rule exact w
+  in-brief e n = rw (e, n)
+
+-- ---- the end of a line
+pub end-as : {m n : List ℕ} {at : End} → m ≡ n → EndOf m at → EndOf n at
+end-as {at = at} e h = subst (λ (m : List ℕ). EndOf m at) e h
+
+pub plain-end : (w : ℕ) → proper w ≡ true → [] ≡ cond (proper w) [] improperMark
+plain-end w e = rw e
+
+pub improper-end : (w : ℕ) → proper w ≡ false → improperMark ≡ cond (proper w) [] improperMark
+improper-end w e = rw e
 
 -- ---- the line of a text
-module _ (rule : Rule) (exact : Bool) (text : List ℕ) where
-  pub long-line : 64 < length text → wrongLine ManyDigits 64 ≡ lineOf rule exact text
-  unfolding lineOf
-  long-line h = rw (lt-leb (length text) 64 h)
+module _ (text : List ℕ) where
+  pub eight : length text ≡ 8 → hexOf text ≡ wordIn text
+  eight e = rw (eq-eqb (length text) 8 e)
 
-  pub eight-line : length text ≤ 64 → length text ≡ 8 → eightLine rule exact text (hexOf text) ≡ lineOf rule exact text
-  unfolding lineOf
-  eight-line h e = rw (le-leb (length text) 64 h, eq-eqb (length text) 8 e)
+  pub other : (length text ≡ 8 → ⊥) → Unread ≡ wordIn text
+  other n = rw (ne-eqb (length text) 8 n)
 
-  pub other-line : length text ≤ 64 → (length text ≡ 8 → ⊥) → readLine rule text (readOf rule text) ≡ lineOf rule exact text
-  unfolding lineOf
-  other-line h n = rw (le-leb (length text) 64 h, ne-eqb (length text) 8 n)
+  pub long-text : (rule : Rule) → 64 < length text → Wrong ManyDigits 64 ≡ readingIn rule text
+  long-text rule h = rw (lt-leb (length text) 64 h)
+
+  pub short-text : (rule : Rule) → length text ≤ 64 → readOf rule text ≡ readingIn rule text
+  short-text rule h = rw (le-leb (length text) 64 h)
+
+pub tellable : (n : ℕ) (r : Reading) → n ≤ 64 → Placed r → Tellable n r
+tellable n (Exact w) h p = h
+tellable n (Rounded w) h p = h
+tellable n (Refused r) h p = p
+tellable n (Wrong fault place) h p = p
+
+pub line-is : (rule : Rule) (exact : Bool) (text : List ℕ) (h : Hex) → h ≡ wordIn text → lineBy rule exact text h ≡ lineOf rule exact text
+unfolding lineOf
+line-is rule exact text h e = ap (lineBy rule exact text) e

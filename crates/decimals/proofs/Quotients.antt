@@ -10,7 +10,7 @@ use native.Mathlib.Omega.{arith}
 use lib.Dec.{lit<}
 use lib.Pow.{pow-add, pow-pos, pow-mono, shl-exact}
 use Rattle.float.specs.Jam.{Jammed}
-use Rattle.float.proofs.Jams.{Jam, jam-of, jam-scale}
+use Rattle.float.proofs.cut.Jams.{Jam, jam-of, jam-scale}
 use Rattle.decimals.specs.Bring.{StandsFor}
 
 -- ---- powers of five and of ten

@@ -24,10 +24,12 @@ use Rattle.decimals.specs.declared.short.Short.the-variants.{Decimal, No
 use Rattle.decimals.specs.Bring.{bringOf}
 use Rattle.decimals.specs.Read.{answered, readParsed, readOf}
 use Rattle.decimals.specs.Short.{givesWord, givesOf, decimalOf, tryOf, orElse, aroundOf, triedAt, shortFrom, shortOf}
-use Rattle.decimals.specs.Line.{digitsTo, decimalText}
-use Rattle.decimals.specs.Meaning.{allDigits, numberIn, ShortReadsBack}
+use Rattle.listing.specs.Hex.{digitsTo}
+use Rattle.decimals.specs.Line.{decimalText}
+use Rattle.decimals.specs.Meaning.{allDigits, numberIn, ShortReadsBack, WordTextReadsBack}
 use Rattle.decimals.proofs.Quotients.{ten-pos}
-use Rattle.decimals.proofs.Lines.{digits-length, size-small}
+use Rattle.listing.proofs.Digits.{digits-length, hex-back}
+use Rattle.decimals.proofs.Lines.{size-small}
 use Rattle.decimals.proofs.Fractions.{digit-value, both-digits, number-join, Spells, spells, one}
 use Rattle.decimals.proofs.Texts.{parsed}
 
@@ -176,3 +178,7 @@ short-reads-back rule w a f q h e =
         (subst (λ (n : ℕ). n < 10 ^ 19) (sym (d .number)) (g .small)))
         ∙ ap₂ (λ (x y : ℕ). answered (bringOf rule (negative w) (x * 10 ^ length (digitsTo 10 q f) + y) (length (digitsTo 10 q f)))) (s .number) (d .number)
         ∙ ap (λ (n : ℕ). answered (bringOf rule (negative w) (a * 10 ^ n + f) n)) size
+
+-- a word's eight hex digits read back
+pub word-text-reads-back : WordTextReadsBack
+word-text-reads-back w h = hex-back 8 w h

@@ -9,12 +9,12 @@ use borrow.Author.Tests.{eq-eqb, ne-eqb}
 use lib.Dec.{eqb}
 use lib.ListN.{length, take, drop, getD, set, length-set, drop-of-length-le}
 use lib.Seq.{set-split, drop-at, length-take-le}
-use Rattle.decimals.specs.declared.hex.Hex.the-variants.{Number, Nothing as Unread}
+use Rattle.listing.specs.declared.hex.Hex.the-variants.{Number, Nothing as Unread}
 use Rattle.decimals.specs.Magnitude.{bytesAt}
-use Rattle.decimals.specs.Hex.{digitValue, hexFrom, hexOf}
-use Rattle.decimals.specs.Sum.{Bytes·Of, noSum, sizeLine, sumLine}
+use Rattle.listing.specs.Hex.{digitValue, hexFrom, hexOf}
+use Rattle.decimals.specs.Sum.{Bytes·Of, noSum, sizeLine, isSign, sumLine}
 use Rattle.decimals.specs.Exact.{exactText}
-use Rattle.decimals.proofs.HexReading.{on, off}
+use Rattle.listing.proofs.HexReading.{on, off}
 
 -- so many bytes are left to be read, and the digits before this place are read
 pub record Filling (digits bytes : List ℕ) (left i : ℕ) : Type 0 where
@@ -77,31 +77,28 @@ all-filled digits bytes left i f all h =
     end : hexFrom (bytesAt bytes) (drop i digits) ≡ Number (bytesAt bytes)
     end = unfold hexFrom in rw (drop-of-length-le digits (let e : length digits ≤ i = omega (arith, f .places) in e))
 
--- the line by the tests that the code makes
+-- the sum by the tests that the code makes
 module _ (text : List ℕ) where
   pub another : (length text ≡ 49 → ⊥) → noSum ≡ sumLine text
   unfolding sumLine
   another h = rw (ne-eqb (length text) 49 h)
 
-  pub above : length text ≡ 49 → getD text 0 0 ≡ 43 → sizeLine false (hexOf (drop 1 text)) ≡ sumLine text
+  pub no-sign : length text ≡ 49 → isSign (getD text 0 0) ≡ false → noSum ≡ sumLine text
   unfolding sumLine
-  above h e = rw (eq-eqb (length text) 49 h, eq-eqb (getD text 0 0) 43 e)
+  no-sign h e = rw (eq-eqb (length text) 49 h, e)
 
-  pub below : length text ≡ 49 → (getD text 0 0 ≡ 43 → ⊥) → getD text 0 0 ≡ 45 → sizeLine true (hexOf (drop 1 text)) ≡ sumLine text
+  signed : length text ≡ 49 → isSign (getD text 0 0) ≡ true → sizeLine (eqb (getD text 0 0) 45) (hexOf (drop 1 text)) ≡ sumLine text
   unfolding sumLine
-  below h g e = rw (eq-eqb (length text) 49 h, ne-eqb (getD text 0 0) 43 g, eq-eqb (getD text 0 0) 45 e)
+  signed h e = rw (eq-eqb (length text) 49 h, e)
 
-  pub no-sign : length text ≡ 49 → (getD text 0 0 ≡ 43 → ⊥) → (getD text 0 0 ≡ 45 → ⊥) → noSum ≡ sumLine text
-  unfolding sumLine
-  no-sign h g e = rw (eq-eqb (length text) 49 h, ne-eqb (getD text 0 0) 43 g, ne-eqb (getD text 0 0) 45 e)
+  pub unread : (r : Bool) (bytes : List ℕ) → length text ≡ 49 → isSign (getD text 0 0) ≡ true → Bytes·Of (drop 1 text) r bytes → not r ≡ true → noSum
+      ≡ sumLine text
+  unread true bytes h e b n = let z : _≡_ {A = ℕ} 0 1 = cc in absurd (omega arith)
+  unread false bytes h e b n = ap (sizeLine (eqb (getD text 0 0) 45)) (sym b) ∙ signed h e
 
--- the line of what was read
-module _ (neg : Bool) (digits bytes : List ℕ) where
-  pub unread : (r : Bool) → Bytes·Of digits r bytes → not r ≡ true → noSum ≡ sizeLine neg (hexOf digits)
-  unread true h e = let z : _≡_ {A = ℕ} 0 1 = cc in absurd (omega arith)
-  unread false h e = rw h
-
-  pub read : (r : Bool) → Bytes·Of digits r bytes → not r ≡ false → (size : ℕ) → size ≡ bytesAt bytes
-      → exactText neg size ++ (10 ∷ []) ≡ sizeLine neg (hexOf digits)
-  read true h e size s = rw (h, s)
-  read false h e size s = let z : _≡_ {A = ℕ} 0 1 = cc in absurd (omega arith)
+  pub read : (r : Bool) (bytes : List ℕ) → length text ≡ 49 → isSign (getD text 0 0) ≡ true → Bytes·Of (drop 1 text) r bytes → not r ≡ false → (size : ℕ)
+      → size ≡ bytesAt bytes → exactText (eqb (getD text 0 0) 45) size ++ (10 ∷ []) ≡ sumLine text
+  read true bytes h e b n size s =
+      ap (λ (k : ℕ). exactText (eqb (getD text 0 0) 45) k ++ (10 ∷ [])) s
+      ∙ ap (sizeLine (eqb (getD text 0 0) 45)) (sym b) ∙ signed h e
+  read false bytes h e b n size s = let z : _≡_ {A = ℕ} 0 1 = cc in absurd (omega arith)

@@ -13,7 +13,7 @@ use Rattle.terms.specs.declared.Rule.{Rule}
 use Rattle.float.specs.declared.Flagged.{Flagged}
 use Rattle.float.specs.Word.{size88}
 use Rattle.float.specs.Cut.{cut}
-use Rattle.whole.specs.Signed.{withSign}
+use Rattle.numbers.specs.Signed.{withSign}
 use Rattle.terms.specs.declared.Refusal.the-variants.{TooLarge, TooSmall}
 use Rattle.decimals.specs.declared.bring.Brought.{Brought}
 use Rattle.decimals.specs.declared.bring.Brought.the-variants.{Exact, Rounded, Refused}
@@ -28,7 +28,7 @@ use Rattle.decimals.proofs.Scanning.{digit-within}
 use Rattle.decimals.proofs.Fractions.{number-on, number-join}
 
 -- what ends a run of digits
-abbrev Stops : List ℕ → Type 0
+abbrev pub Stops : List ℕ → Type 0
 Stops [] = Unit
 Stops (c ∷ l) = isDigit c ≡ false
 
@@ -55,7 +55,7 @@ scans v i (c ∷ l) m a n s = go (isDigit c) refl a (λ y. scans (v * 10 + (c - 
         rw (x, lt-ltb v (10 ^ 18) small) (k y ∙ ap (Digits (numberFrom (v * 10 + (c - 48)) l)) e)
     go false x y k = let z : _≡_ {A = ℕ} 0 1 = cc in absurd (omega arith)
 
-scans-all : (l m : List ℕ) → allDigits l ≡ true → numberIn l < 10 ^ 19 → Stops m → scanOf (l ++ m) ≡ Digits (numberIn l) (length l)
+pub scans-all : (l m : List ℕ) → allDigits l ≡ true → numberIn l < 10 ^ 19 → Stops m → scanOf (l ++ m) ≡ Digits (numberIn l) (length l)
 scans-all l m a n s = scans 0 0 l m a n s ∙ ap (Digits (numberIn l)) (zero-add (length l))
 
 -- ---- behind a sign s

@@ -1,15 +1,16 @@
 -- What is told of one text: a word of eight hex digits, or a decimal, as a line `WORD DECIMAL`, with a mark where the decimal is not the word's value.
 -- Definitions only. Assumes nothing.
-use Prim.Native.Nat.{ℕ, zero, suc, _+_, _*_, _/_, _%_, _^_}
-use mathlib.Core.Bool.{Bool, true, false, cond}
+use Prim.Native.Nat.{ℕ, _+_, _-_, _*_, _^_, _≤_, _<_}
+use mathlib.Core.Path.{_≡_}
+use mathlib.Core.Bool.{Bool, cond}
 use mathlib.Core.List.{List, [], _∷_, _++_}
 use lib.Dec.{eqb, leb}
-use lib.ListN.{length}
+use lib.ListN.{length, take, drop}
 use Rattle.terms.specs.declared.Rule.{Rule}
 use Rattle.terms.specs.declared.Rule.the-variants.{Cut, Nearest}
 use Rattle.terms.specs.declared.Refusal.{Refusal}
 use Rattle.terms.specs.Refusal.{numberOf}
-use Rattle.listing.specs.Text.{digit, decimal}
+use Rattle.listing.specs.Text.{decimal}
 use Rattle.listing.specs.Listing.{blank, newline, field}
 use Rattle.float.specs.Word.{negative, proper, size88}
 use Rattle.decimals.specs.declared.bring.Brought.{Brought}
@@ -18,20 +19,16 @@ use Rattle.decimals.specs.declared.read.Fault.{Fault}
 use Rattle.decimals.specs.declared.read.Fault.the-variants.{NoDigit, NoPoint, ManyDigits, ManyPlaces, NoEnd}
 use Rattle.decimals.specs.declared.read.Reading.{Reading}
 use Rattle.decimals.specs.declared.read.Reading.the-variants.{Exact, Rounded, Refused, Wrong}
+use Rattle.decimals.specs.declared.line.End.{End}
 use Rattle.decimals.specs.declared.short.Short.{Short}
 use Rattle.decimals.specs.declared.short.Short.the-variants.{Decimal, Nothing}
-use Rattle.decimals.specs.declared.hex.Hex.{Hex}
-use Rattle.decimals.specs.declared.hex.Hex.the-variants.{Number, Nothing as Unread}
+use Rattle.listing.specs.declared.hex.Hex.{Hex}
+use Rattle.listing.specs.declared.hex.Hex.the-variants.{Number, Nothing as Unread}
 use Rattle.decimals.specs.Exact.{point, minus, exactText}
 use Rattle.decimals.specs.Bring.{bringOf}
 use Rattle.decimals.specs.Read.{readOf}
 use Rattle.decimals.specs.Short.{shortOf}
-use Rattle.decimals.specs.Hex.{hexOf}
-
--- the last digits of a number to a base, so many of them
-unfoldable pub digitsTo : ℕ → ℕ → ℕ → List ℕ
-digitsTo base zero n = []
-digitsTo base (suc count) n = digitsTo base count (n / base) ++ (digit (n % base) ∷ [])
+use Rattle.listing.specs.Hex.{hexOf, digitsTo}
 
 -- a word in eight hex digits
 abbrev pub wordText : ℕ → List ℕ
@@ -55,23 +52,32 @@ markOf rule (Is w) = []
 markOf rule (Near w) = ruleMark rule
 markOf rule (Turned r) = []
 
--- a decimal with the mark of what it is brought to
-abbrev pub markedText : Rule → Bool → ℕ → ℕ → ℕ → List ℕ
-markedText rule neg whole fraction places = decimalText neg whole fraction places ++ markOf rule (bringOf rule neg (whole * 10 ^ places + fraction) places)
+-- a mark, or nothing, at the end of a line; a word at its head
+abbrev pub ended : List ℕ → List ℕ
+ended mark = mark ++ (newline ∷ [])
 
--- the value of a word in the fewest places that give it back, marked where that is another value; where there are none, the exact value
-abbrev pub shortText : Rule → ℕ → Short → List ℕ
-shortText rule w (Decimal whole fraction places) = markedText rule (negative w) whole fraction places
-shortText rule w Nothing = exactText (negative w) (size88 w)
+abbrev pub headText : ℕ → List ℕ
+headText w = wordText w ++ (blank ∷ [])
 
--- the value of a word as it is told: exact where that is asked, and of a word that is not proper
-abbrev pub valueText : Rule → Bool → ℕ → List ℕ
-valueText rule exact w =
-    cond (proper w) (cond exact (exactText (negative w) (size88 w)) (shortText rule w (shortOf rule w)))
-    (exactText (negative w) (size88 w) ++ improperMark)
+-- the decimal of the fewest places that gives a word back; none where the exact value is asked, and of a word that is not proper
+abbrev pub briefOf : Rule → Bool → ℕ → Short
+briefOf rule exact w = cond exact Nothing (cond (proper w) (shortOf rule w) Nothing)
+
+-- the value of a word as it is told: that decimal; where there is none, the exact one
+abbrev pub valueText : ℕ → Short → List ℕ
+valueText w (Decimal whole fraction places) = decimalText (negative w) whole fraction places
+valueText w Nothing = exactText (negative w) (size88 w)
+
+-- the mark behind it: that of what the decimal is brought to, or that the word is not proper
+abbrev pub valueMark : Rule → ℕ → Short → List ℕ
+valueMark rule w (Decimal whole fraction places) = markOf rule (bringOf rule (negative w) (whole * 10 ^ places + fraction) places)
+valueMark rule w Nothing = cond (proper w) [] improperMark
+
+abbrev pub wordLineBy : Rule → ℕ → Short → List ℕ
+wordLineBy rule w short = headText w ++ (valueText w short ++ ended (valueMark rule w short))
 
 abbrev pub wordLine : Rule → Bool → ℕ → List ℕ
-wordLine rule exact w = wordText w ++ (blank ∷ (valueText rule exact w ++ (newline ∷ [])))
+wordLine rule exact w = wordLineBy rule w (briefOf rule exact w)
 
 -- `refused N`, `wrong PLACE WHAT`: the place counted from 1, and what is wanted there or too much
 abbrev pub refusedText : List ℕ
@@ -88,43 +94,55 @@ faultText ManyDigits = blank ∷ 100 ∷ 105 ∷ 103 ∷ 105 ∷ 116 ∷ 115 ∷
 faultText ManyPlaces = blank ∷ 112 ∷ 108 ∷ 97 ∷ 99 ∷ 101 ∷ 115 ∷ []
 faultText NoEnd = blank ∷ 101 ∷ 110 ∷ 100 ∷ []
 
--- the lines of a decimal that was brought to a word, of a refusal, of a text that is no decimal
-abbrev pub broughtLine : Rule → ℕ → List ℕ → Brought → List ℕ
-broughtLine rule w text brought = wordText w ++ (blank ∷ (text ++ (markOf rule brought ++ (newline ∷ []))))
-
-abbrev pub refusedLine : Refusal → List ℕ
-refusedLine r = refusedText ++ (field (numberOf r) ++ (newline ∷ []))
-
-abbrev pub wrongLine : Fault → ℕ → List ℕ
-wrongLine fault place = wrongText ++ (field (place + 1) ++ (faultText fault ++ (newline ∷ [])))
-
--- the line of a reading of a text
+-- the line of a reading of a text: the word, the text as it was given and the mark; a refusal's number; what is wrong and where
 abbrev pub readLine : Rule → List ℕ → Reading → List ℕ
-readLine rule text (Exact w) = broughtLine rule w text (Is w)
-readLine rule text (Rounded w) = broughtLine rule w text (Near w)
-readLine rule text (Refused r) = refusedLine r
-readLine rule text (Wrong fault place) = wrongLine fault place
+readLine rule text (Exact w) = headText w ++ (text ++ ended [])
+readLine rule text (Rounded w) = headText w ++ (text ++ ended (ruleMark rule))
+readLine rule text (Refused r) = refusedText ++ (field (numberOf r) ++ ended [])
+readLine rule text (Wrong fault place) = wrongText ++ (field (place + 1) ++ ended (faultText fault))
+
+-- the word of a text of eight hex digits
+abbrev pub wordIn : List ℕ → Hex
+wordIn text = cond (eqb (length text) 8) (hexOf text) Unread
 
 -- the longest text that is looked at, and what is told of a longer one: `wrong 65 digits`
 abbrev pub mostText : ℕ
 mostText = 64
 
--- the line of a text of eight characters: a word, or a decimal
-abbrev pub eightLine : Rule → Bool → List ℕ → Hex → List ℕ
-eightLine rule exact text (Number w) = wordLine rule exact w
-eightLine rule exact text Unread = readLine rule text (readOf rule text)
+abbrev pub readingIn : Rule → List ℕ → Reading
+readingIn rule text = cond (leb (length text) mostText) (readOf rule text) (Wrong ManyDigits mostText)
 
--- the same, where they are still to be read
-abbrev pub textLine : Rule → List ℕ → List ℕ
-textLine rule text = readLine rule text (readOf rule text)
+-- the line of any text: of a word, or of a decimal
+abbrev pub lineBy : Rule → Bool → List ℕ → Hex → List ℕ
+lineBy rule exact text (Number w) = wordLine rule exact w
+lineBy rule exact text Unread = readLine rule text (readingIn rule text)
 
-abbrev pub hexLine : Rule → Bool → List ℕ → List ℕ
-hexLine rule exact text = eightLine rule exact text (hexOf text)
-
--- the line of any text
 unfoldable pub lineOf : Rule → Bool → List ℕ → List ℕ
 unfolding digitsTo
-lineOf rule exact text =
-    cond (leb (length text) mostText)
-    (cond (eqb (length text) 8) (eightLine rule exact text (hexOf text)) (readLine rule text (readOf rule text)))
-    (readLine rule text (Wrong ManyDigits mostText))
+lineOf rule exact text = lineBy rule exact text (wordIn text)
+
+-- ---- as the program holds them: the ends of lines in one table, and one of them as a part of it
+abbrev pub ends : List ℕ
+ends =
+    ended [] ++ ended (ruleMark Cut) ++ ended (ruleMark Nearest) ++ ended improperMark ++ ended (faultText NoDigit) ++ ended (faultText NoPoint)
+    ++ ended (faultText ManyDigits) ++ ended (faultText ManyPlaces) ++ ended (faultText NoEnd)
+
+abbrev pub endIn : End → List ℕ
+endIn at = take (at .to - at .from) (drop (at .from) ends)
+
+pub record EndFits (at : End) : Type 0 where
+  pub ordered : at .from ≤ at .to
+  pub within : at .to ≤ 60
+  pub short : at .to ≤ at .from + 10
+
+-- the end with a mark
+pub record EndOf (mark : List ℕ) (at : End) : Type 0 where
+  pub reads : endIn at ≡ ended mark
+  pub fits : EndFits at
+
+-- a reading of a text of so many characters that its line has room for
+abbrev pub Tellable : ℕ → Reading → Type 0
+Tellable n (Exact w) = n ≤ 64
+Tellable n (Rounded w) = n ≤ 64
+Tellable n (Refused r) = Unit
+Tellable n (Wrong fault place) = place < 2 ^ 63

@@ -5,7 +5,7 @@ use mathlib.Core.Logic.{_⊎_}
 use mathlib.Core.Bool.{Bool, true, false, cond}
 use mathlib.Core.List.{List, [], _∷_, _++_}
 use lib.ListN.{length}
-use Rattle.whole.specs.Signed.{withSign}
+use Rattle.numbers.specs.Signed.{withSign}
 use Rattle.terms.specs.declared.Rule.{Rule}
 use Rattle.float.specs.Word.{negative, size88}
 use Rattle.decimals.specs.declared.bring.Brought.the-variants.{Exact as Is}
@@ -15,8 +15,8 @@ use Rattle.decimals.specs.Exact.{point, minus, exactText}
 use Rattle.decimals.specs.Bring.{bringOf}
 use Rattle.decimals.specs.Read.{isDigit, runLimit, mostPlaces, answered, readOf}
 use Rattle.decimals.specs.Short.{shortOf}
-use Rattle.decimals.specs.declared.hex.Hex.the-variants.{Number}
-use Rattle.decimals.specs.Hex.{hexOf}
+use Rattle.listing.specs.declared.hex.Hex.the-variants.{Number}
+use Rattle.listing.specs.Hex.{hexOf}
 use Rattle.decimals.specs.Line.{wordText, decimalText}
 
 -- all characters are digits

@@ -6,11 +6,13 @@ use mathlib.Core.List.{List, [], _∷_, _++_}
 use lib.Dec.{eqb}
 use lib.ListN.{length, drop, getD}
 use Rattle.listing.specs.Listing.{newline}
-use Rattle.decimals.specs.declared.hex.Hex.{Hex}
-use Rattle.decimals.specs.declared.hex.Hex.the-variants.{Number, Nothing}
-use Rattle.decimals.specs.Magnitude.{bytesAt}
+use Rattle.listing.specs.declared.hex.Hex.{Hex}
+use Rattle.listing.specs.declared.hex.Hex.the-variants.{Number, Nothing}
+use Rattle.decimals.specs.declared.sum.Sum.{Sum}
+use Rattle.decimals.specs.declared.sum.Sum.the-variants.{Signed, Nothing as None}
+use Rattle.decimals.specs.Magnitude.{sizeIn, Fits, bytesAt}
 use Rattle.decimals.specs.Exact.{minus, exactText}
-use Rattle.decimals.specs.Hex.{hexOf}
+use Rattle.listing.specs.Hex.{hexOf}
 use Rattle.decimals.specs.Line.{wrongText}
 
 -- the characters of a sum: a sign and its digits
@@ -19,11 +21,6 @@ sumText = 49
 
 abbrev pub plus : ℕ
 plus = 43
-
--- what was read of hex digits: their number in bytes, the lowest first, or that they are none
-abbrev pub Bytes·Of : List ℕ → Bool → List ℕ → Type 0
-Bytes·Of digits true bytes = hexOf digits ≡ Number (bytesAt bytes)
-Bytes·Of digits false bytes = hexOf digits ≡ Nothing
 
 -- the line of what is no sum: `wrong`
 abbrev pub noSum : List ℕ
@@ -35,9 +32,19 @@ sizeLine neg (Number n) = exactText neg n ++ (newline ∷ [])
 sizeLine neg Nothing = noSum
 
 -- the line of a sum, which begins with + or -
-abbrev pub signedLine : ℕ → List ℕ → List ℕ
-signedLine sign digits =
-    cond (eqb sign plus) (sizeLine false (hexOf digits)) (cond (eqb sign minus) (sizeLine true (hexOf digits)) noSum)
+abbrev pub isSign : ℕ → Bool
+isSign c = cond (eqb c plus) true (eqb c minus)
 
 unfoldable pub sumLine : List ℕ → List ℕ
-sumLine text = cond (eqb (length text) sumText) (signedLine (getD text 0 0) (drop 1 text)) noSum
+sumLine text = cond (eqb (length text) sumText) (cond (isSign (getD text 0 0)) (sizeLine (eqb (getD text 0 0) minus) (hexOf (drop 1 text))) noSum) noSum
+
+-- ---- as the program finds it
+-- what was read of hex digits: their number in bytes, the lowest first, or that they are none
+abbrev pub Bytes·Of : List ℕ → Bool → List ℕ → Type 0
+Bytes·Of digits true bytes = hexOf digits ≡ Number (bytesAt bytes)
+Bytes·Of digits false bytes = hexOf digits ≡ Nothing
+
+-- a sum with its line, or none
+abbrev pub SumOf : List ℕ → Sum → Type 0
+SumOf text (Signed neg size) = (exactText neg (sizeIn size) ++ (newline ∷ []) ≡ sumLine text) × Fits size
+SumOf text None = noSum ≡ sumLine text

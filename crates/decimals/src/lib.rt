@@ -2,7 +2,6 @@
 // the text of the fewest places that gives a word back, and a text of digits and a point as a word by either rule.
 pub mod bring;
 pub mod exact;
-pub mod hex;
 pub mod line;
 pub mod magnitude;
 pub mod read;

@@ -1,10 +1,9 @@
 // What is told of one text: a line `WORD DECIMAL` for a word of eight hex digits and for a decimal, with a mark where
-// the decimal is not the word's value; `refused N` or `wrong PLACE WHAT` where there is no word.
+// the decimal is not the word's value; `refused N` or `wrong PLACE WHAT` where there is no word. The end of a line, a
+// mark or what is wanted, is a part of one table.
 use crate::bring::Brought;
 use crate::bring::bring;
 use crate::exact::add_exact;
-use crate::hex::Hex;
-use crate::hex::read_hex;
 use crate::magnitude::Magnitude;
 use crate::magnitude::of_word;
 use crate::read::Fault;
@@ -15,43 +14,85 @@ use crate::short::shortest;
 use float::word::is_negative;
 use float::word::is_proper;
 use listing::add_field;
+use listing::hex::Hex;
+use listing::hex::add_digits;
+use listing::hex::read_hex;
 use listing::text::add;
 use listing::text::add_decimal;
-use listing::text::digit;
 use terms::Refusal;
 use terms::Rule;
 ghost use mathlib.Core.Path.{_≡_};
 ghost use mathlib.Core.Bool.{cond};
-ghost use mathlib.Core.List.{[], _∷_};
+ghost use mathlib.Core.List.{[], _∷_, _++_};
 ghost use Prim.Native.Nat.{_+_, _*_, _^_, _≤_, _<_};
 ghost use lib.ListN.{length, take};
 ghost use Rattle.io.specs.Counts.{Counts};
 ghost use Rattle.listing.specs.Text.{Adds};
-ghost use Rattle.float.specs.Word.{negative, size88};
+ghost use Rattle.listing.specs.Listing.{field};
+ghost use Rattle.float.specs.Word.{size88};
 ghost use Rattle.decimals.specs.Magnitude.{sizeIn, Fits};
-ghost use Rattle.decimals.specs.Exact.{minus, exactText};
-ghost use Rattle.decimals.specs.Short.{Brief, shortOf};
-ghost use Rattle.decimals.specs.Read.{Placed};
-ghost use Rattle.decimals.specs.Line.{digitsTo, wordText, decimalText, ruleMark, markOf, markedText, shortText};
-ghost use Rattle.decimals.specs.Line.{valueText, wordLine, broughtLine, refusedLine, faultText};
-ghost use Rattle.decimals.specs.Line.{wrongLine, readLine, textLine, hexLine, lineOf};
+ghost use Rattle.decimals.specs.Exact.{minus};
+ghost use Rattle.decimals.specs.Short.{Brief};
+ghost use Rattle.decimals.specs.Line.{headText, decimalText, ruleMark, markOf, briefOf, valueText, valueMark};
+ghost use Rattle.decimals.specs.Line.{wordLine, faultText, Tellable, readLine, wordIn, readingIn, lineOf};
+ghost use Rattle.decimals.specs.Line.{endIn, EndFits, EndOf};
 
 // Room for the line of any text.
 pub const LINE_ROOM: usize = 256;
 // The longest text that is looked at.
 const MOST_TEXT: usize = 64;
 
-// The last digits of a number to a base, so many of them.
-pub fn add_digits(out: &mut [u8], place: usize, n: u64, base: u64, count: usize) -> usize
-    requires { ⌜ (0 < base) × (base ≤ 16) × (place + count ≤ length (now out)) ⌝ }
-    ensures { λ r. ⌜ Adds (digitsTo base count n) (now (out .entry)) (now (out .exit)) place r ⌝ }
+// The ends of lines in turn: none, the marks of a word, what is wanted or too much in a text that is no decimal.
+const ENDS: [u8; 60] = *b"\n cut\n rounded\n improper\n digit\n point\n digits\n places\n end\n";
+
+// Where one of them begins and ends.
+pub struct End {
+    pub from: usize,
+    pub to: usize,
+}
+
+// The end behind a decimal that a rule brought to another value.
+fn rule_end(rule: Rule) -> End
+    ensures { λ r. ⌜ EndOf (ruleMark rule) r ⌝ }
 {
-    if count == 0 {
-        return place;
+    match rule {
+        Rule::Cut => End { from: 1, to: 6 },
+        Rule::Nearest => End { from: 6, to: 15 },
     }
-    let next = add_digits(out, place, n / base, base, count - 1);
-    let last = [digit((n % base) as u8)];
-    add(out, next, &last)
+}
+
+// The end behind what was brought to a word.
+fn mark_end(rule: Rule, brought: Brought) -> End
+    ensures { λ r. ⌜ EndOf (markOf rule brought) r ⌝ }
+{
+    match brought {
+        Brought::Exact(_) => End { from: 0, to: 1 },
+        Brought::Rounded(_) => rule_end(rule),
+        Brought::Refused(_) => End { from: 0, to: 1 },
+    }
+}
+
+// The end behind the place of a fault.
+fn fault_end(fault: Fault) -> End
+    ensures { λ r. ⌜ EndOf (faultText fault) r ⌝ }
+{
+    match fault {
+        Fault::NoDigit => End { from: 25, to: 32 },
+        Fault::NoPoint => End { from: 32, to: 39 },
+        Fault::ManyDigits => End { from: 39, to: 47 },
+        Fault::ManyPlaces => End { from: 47, to: 55 },
+        Fault::NoEnd => End { from: 55, to: 60 },
+    }
+}
+
+// The end of a line.
+fn add_end(out: &mut [u8], place: usize, end: End) -> usize
+    requires { ⌜ EndFits end × (place + 10 ≤ length (now out)) ⌝ }
+    ensures { λ r. ⌜ Adds (endIn end) (now (out .entry)) (now (out .exit)) place r ⌝ }
+{
+    let from = end.from;
+    let to = end.to;
+    add(out, place, &ENDS[from..to])
 }
 
 // A minus sign or none.
@@ -84,75 +125,17 @@ fn add_places(
     add_digits(out, c, fraction, 10, places as usize)
 }
 
-// The mark of a rule.
-fn add_rule(out: &mut [u8], place: usize, rule: Rule) -> usize
-    requires { ⌜ place + 8 ≤ length (now out) ⌝ }
-    ensures { λ r. ⌜ Adds (ruleMark rule) (now (out .entry)) (now (out .exit)) place r × (r ≤ place + 8) ⌝ }
-{
-    match rule {
-        Rule::Cut => add(out, place, b" cut"),
-        Rule::Nearest => add(out, place, b" rounded"),
-    }
-}
-
-// The mark of what was brought to a word.
-fn add_mark(out: &mut [u8], place: usize, rule: Rule, brought: Brought) -> usize
-    requires { ⌜ place + 8 ≤ length (now out) ⌝ }
-    ensures { λ r. ⌜ Adds (markOf rule brought) (now (out .entry)) (now (out .exit)) place r × (r ≤ place + 8) ⌝ }
-{
-    match brought {
-        Brought::Exact(_) => place,
-        Brought::Rounded(_) => add_rule(out, place, rule),
-        Brought::Refused(_) => place,
-    }
-}
-
-// A decimal and its mark.
-fn add_marked(
-    out: &mut [u8],
-    place: usize,
-    rule: Rule,
-    neg: bool,
-    whole: u64,
-    fraction: u64,
-    places: u32,
-) -> usize
-    requires { ⌜ (places ≤ 27) × (fraction < 10 ^ places) × (fraction < 10 ^ 19) × (place + 57 ≤ length (now out)) ⌝ }
-    ensures { λ r. ⌜ Adds (markedText rule neg whole fraction places) (now (out .entry)) (now (out .exit)) place r ⌝ }
-    ensures { λ r. ⌜ r ≤ place + 57 ⌝ }
-{
-    let next = add_places(out, place, neg, whole, fraction, places);
-    add_mark(out, next, rule, bring(rule, neg, whole, fraction, places))
-}
-
-// The value of a word as a short decimal, or the exact one where there is none.
-fn add_short(
-    out: &mut [u8],
-    place: usize,
-    rule: Rule,
-    word: u32,
-    m: Magnitude,
-    short: Short,
-) -> usize
-    requires { ⌜ Brief short × (sizeIn m ≡ size88 word) × Fits m × (place + 122 ≤ length (now out)) ⌝ }
-    ensures { λ r. ⌜ Adds (shortText rule word short) (now (out .entry)) (now (out .exit)) place r ⌝ }
-    ensures { λ r. ⌜ r ≤ place + 122 ⌝ }
-{
-    match short {
-        Short::Decimal {
-            whole,
-            fraction,
-            places,
-        } => add_marked(out, place, rule, is_negative(word), whole, fraction, places),
-        Short::Nothing => add_exact(out, place, is_negative(word), m),
-    }
-}
-
-// The short decimal of a word of this magnitude.
-fn short_of(rule: Rule, word: u32, m: Magnitude) -> Short
+// The short decimal of a word of this magnitude, none where the exact value is asked or the word is not proper.
+fn brief_of(rule: Rule, exact: bool, word: u32, m: Magnitude) -> Short
     requires { ⌜ (sizeIn m ≡ size88 word) × Fits m ⌝ }
-    ensures { λ r. ⌜ (r ≡ shortOf rule word) × Brief r ⌝ }
+    ensures { λ r. ⌜ (r ≡ briefOf rule exact word) × Brief r ⌝ }
 {
+    if exact {
+        return Short::Nothing;
+    }
+    if !is_proper(word) {
+        return Short::Nothing;
+    }
     let whole = m.whole;
     let rest = m.rest;
     shortest(
@@ -163,21 +146,51 @@ fn short_of(rule: Rule, word: u32, m: Magnitude) -> Short
     )
 }
 
-// The value of a word, exact or short.
-fn add_value(out: &mut [u8], place: usize, rule: Rule, exact: bool, word: u32) -> usize
-    requires { ⌜ place + 131 ≤ length (now out) ⌝ }
-    ensures { λ r. ⌜ Adds (valueText rule exact word) (now (out .entry)) (now (out .exit)) place r ⌝ }
-    ensures { λ r. ⌜ r ≤ place + 131 ⌝ }
+// The end behind the value of a word: the mark of what its short decimal is brought to, or that it is not proper.
+fn value_end(rule: Rule, word: u32, short: Short) -> End
+    requires { ⌜ Brief short ⌝ }
+    ensures { λ r. ⌜ EndOf (valueMark rule word short) r ⌝ }
 {
-    let m = of_word(word);
-    if !is_proper(word) {
-        let next = add_exact(out, place, is_negative(word), m);
-        return add(out, next, b" improper");
+    match short {
+        Short::Decimal {
+            whole,
+            fraction,
+            places,
+        } => mark_end(
+            rule,
+            bring(rule, is_negative(word), whole, fraction, places),
+        ),
+        Short::Nothing => {
+            if is_proper(word) {
+                return End { from: 0, to: 1 };
+            }
+            End { from: 15, to: 25 }
+        }
     }
-    if exact {
-        return add_exact(out, place, is_negative(word), m);
+}
+
+// The value of a word as a short decimal, or the exact one where there is none.
+fn add_value(out: &mut [u8], place: usize, word: u32, m: Magnitude, short: Short) -> usize
+    requires { ⌜ Brief short × (sizeIn m ≡ size88 word) × Fits m × (place + 122 ≤ length (now out)) ⌝ }
+    ensures { λ r. ⌜ Adds (valueText word short) (now (out .entry)) (now (out .exit)) place r × (r ≤ place + 122) ⌝ }
+{
+    match short {
+        Short::Decimal {
+            whole,
+            fraction,
+            places,
+        } => add_places(out, place, is_negative(word), whole, fraction, places),
+        Short::Nothing => add_exact(out, place, is_negative(word), m),
     }
-    add_short(out, place, rule, word, m, short_of(rule, word, m))
+}
+
+// A word at the head of a line.
+fn add_head(out: &mut [u8], word: u32) -> usize
+    requires { ⌜ 9 ≤ length (now out) ⌝ }
+    ensures { λ r. ⌜ Adds (headText word) (now (out .entry)) (now (out .exit)) 0 r × (r ≡ 9) ⌝ }
+{
+    let a = add_digits(out, 0, word as u64, 16, 8);
+    add(out, a, b" ")
 }
 
 // The line of a word.
@@ -185,92 +198,71 @@ fn add_word_line(out: &mut [u8], rule: Rule, exact: bool, word: u32) -> usize
     requires { ⌜ 256 ≤ length (now out) ⌝ }
     ensures { λ r. ⌜ Adds (wordLine rule exact word) (now (out .entry)) (now (out .exit)) 0 r ⌝ }
 {
-    let a = add_digits(out, 0, word as u64, 16, 8);
-    let b = add(out, a, b" ");
-    let c = add_value(out, b, rule, exact, word);
-    add(out, c, b"\n")
+    let m = of_word(word);
+    let short = brief_of(rule, exact, word, m);
+    let end = value_end(rule, word, short);
+    let a = add_head(out, word);
+    let b = add_value(out, a, word, m, short);
+    add_end(out, b, end)
 }
 
-// The line of a decimal that was brought to the word, with its mark.
-fn add_brought_line(out: &mut [u8], rule: Rule, word: u32, text: &[u8], brought: Brought) -> usize
-    requires { ⌜ (length (now text) ≤ 64) × (256 ≤ length (now out)) ⌝ }
-    ensures { λ r. ⌜ Adds (broughtLine rule word (now (text .entry)) brought) (now (out .entry))
-        (now (out .exit)) 0 r ⌝ }
+// The line of a decimal that was brought to the word.
+fn add_brought_line(out: &mut [u8], word: u32, text: &[u8], end: End) -> usize
+    requires { ⌜ EndFits end × (length (now text) ≤ 64) × (256 ≤ length (now out)) ⌝ }
+    ensures { λ r. ⌜ Adds (headText word ++ (now (text .entry) ++ endIn end)) (now (out .entry)) (now (out .exit)) 0 r
+        ⌝ }
 {
-    let a = add_digits(out, 0, word as u64, 16, 8);
-    let b = add(out, a, b" ");
-    let c = add(out, b, text);
-    let d = add_mark(out, c, rule, brought);
-    add(out, d, b"\n")
+    let a = add_head(out, word);
+    let b = add(out, a, text);
+    add_end(out, b, end)
 }
 
-// The line of a refusal.
-fn add_refused(out: &mut [u8], refusal: Refusal) -> usize
-    requires { ⌜ 256 ≤ length (now out) ⌝ }
-    ensures { λ r. ⌜ Adds (refusedLine refusal) (now (out .entry)) (now (out .exit)) 0 r ⌝ }
+// A line that begins with what it tells, and a number.
+fn add_noted(out: &mut [u8], head: &[u8], n: u64, end: End) -> usize
+    requires { ⌜ EndFits end × (length (now head) ≤ 8) × (256 ≤ length (now out)) ⌝ }
+    ensures { λ r. ⌜ Adds (now (head .entry) ++ (field n ++ endIn end)) (now (out .entry)) (now (out .exit)) 0 r ⌝ }
 {
-    let a = add(out, 0, b"refused");
-    let b = add_field(out, a, terms::number(refusal) as u64);
-    add(out, b, b"\n")
-}
-
-// What is wanted, or too much.
-fn add_fault(out: &mut [u8], place: usize, fault: Fault) -> usize
-    requires { ⌜ place + 8 ≤ length (now out) ⌝ }
-    ensures { λ r. ⌜ Adds (faultText fault) (now (out .entry)) (now (out .exit)) place r × (r ≤ place + 8) ⌝ }
-{
-    match fault {
-        Fault::NoDigit => add(out, place, b" digit"),
-        Fault::NoPoint => add(out, place, b" point"),
-        Fault::ManyDigits => add(out, place, b" digits"),
-        Fault::ManyPlaces => add(out, place, b" places"),
-        Fault::NoEnd => add(out, place, b" end"),
-    }
-}
-
-// The line of a text that is no decimal.
-fn add_wrong(out: &mut [u8], fault: Fault, at: usize) -> usize
-    requires { ⌜ (at < 2 ^ 63) × (256 ≤ length (now out)) ⌝ }
-    ensures { λ r. ⌜ Adds (wrongLine fault at) (now (out .entry)) (now (out .exit)) 0 r ⌝ }
-{
-    let a = add(out, 0, b"wrong");
-    let b = add_field(out, a, at as u64 + 1);
-    let c = add_fault(out, b, fault);
-    add(out, c, b"\n")
+    let a = add(out, 0, head);
+    let b = add_field(out, a, n);
+    add_end(out, b, end)
 }
 
 // The line of a reading.
 fn add_read_line(out: &mut [u8], rule: Rule, text: &[u8], reading: Reading) -> usize
-    requires { ⌜ Placed reading × (length (now text) ≤ 64) × (256 ≤ length (now out)) ⌝ }
+    requires { ⌜ Tellable (length (now text)) reading × (256 ≤ length (now out)) ⌝ }
     ensures { λ r. ⌜ Adds (readLine rule (now (text .entry)) reading) (now (out .entry)) (now (out .exit)) 0 r ⌝ }
 {
     match reading {
-        Reading::Exact(word) => add_brought_line(out, rule, word, text, Brought::Exact(word)),
-        Reading::Rounded(word) => add_brought_line(out, rule, word, text, Brought::Rounded(word)),
-        Reading::Refused(refusal) => add_refused(out, refusal),
-        Reading::Wrong(fault, at) => add_wrong(out, fault, at),
+        Reading::Exact(word) => add_brought_line(out, word, text, End { from: 0, to: 1 }),
+        Reading::Rounded(word) => add_brought_line(out, word, text, rule_end(rule)),
+        Reading::Refused(refusal) => add_noted(
+            out,
+            b"refused",
+            terms::number(refusal) as u64,
+            End { from: 0, to: 1 },
+        ),
+        Reading::Wrong(fault, at) => add_noted(out, b"wrong", at as u64 + 1, fault_end(fault)),
     }
 }
 
-// The line of a text that is read as a decimal.
-fn add_decimal_line(out: &mut [u8], rule: Rule, text: &[u8]) -> usize
-    requires { ⌜ (length (now text) ≤ 64) × (256 ≤ length (now out)) ⌝ }
-    ensures { λ r. ⌜ Adds (textLine rule (now (text .entry))) (now (out .entry)) (now (out .exit)) 0 r ⌝ }
+// The word of a text of eight hex digits.
+fn word_in(text: &[u8]) -> Hex
+    ensures { λ r. ⌜ r ≡ wordIn (now (text .entry)) ⌝ }
 {
-    let reading = read(rule, text);
-    add_read_line(out, rule, text, reading)
+    if text.len() == 8 {
+        return read_hex(text);
+    }
+    Hex::Nothing
 }
 
-// The line of a text of eight characters.
-fn add_eight(out: &mut [u8], rule: Rule, exact: bool, text: &[u8]) -> usize
-    requires { ⌜ (length (now text) ≡ 8) × (256 ≤ length (now out)) ⌝ }
-    ensures { λ r. ⌜ Adds (hexLine rule exact (now (text .entry))) (now (out .entry)) (now (out .exit)) 0 r ⌝ }
+// The reading of a text, none of one that is too long.
+fn reading_in(rule: Rule, text: &[u8]) -> Reading
+    ensures { λ r. ⌜ (r ≡ readingIn rule (now (text .entry))) × Tellable (length (now (text .entry))) r ⌝ }
 {
-    let hex = read_hex(text);
-    match hex {
-        Hex::Number(word) => add_word_line(out, rule, exact, word),
-        Hex::Nothing => add_decimal_line(out, rule, text),
+    if MOST_TEXT < text.len() {
+        return Reading::Wrong(Fault::ManyDigits, MOST_TEXT);
     }
+    read(rule, text)
 }
 
 // The line of a text, at the front of the lent one: the answer says how many bytes.
@@ -278,11 +270,12 @@ pub fn tell(rule: Rule, exact: bool, text: &[u8], out: &mut [u8; LINE_ROOM]) -> 
     ensures { λ r. ⌜ Counts r (now (out .exit)) ⌝ }
     ensures { λ r. ⌜ take r (now (out .exit)) ≡ lineOf rule exact (now (text .entry)) ⌝ }
 {
-    if MOST_TEXT < text.len() {
-        return add_wrong(out, Fault::ManyDigits, MOST_TEXT);
+    let hex = word_in(text);
+    match hex {
+        Hex::Number(word) => add_word_line(out, rule, exact, word),
+        Hex::Nothing => {
+            let reading = reading_in(rule, text);
+            add_read_line(out, rule, text, reading)
+        }
     }
-    if text.len() == 8 {
-        return add_eight(out, rule, exact, text);
-    }
-    add_decimal_line(out, rule, text)
 }

@@ -1,21 +1,25 @@
 // The exact text of a sum as the figures of sheets give it: a sign and 48 hex digits of its magnitude times 2^88.
 use crate::exact::add_exact;
-use crate::hex::digit_value;
 use crate::line::LINE_ROOM;
+use crate::magnitude::Magnitude;
 use crate::magnitude::of_bytes;
+use listing::hex::digit_value;
 use listing::text::add;
 ghost use mathlib.Core.Path.{_≡_};
-ghost use Prim.Native.Nat.{_≤_};
 ghost use lib.ListN.{length, take};
 ghost use Rattle.io.specs.Counts.{Counts};
-ghost use Rattle.listing.specs.Text.{Adds};
-ghost use Rattle.decimals.specs.Hex.{hexOf};
-ghost use Rattle.decimals.specs.Sum.{Bytes·Of, sizeLine, sumLine};
+ghost use Rattle.decimals.specs.Sum.{Bytes·Of, isSign, SumOf, sumLine};
 
 // The bytes of a sum, and its hex digits behind the sign.
 const SUM_BYTES: usize = 24;
 
 const SUM_DIGITS: usize = 48;
+
+// A magnitude with its sign, or none.
+pub enum Sum {
+    Signed(bool, Magnitude),
+    Nothing,
+}
 
 // The bytes that 48 hex digits stand for, the lowest first; whether they are all digits.
 fn read_bytes(digits: &[u8], bytes: &mut [u8; SUM_BYTES]) -> bool
@@ -40,17 +44,32 @@ fn read_bytes(digits: &[u8], bytes: &mut [u8; SUM_BYTES]) -> bool
     true
 }
 
-// The line of the magnitude that 48 hex digits stand for, with a sign.
-fn add_size(out: &mut [u8], neg: bool, digits: &[u8]) -> usize
-    requires { ⌜ (length (now digits) ≡ 48) × (256 ≤ length (now out)) ⌝ }
-    ensures { λ r. ⌜ Adds (sizeLine neg (hexOf (now (digits .entry)))) (now (out .entry)) (now (out .exit)) 0 r ⌝ }
+// Whether a character is the sign of a sum.
+fn is_sign(c: u8) -> bool
+    ensures { λ r. ⌜ r ≡ isSign c ⌝ }
 {
-    let mut bytes = [0u8; SUM_BYTES];
-    if !read_bytes(digits, &mut bytes) {
-        return add(out, 0, b"wrong\n");
+    if c == b'+' {
+        return true;
     }
-    let next = add_exact(out, 0, neg, of_bytes(bytes));
-    add(out, next, b"\n")
+    c == b'-'
+}
+
+// The sum that a text gives.
+fn read_sum(text: &[u8]) -> Sum
+    ensures { λ r. ⌜ SumOf (now (text .entry)) r ⌝ }
+{
+    if text.len() != 1 + SUM_DIGITS {
+        return Sum::Nothing;
+    }
+    let sign = text[0];
+    if !is_sign(sign) {
+        return Sum::Nothing;
+    }
+    let mut bytes = [0u8; SUM_BYTES];
+    if !read_bytes(&text[1..], &mut bytes) {
+        return Sum::Nothing;
+    }
+    Sum::Signed(sign == b'-', of_bytes(bytes))
 }
 
 // The line of a sum, at the front of the lent one: the answer says how many bytes.
@@ -58,14 +77,12 @@ pub fn tell_sum(text: &[u8], out: &mut [u8; LINE_ROOM]) -> usize
     ensures { λ r. ⌜ Counts r (now (out .exit)) ⌝ }
     ensures { λ r. ⌜ take r (now (out .exit)) ≡ sumLine (now (text .entry)) ⌝ }
 {
-    if text.len() != 1 + SUM_DIGITS {
-        return add(out, 0, b"wrong\n");
+    let sum = read_sum(text);
+    match sum {
+        Sum::Signed(neg, size) => {
+            let next = add_exact(out, 0, neg, size);
+            add(out, next, b"\n")
+        }
+        Sum::Nothing => add(out, 0, b"wrong\n"),
     }
-    if text[0] == b'+' {
-        return add_size(out, false, &text[1..]);
-    }
-    if text[0] == b'-' {
-        return add_size(out, true, &text[1..]);
-    }
-    add(out, 0, b"wrong\n")
 }

@@ -2,13 +2,13 @@
 -- same places. Assumes nothing.
 use mathlib.Core.Path.{_≡_, refl, ap, ap₂, _∙_}
 use mathlib.Core.Logic.{_⊎_, inl, inr, ⊎-elim}
-use mathlib.Core.Bool.{Bool, true, false, cond, not, false≢true}
+use mathlib.Core.Bool.{Bool, true, false, cond, not, _&&_, Bool·beq, false≢true}
 use mathlib.Core.List.{List, [], _∷_}
 use Prim.Native.Nat.{ℕ, _+_, _*_, _/_, _%_, _≤_, _<_, max}
 use native.Mathlib.Omega.{arith}
 use lib.Bits.{bitOr, or-lt, or-step, or-add-and, and-le-r}
-use lib.Dec.{eqb, ltb, lit≤}
-use borrow.Author.Tests.{le-ltb, ltb-false, ne-eqb, eqb-true, eqb-false, not-true, lt-leb}
+use lib.Dec.{eqb, ltb, leb, lit≤}
+use borrow.Author.Tests.{lt-ltb, le-ltb, ltb-false, eq-eqb, ne-eqb, eqb-true, eqb-false, not-true, lt-leb, leb-true, leb-false}
 use Rattle.terms.specs.declared.Refusal.the-variants.{Done}
 use Rattle.terms.specs.Refusal.{numberOf}
 use Rattle.terms.specs.Settings.{Settings}
@@ -50,6 +50,25 @@ pub marked-memory : (bits code : ℕ) → Marked bits code → isMemory bits cod
 marked-memory bits code h =
     let e = h .even in
     rw (le-ltb 30 bits (h .in-places), ne-eqb (bits % 2) 1 (λ o. omega arith), ne-eqb bits 0 (h .some), ne-eqb code 0 (h .coded))
+
+-- the tests of two bytes at once are the tests one after the other
+pub memory-tests : (bits code : ℕ) → ((leb bits 30 && eqb (bits % 2) 0) && Bool·beq (eqb bits 0) (eqb code 0)) ≡ isMemory bits code
+memory-tests bits code = by (leb bits 30) (eqb (bits % 2) 0) refl refl
+  where
+    same : (x y : Bool) → Bool·beq x y ≡ cond x y (not y)
+    same true true = refl
+    same true false = refl
+    same false true = refl
+    same false false = refl
+
+    by : (x y : Bool) → leb bits 30 ≡ x → eqb (bits % 2) 0 ≡ y → ((x && y) && Bool·beq (eqb bits 0) (eqb code 0)) ≡ isMemory bits code
+    by false y a b = rw (lt-ltb 30 bits (leb-false bits 30 a))
+    by true false a b =
+        let odd = eqb-false (bits % 2) 0 b in
+        rw (le-ltb 30 bits (leb-true bits 30 a), eq-eqb (bits % 2) 1 (omega arith))
+    by true true a b =
+        let even = eqb-true (bits % 2) 0 b in
+        rw (le-ltb 30 bits (leb-true bits 30 a), ne-eqb (bits % 2) 1 (λ o. omega arith)) (same (eqb bits 0) (eqb code 0))
 
 -- a memory whose two bytes stand for one
 pub record GoodMemory (m : Memory) : Type 0 where
@@ -134,10 +153,6 @@ memory-stays-good c Recall h = either-way (λ (a : CardAnswer). GoodMemory (a .c
 memory-stays-good c Forget h =
     either-way (λ (a : CardAnswer). GoodMemory (a .card .memory)) c
     (record { refusal = Done; byte = 0; card = cardWith (c .on) (c .chip) emptyMemory }) h empty-good
-
-pub memory-stays-good-all : (c : Card) (es : List Event) → GoodMemory (c .memory) → GoodMemory (afterAll c es .memory)
-memory-stays-good-all c [] h = h
-memory-stays-good-all c (e ∷ es) h = memory-stays-good-all (eventIn c e .card) es (memory-stays-good c e h)
 
 -- ---- a card that 13 does not turn away
 pub record ReadyCard (c : Card) : Type 0 where

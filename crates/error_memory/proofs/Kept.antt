@@ -38,10 +38,6 @@ settings-stay c Recall = either-way (λ (a : CardAnswer). a .card .on ≡ c .on)
 settings-stay c Forget =
     either-way (λ (a : CardAnswer). a .card .on ≡ c .on) c (record { refusal = Done; byte = 0; card = cardWith (c .on) (c .chip) emptyMemory }) refl refl
 
-pub settings-stay-all : (c : Card) (es : List Event) → afterAll c es .on ≡ c .on
-settings-stay-all c [] = refl
-settings-stay-all c (e ∷ es) = settings-stay-all (eventIn c e .card) es ∙ settings-stay c e
-
 -- ---- the chip does not look at the memory
 -- events of the chip leave the chip that they leave without a memory
 pub chip-alone : (c : Card) (es : List ChipEvent) → afterAll c (map Chip es) .chip ≡ afterEvents (c .on) (c .chip) es

@@ -2,4 +2,5 @@
 pub mod Event
 pub mod Memory
 pub mod History
+-- how the code holds it
 pub mod Held

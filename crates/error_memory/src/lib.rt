@@ -61,14 +61,5 @@ pub fn remember(m: Memory, code: u8, status: u8) -> Memory
 pub fn is_memory(bits: u8, code: u8) -> bool
     ensures { λ r. ⌜ r ≡ isMemory bits code ⌝ }
 {
-    if 30 < bits {
-        return false;
-    }
-    if bits % 2 == 1 {
-        return false;
-    }
-    if bits == 0 {
-        return code == 0;
-    }
-    code != 0
+    (bits <= 30) & (bits % 2 == 0) & ((bits == 0) == (code == 0))
 }

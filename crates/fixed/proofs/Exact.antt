@@ -10,11 +10,11 @@ use lib.Signed.{mag, quotZ, shrZ}
 use lib.Dec.{leb, ltb, eqb}
 use lib.Ieee.{unlike}
 use borrow.Author.Tests.{lt-ltb, le-leb, lt-leb, eq-eqb, eqb-false, not-false}
-use Rattle.whole.specs.Signed.{withSign}
-use Rattle.whole.proofs.Differences.{either}
-use Rattle.whole.proofs.Signs.{opposite}
+use Rattle.numbers.specs.Signed.{withSign}
+use Rattle.numbers.proofs.Differences.{either}
+use Rattle.numbers.proofs.Signs.{opposite}
 use Rattle.fixed.specs.declared.Fixed.{Fixed}
-use Rattle.whole.proofs.Signs.{size-of-signed}
+use Rattle.numbers.proofs.Signs.{size-of-signed}
 use Rattle.fixed.specs.Parts.{Words, negativeAt, magnitudeAt}
 use Rattle.fixed.specs.Fixed.{signed, fits, low, overflowIf, outcome, eitherLeast, addOverflow, subOverflow, mulOverflow, add, sub, mul, muu, div, chs}
 use Rattle.fixed.specs.Fixed.{isLeast, unlessLeast}

@@ -9,9 +9,14 @@ use lib.IntN.{ℤ, pos, negsuc, subℕ, _+ℤ_, _*ℤ_}
 use lib.Signed.{mag, shrZ}
 use lib.Dec.{leb, ltb}
 use borrow.Author.Tests.{lt-ltb, le-ltb, le-leb, lt-leb, ltb-true}
-use Rattle.whole.specs.Signed.{withSign}
-use Rattle.whole.proofs.Differences.{either, sub-lt, sub-ge, sum-differences, neg-pos, pos-is}
+use Rattle.numbers.specs.Signed.{withSign}
+use Rattle.numbers.proofs.Differences.{either, sub-lt, sub-ge, sum-differences, neg-pos, pos-is}
 use Rattle.fixed.specs.Fixed.{signed, fits, LowBits, low}
+use Rattle.fixed.specs.Parts.{negativeAt}
+
+-- a word below h is not negative, and no other
+pub not-negative : (h w : ℕ) → ltb w h ≡ not (negativeAt h w)
+not-negative h w = ⊎-elim (λ (k : w < h). rw (lt-leb h w k, lt-ltb w h k)) (λ (k : h ≤ w). rw (le-leb h w k, le-ltb w h k)) (either w h)
 
 -- ---- a difference in the range, and its low bits
 -- `mag` is k both for k and for -(k + 1), and those from -h to h - 1 have it below h

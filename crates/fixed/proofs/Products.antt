@@ -7,14 +7,15 @@ use native.Mathlib.Omega.{arith}
 use mathlib.Core.Bool.{Bool, true, false, not}
 use lib.IntN.{ℤ, negℤ, _*ℤ_}
 use lib.Signed.{quotZ, shrZ}
-use lib.Dec.{eqb, lit<}
+use lib.Dec.{eqb, ltb, lit<}
 use lib.Ieee.{unlike}
-use borrow.Author.Tests.{lt-ltb, le-ltb, le-leb, lt-leb, eq-eqb, ne-eqb, leb-true, leb-false}
-use Rattle.whole.specs.Signed.{withSign}
-use Rattle.whole.proofs.Differences.{either, same, neg-pos}
-use Rattle.whole.proofs.Signs.{zero-signed, times, opposite}
+use borrow.Author.Tests.{lt-ltb, le-ltb, le-leb, lt-leb, eq-eqb, ne-eqb}
+use Rattle.numbers.specs.Signed.{withSign}
+use Rattle.numbers.proofs.Differences.{either, same, neg-pos}
+use Rattle.numbers.proofs.Signs.{zero-signed, times, opposite}
 use Rattle.fixed.specs.Parts.{Words, negativeAt, magnitudeAt}
 use Rattle.fixed.specs.Fixed.{signed, fits, low, overflowIf, outcome, eitherLeast, mul, muu, div, chs}
+use Rattle.fixed.proofs.LowBits.{not-negative}
 
 pub upper-lt : (h m : ℕ) → 0 < h → m < 2 * h * h → m / (2 * h) < h
 upper-lt h m p l = div-lt-iff-lt-mul {k = 2 * h} {x = m} {y = h} (omega arith) .1 (omega arith)
@@ -40,11 +41,11 @@ upper-neg h (suc m) s t p l n =
 
 -- ---- a word by its sign and its magnitude
 
-pub abs-neg : (h w : ℕ) → true ≡ negativeAt h w → (2 * h - w ≡ magnitudeAt h w) × (2 * h - w ≤ h)
-abs-neg h w e = (rw (← e), omega (arith, leb-true h w (sym e)))
+pub abs-neg : (h w : ℕ) → h ≤ w → (2 * h - w ≡ magnitudeAt h w) × (2 * h - w ≤ h)
+abs-neg h w e = (rw (le-leb h w e), omega arith)
 
-pub abs-pos : (h w : ℕ) → false ≡ negativeAt h w → (w ≡ magnitudeAt h w) × (w ≤ h)
-abs-pos h w e = (rw (← e), omega (arith, leb-false h w (sym e)))
+pub abs-pos : (h w : ℕ) → w < h → (w ≡ magnitudeAt h w) × (w ≤ h)
+abs-pos h w e = (rw (lt-leb h w e), omega arith)
 
 pub signed-withSign : (h w : ℕ) → w < 2 * h → signed h w ≡ withSign (negativeAt h w) (magnitudeAt h w)
 signed-withSign h w l =
@@ -112,11 +113,11 @@ module _ (h b a : ℕ) (W : Words h b a) where
     unfolding div
     div-all w n p = rw (ne-eqb a 0 n, sym E ∙ F) (λ i. outcome ((p ∙ ap (low h) exact-quotient) i) 0 false)
 
-pub chs-all : (h a w e x : ℕ) (s : Bool) → a < 2 * h → s ≡ negativeAt h a → x ≡ magnitudeAt h a → w ≡ low h (withSign (not s) x) → e ≡ overflowIf (eqb a h)
+pub chs-all : (h a w e x : ℕ) → a < 2 * h → x ≡ magnitudeAt h a → w ≡ low h (withSign (ltb a h) x) → e ≡ overflowIf (eqb a h)
     → outcome w e false ≡ chs h a
 unfolding chs
-chs-all h a w e x s l S X p q =
-    λ i. outcome ((p ∙ (λ j. low h (withSign (not (S j)) (X j)))
+chs-all h a w e x l X p q =
+    λ i. outcome ((p ∙ (λ j. low h (withSign (not-negative h a j) (X j)))
     ∙ ap (low h) (sym (ap negℤ (signed-withSign h a l) ∙ opposite (negativeAt h a) (magnitudeAt h a)))) i) (q i) false
 
 pub abs-some : (h w x : ℕ) → x ≡ magnitudeAt h w → (w ≡ 0 → ⊥) → w < 2 * h → 0 < x

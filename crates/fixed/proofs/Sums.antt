@@ -1,17 +1,27 @@
 -- The sum and the difference that the code forms are those of the definitions. Assumes nothing.
-use mathlib.Core.Path.{_≡_, sym, ap, ap₂, _∙_, subst}
+use mathlib.Core.Path.{_≡_, refl, sym, ap, ap₂, _∙_, subst}
 use mathlib.Core.Logic.{_⊎_, inl, inr, ⊎-elim}
 use Prim.Native.Nat.{ℕ, _+_, _-_, _*_, _/_, _%_, _≤_, _<_}
 use native.Mathlib.Nat.{mod-add-div', mod-lt, mod-eq-of-lt, mod-eq-sub-mod}
 use native.Mathlib.Omega.{arith}
-use mathlib.Core.Bool.{Bool, true, false, not, _||_}
+use mathlib.Core.Bool.{Bool, true, false, not, _||_, _&&_}
 use lib.IntN.{ℤ, negℤ, subℕ, _+ℤ_, _-ℤ_}
 use lib.Dec.{leb, ltb}
-use borrow.Author.Tests.{lt-ltb, le-ltb, le-leb, lt-leb, eq-eqb, ne-eqb}
-use Rattle.whole.proofs.Differences.{either, sum-differences, opposite-difference}
-use Rattle.fixed.specs.Parts.{Words}
-use Rattle.fixed.specs.Fixed.{signed, fits, low, addOverflow, subOverflow, overflowIf, outcome, add, sub}
-use Rattle.fixed.proofs.LowBits.{low-is, sign, signed-is, sign-pos, sign-neg, inside, over-up, over-down}
+use lib.Ieee.{unlike}
+use borrow.Author.Tests.{lt-ltb, le-ltb, le-leb, lt-leb}
+use Rattle.numbers.proofs.Differences.{either, sum-differences, opposite-difference}
+use Rattle.fixed.specs.Parts.{Words, negativeAt}
+use Rattle.fixed.specs.Fixed.{signed, fits, low, isLeast, addOverflow, overflowIf, outcome, add, sub}
+use Rattle.fixed.proofs.LowBits.{not-negative, low-is, sign, signed-is, sign-pos, sign-neg, inside, over-up, over-down}
+
+-- a sign beside one that is plus, and beside one that is minus
+unlike-plus : (t : Bool) → unlike false t ≡ t
+unlike-plus true = refl
+unlike-plus false = refl
+
+unlike-minus : (t : Bool) → unlike true t ≡ not t
+unlike-minus true = refl
+unlike-minus false = refl
 
 -- ---- the sum
 
@@ -33,21 +43,33 @@ module _ (h b a r : ℕ) (W : Words h b a) (R : r ≡ (b + a) % (2 * h)) where
   sum-over : (i j : ℕ) → sign h b ≡ i → sign h a ≡ j → addOverflow h b a ≡ not (fits h (subℕ (b + a) (i * (2 * h) + j * (2 * h))))
   sum-over i j p q = ap (λ (z : ℤ). not (fits h z)) (sum-is ∙ ap₂ (λ (x y : ℕ). subℕ (b + a) (x * (2 * h) + y * (2 * h))) p q)
 
-  pub sum-pp : b < h → a < h → leb h r ≡ addOverflow h b a
+  sum-pp : b < h → a < h → leb h r ≡ addOverflow h b a
   sum-pp p q =
       let e : r ≡ b + a = R ∙ mod-eq-of-lt (omega arith) in
       over-up h (b + a) (0 * (2 * h) + 0 * (2 * h)) r (omega arith) ∙ sym (sum-over 0 0 (sign-pos h b p) (sign-pos h a q))
 
-  pub sum-pn : b < h → h ≤ a → false ≡ addOverflow h b a
+  sum-pn : b < h → h ≤ a → false ≡ addOverflow h b a
   sum-pn p q = inside h (b + a) (0 * (2 * h) + 1 * (2 * h)) (omega arith) (omega arith) ∙ sym (sum-over 0 1 (sign-pos h b p) (sign-neg h a q))
 
-  pub sum-np : h ≤ b → a < h → false ≡ addOverflow h b a
+  sum-np : h ≤ b → a < h → false ≡ addOverflow h b a
   sum-np p q = inside h (b + a) (1 * (2 * h) + 0 * (2 * h)) (omega arith) (omega arith) ∙ sym (sum-over 1 0 (sign-neg h b p) (sign-pos h a q))
 
-  pub sum-nn : h ≤ b → h ≤ a → ltb r h ≡ addOverflow h b a
+  sum-nn : h ≤ b → h ≤ a → ltb r h ≡ addOverflow h b a
   sum-nn p q =
       let e : r ≡ b + a - 2 * h = R ∙ mod-eq-sub-mod (omega arith) ∙ mod-eq-of-lt (omega arith) in
       over-down h (b + a) (1 * (2 * h) + 1 * (2 * h)) r in-range (omega arith) ∙ sym (sum-over 1 1 (sign-neg h b p) (sign-neg h a q))
+
+  -- of like signs the wrapped result has the other sign exactly where the exact one does not fit
+  sum-tells : (not (unlike (negativeAt h b) (negativeAt h a)) && unlike (negativeAt h b) (negativeAt h r)) ≡ addOverflow h b a
+  sum-tells =
+      ⊎-elim
+      (λ (p : b < h). ⊎-elim
+      (λ (q : a < h). rw (lt-leb h b p, lt-leb h a q) (unlike-plus (leb h r) ∙ sum-pp p q))
+      (λ (q : h ≤ a). rw (lt-leb h b p, le-leb h a q) (sum-pn p q)) (either a h))
+      (λ (p : h ≤ b). ⊎-elim
+      (λ (q : a < h). rw (le-leb h b p, lt-leb h a q) (sum-np p q))
+      (λ (q : h ≤ a). rw (le-leb h b p, le-leb h a q) (unlike-minus (leb h r) ∙ sym (not-negative h r) ∙ sum-nn p q)) (either a h))
+      (either b h)
 
   pub sum-carry : ltb r b ≡ leb (2 * h) (b + a)
   sum-carry =
@@ -57,9 +79,11 @@ module _ (h b a r : ℕ) (W : Words h b a) (R : r ≡ (b + a) % (2 * h)) where
       ∙ sym (le-leb (2 * h) (b + a) k))
       (either (b + a) (2 * h))
 
-  pub sum-all : (e : ℕ) (o : Bool) → e ≡ overflowIf o → o ≡ addOverflow h b a → outcome r e (ltb r b) ≡ add h b a
+  -- what the code has: whether the signs of B and A, and of B and the result, are unlike
+  pub sum-all : (e : ℕ) (s t : Bool) → s ≡ unlike (negativeAt h b) (negativeAt h a) → t ≡ unlike (negativeAt h b) (negativeAt h r)
+      → e ≡ overflowIf (not s && t) → outcome r e (ltb r b) ≡ add h b a
   unfolding add
-  sum-all e o p q = λ i. outcome (sum-low i) ((p ∙ ap overflowIf q) i) (sum-carry i)
+  sum-all e s t p q x = λ i. outcome (sum-low i) ((x ∙ ap overflowIf (ap₂ (λ (u v : Bool). not u && v) p q ∙ sum-tells)) i) (sum-carry i)
 
 -- ---- the difference
 
@@ -78,10 +102,8 @@ module _ (h b a r : ℕ) (W : Words h b a) (near : r < 2 * h) (R : (r + a) % (2 
       let w = total in
       sym (ap (low h) diff-is ∙ low-is h (b + sign h a * (2 * h)) (sign h b * (2 * h) + a) r (sign h b + (r + a) / (2 * h)) (sign h a) near (omega arith))
 
-  diff-over : (i j : ℕ) → (a ≡ h → ⊥) → sign h b ≡ i → sign h a ≡ j → subOverflow h b a ≡ not (fits h (subℕ (b + j * (2 * h)) (i * (2 * h) + a)))
-  diff-over i j n p q =
-      ap (λ (t : Bool). t || not (fits h (signed h b -ℤ signed h a))) (ne-eqb a h n)
-      ∙ ap (λ (z : ℤ). not (fits h z)) (diff-is ∙ ap₂ (λ (x y : ℕ). subℕ (b + y * (2 * h)) (x * (2 * h) + a)) p q)
+  diff-over : (i j : ℕ) → sign h b ≡ i → sign h a ≡ j → not (fits h (signed h b -ℤ signed h a)) ≡ not (fits h (subℕ (b + j * (2 * h)) (i * (2 * h) + a)))
+  diff-over i j p q = ap (λ (z : ℤ). not (fits h z)) (diff-is ∙ ap₂ (λ (x y : ℕ). subℕ (b + y * (2 * h)) (x * (2 * h) + a)) p q)
 
   -- r is b - a, or that and 2h
   exact : (b ≡ r + a) ⊎ (b + 2 * h ≡ r + a)
@@ -91,23 +113,26 @@ module _ (h b a r : ℕ) (W : Words h b a) (near : r < 2 * h) (R : (r + a) % (2 
       (λ (k : 2 * h ≤ r + a). let e : b ≡ r + a - 2 * h = sym R ∙ mod-eq-sub-mod k ∙ mod-eq-of-lt (omega arith) in inr (omega arith))
       (either (r + a) (2 * h))
 
-  pub diff-least : a ≡ h → true ≡ subOverflow h b a
-  diff-least e = sym (ap (λ (t : Bool). t || not (fits h (signed h b -ℤ signed h a))) (eq-eqb a h e))
+  -- of unlike signs the wrapped result has another sign than B exactly where the exact one does not fit
+  diff-tells : (unlike (negativeAt h b) (negativeAt h a) && unlike (negativeAt h b) (negativeAt h r)) ≡ not (fits h (signed h b -ℤ signed h a))
+  diff-tells =
+      ⊎-elim
+      (λ (p : b < h). ⊎-elim
+      (λ (q : a < h). rw (lt-leb h b p, lt-leb h a q) (inside h (b + 0 * (2 * h)) (0 * (2 * h) + a) (omega arith) (omega arith)
+      ∙ sym (diff-over 0 0 (sign-pos h b p) (sign-pos h a q))))
+      (λ (q : h ≤ a). rw (lt-leb h b p, le-leb h a q) (unlike-plus (leb h r)
+      ∙ over-up h (b + 1 * (2 * h)) (0 * (2 * h) + a) r (⊎-elim (λ e. omega arith) (λ e. omega arith) exact)
+      ∙ sym (diff-over 0 1 (sign-pos h b p) (sign-neg h a q)))) (either a h))
+      (λ (p : h ≤ b). ⊎-elim
+      (λ (q : a < h). rw (le-leb h b p, lt-leb h a q) (unlike-minus (leb h r) ∙ sym (not-negative h r)
+      ∙ over-down h (b + 0 * (2 * h)) (1 * (2 * h) + a) r near (⊎-elim (λ e. omega arith) (λ e. omega arith) exact)
+      ∙ sym (diff-over 1 0 (sign-neg h b p) (sign-pos h a q))))
+      (λ (q : h ≤ a). rw (le-leb h b p, le-leb h a q) (inside h (b + 1 * (2 * h)) (1 * (2 * h) + a) (omega arith) (omega arith)
+      ∙ sym (diff-over 1 1 (sign-neg h b p) (sign-neg h a q)))) (either a h))
+      (either b h)
 
-  pub diff-pp : (a ≡ h → ⊥) → b < h → a < h → false ≡ subOverflow h b a
-  diff-pp n p q = inside h (b + 0 * (2 * h)) (0 * (2 * h) + a) (omega arith) (omega arith) ∙ sym (diff-over 0 0 n (sign-pos h b p) (sign-pos h a q))
-
-  pub diff-pn : (a ≡ h → ⊥) → b < h → h ≤ a → leb h r ≡ subOverflow h b a
-  diff-pn n p q = over-up h (b + 1 * (2 * h)) (0 * (2 * h) + a) r (⊎-elim (λ e. omega arith) (λ e. omega arith) exact)
-      ∙ sym (diff-over 0 1 n (sign-pos h b p) (sign-neg h a q))
-
-  pub diff-np : (a ≡ h → ⊥) → h ≤ b → a < h → ltb r h ≡ subOverflow h b a
-  diff-np n p q = over-down h (b + 0 * (2 * h)) (1 * (2 * h) + a) r near (⊎-elim (λ e. omega arith) (λ e. omega arith) exact)
-      ∙ sym (diff-over 1 0 n (sign-neg h b p) (sign-pos h a q))
-
-  pub diff-nn : (a ≡ h → ⊥) → h ≤ b → h ≤ a → false ≡ subOverflow h b a
-  diff-nn n p q = inside h (b + 1 * (2 * h)) (1 * (2 * h) + a) (omega arith) (omega arith) ∙ sym (diff-over 1 1 n (sign-neg h b p) (sign-neg h a q))
-
-  pub diff-all : (e : ℕ) (o : Bool) → e ≡ overflowIf o → o ≡ subOverflow h b a → outcome r e (ltb b a) ≡ sub h b a
+  pub diff-all : (e : ℕ) (s t : Bool) → s ≡ unlike (negativeAt h b) (negativeAt h a) → t ≡ unlike (negativeAt h b) (negativeAt h r)
+      → e ≡ overflowIf (isLeast h a || (s && t)) → outcome r e (ltb b a) ≡ sub h b a
   unfolding sub
-  diff-all e o p q = λ i. outcome (diff-low i) ((p ∙ ap overflowIf q) i) (ltb b a)
+  diff-all e s t p q x =
+      λ i. outcome (diff-low i) ((x ∙ ap (λ (o : Bool). overflowIf (isLeast h a || o)) (ap₂ (λ (u v : Bool). u && v) p q ∙ diff-tells)) i) (ltb b a)

@@ -5,6 +5,11 @@ pub mod parts;
 pub mod product;
 pub mod sum;
 
+// h at 16 bits, and at 32.
+pub const HALF_16: u32 = 0x8000;
+
+pub const HALF_32: u32 = 0x8000_0000;
+
 // The result: its word, its error, 0 for none or one of the numbers that `terms` names, its carry or borrow.
 pub struct Fixed {
     pub word: u32,

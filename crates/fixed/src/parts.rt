@@ -6,7 +6,7 @@ ghost use mathlib.Core.Bool.{true, false, not};
 ghost use Prim.Native.Nat.{_*_, _≤_, _<_};
 ghost use lib.Ieee.{unlike};
 ghost use lib.Signed.{shrZ};
-ghost use Rattle.whole.specs.Signed.{withSign};
+ghost use Rattle.numbers.specs.Signed.{withSign};
 ghost use Rattle.fixed.specs.Fixed.{outcome, overflowIf, low, fits, eitherLeast};
 ghost use Rattle.fixed.specs.Parts.{negativeAt, magnitudeAt};
 
@@ -17,19 +17,12 @@ pub fn overflow_bit(over: bool) -> u8
     if over { terms::OVERFLOW } else { 0 }
 }
 
-// Whether a word's top bit is set.
-pub fn is_negative(h: u32, w: u32) -> bool
-    ensures { λ r. ⌜ r ≡ negativeAt h w ⌝ }
-{
-    h <= w
-}
-
 // The magnitude of a word's value.
 pub fn magnitude(h: u32, w: u32) -> u64
     requires { ⌜ (h ≤ 2147483648) × (w < 2 * h) ⌝ }
     ensures { λ r. ⌜ (r ≡ magnitudeAt h w) × (r ≤ h) ⌝ }
 {
-    if is_negative(h, w) {
+    if h <= w {
         2 * (h as u64) - (w as u64)
     } else {
         w as u64
@@ -40,7 +33,7 @@ pub fn magnitude(h: u32, w: u32) -> u64
 pub fn unlike_signs(h: u32, b: u32, a: u32) -> bool
     ensures { λ r. ⌜ r ≡ unlike (negativeAt h b) (negativeAt h a) ⌝ }
 {
-    is_negative(h, b) != is_negative(h, a)
+    (h <= b) != (h <= a)
 }
 
 // The low bits of m, or of -m.
@@ -86,7 +79,7 @@ pub fn exceeds(h: u32, neg: bool, m: u64) -> bool
 pub fn either_least(h: u32, b: u32, a: u32) -> bool
     ensures { λ r. ⌜ r ≡ eitherLeast h b a ⌝ }
 {
-    b == h || a == h
+    (b == h) | (a == h)
 }
 
 // What 01's rows give for a least operand: the least word, and overflow.

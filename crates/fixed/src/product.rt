@@ -2,7 +2,6 @@
 use super::Fixed;
 use super::parts::either_least;
 use super::parts::exceeds;
-use super::parts::is_negative;
 use super::parts::least_word;
 use super::parts::low_bits;
 use super::parts::magnitude;
@@ -11,11 +10,11 @@ use super::parts::unlike_signs;
 use super::parts::upper_bits;
 ghost use mathlib.Core.Path.{_≡_};
 ghost use Prim.Native.Nat.{_*_, _≤_, _<_};
-ghost use Rattle.fixed.specs.Fixed.{half, mul, muu, div, chs};
+ghost use Rattle.fixed.specs.Fixed.{mul, muu, div, chs};
 ghost use Rattle.fixed.specs.Parts.{Words};
 
-// MUL: the low half of the product.
-fn multiplied(h: u32, b: u32, a: u32) -> Fixed
+// SMUL and DMUL: the low half of B x A.
+pub fn mul(h: u32, b: u32, a: u32) -> Fixed
     requires { ⌜ Words h b a ⌝ }
     ensures { λ r. ⌜ r ≡ mul h b a ⌝ }
 {
@@ -33,8 +32,8 @@ fn multiplied(h: u32, b: u32, a: u32) -> Fixed
     }
 }
 
-// MUU: the upper half of the product, rounded down.
-fn multiplied_upper(h: u32, b: u32, a: u32) -> Fixed
+// SMUU and DMUU: the upper half of B x A, rounded down.
+pub fn muu(h: u32, b: u32, a: u32) -> Fixed
     requires { ⌜ Words h b a ⌝ }
     ensures { λ r. ⌜ r ≡ muu h b a ⌝ }
 {
@@ -50,8 +49,8 @@ fn multiplied_upper(h: u32, b: u32, a: u32) -> Fixed
     }
 }
 
-// DIV: the quotient cut toward zero; B where A is zero.
-fn divided(h: u32, b: u32, a: u32) -> Fixed
+// SDIV and DDIV: B / A cut toward zero; B where A is zero.
+pub fn div(h: u32, b: u32, a: u32) -> Fixed
     requires { ⌜ Words h b a ⌝ }
     ensures { λ r. ⌜ r ≡ div h b a ⌝ }
 {
@@ -75,66 +74,14 @@ fn divided(h: u32, b: u32, a: u32) -> Fixed
 }
 
 // CHSS and CHSD: 0 - A; the least value stays.
-fn negated(h: u32, a: u32) -> Fixed
+pub fn chs(h: u32, a: u32) -> Fixed
     requires { ⌜ (0 < h) × (h ≤ 2147483648) × (a < 2 * h) ⌝ }
     ensures { λ r. ⌜ r ≡ chs h a ⌝ }
 {
-    let word = low_bits(h, !is_negative(h, a), magnitude(h, a));
+    let word = low_bits(h, a < h, magnitude(h, a));
     Fixed {
         word,
         error: overflow_bit(a == h),
         carry: false,
     }
-}
-
-// SMUL and DMUL: the low half of B x A.
-pub fn mul16(b: u16, a: u16) -> Fixed
-    ensures { λ r. ⌜ r ≡ mul (half 16) b a ⌝ }
-{
-    multiplied(0x8000, b as u32, a as u32)
-}
-
-pub fn mul32(b: u32, a: u32) -> Fixed
-    ensures { λ r. ⌜ r ≡ mul (half 32) b a ⌝ }
-{
-    multiplied(0x8000_0000, b, a)
-}
-
-// SMUU and DMUU: the upper half of B x A.
-pub fn muu16(b: u16, a: u16) -> Fixed
-    ensures { λ r. ⌜ r ≡ muu (half 16) b a ⌝ }
-{
-    multiplied_upper(0x8000, b as u32, a as u32)
-}
-
-pub fn muu32(b: u32, a: u32) -> Fixed
-    ensures { λ r. ⌜ r ≡ muu (half 32) b a ⌝ }
-{
-    multiplied_upper(0x8000_0000, b, a)
-}
-
-// SDIV and DDIV: B / A.
-pub fn div16(b: u16, a: u16) -> Fixed
-    ensures { λ r. ⌜ r ≡ div (half 16) b a ⌝ }
-{
-    divided(0x8000, b as u32, a as u32)
-}
-
-pub fn div32(b: u32, a: u32) -> Fixed
-    ensures { λ r. ⌜ r ≡ div (half 32) b a ⌝ }
-{
-    divided(0x8000_0000, b, a)
-}
-
-// CHSS and CHSD: 0 - A.
-pub fn chs16(a: u16) -> Fixed
-    ensures { λ r. ⌜ r ≡ chs (half 16) a ⌝ }
-{
-    negated(0x8000, a as u32)
-}
-
-pub fn chs32(a: u32) -> Fixed
-    ensures { λ r. ⌜ r ≡ chs (half 32) a ⌝ }
-{
-    negated(0x8000_0000, a)
 }

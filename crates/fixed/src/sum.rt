@@ -1,30 +1,20 @@
-// ADD and SUB: by arithmetic that wraps on purpose, with the overflow, the carry and the borrow told
-// from the wrapped result.
+// ADD and SUB: by arithmetic that wraps on purpose, with the overflow, the carry and the borrow told from the wrapped
+// result.
 use super::Fixed;
 use super::parts::overflow_bit;
+use super::parts::unlike_signs;
 ghost use mathlib.Core.Path.{_≡_};
 ghost use Prim.Native.Nat.{_+_, _*_, _%_, _<_};
-ghost use Rattle.fixed.specs.Fixed.{half, addOverflow, subOverflow, add, sub};
+ghost use Rattle.fixed.specs.Fixed.{half, add, sub};
 ghost use Rattle.fixed.specs.Parts.{Words};
 
-// Whether the exact sum is out of range, r being the wrapped one.
-fn sum_overflows(h: u32, b: u32, a: u32, r: u32) -> bool
-    requires { ⌜ Words h b a × (r ≡ (b + a) % (2 * h)) ⌝ }
-    ensures { λ o. ⌜ o ≡ addOverflow h b a ⌝ }
-{
-    if b < h {
-        if a < h { h <= r } else { false }
-    } else {
-        if a < h { false } else { r < h }
-    }
-}
-
-// ADD, with r the wrapped sum: the carry shows where it fell below an operand.
+// ADD, with r the wrapped sum: it overflows where like signs turn to the other, and the carry shows where r fell below
+// an operand.
 fn summed(h: u32, b: u32, a: u32, r: u32) -> Fixed
     requires { ⌜ Words h b a × (r ≡ (b + a) % (2 * h)) ⌝ }
     ensures { λ o. ⌜ o ≡ add h b a ⌝ }
 {
-    let over = sum_overflows(h, b, a, r);
+    let over = !unlike_signs(h, b, a) & unlike_signs(h, b, r);
     Fixed {
         word: r,
         error: overflow_bit(over),
@@ -46,27 +36,13 @@ pub fn add32(b: u32, a: u32) -> Fixed
     summed(0x8000_0000, b, a, std::num::wrapping_add_u32(b, a))
 }
 
-// Whether SUB overflows, r being the wrapped difference: always where A is least.
-fn difference_overflows(h: u32, b: u32, a: u32, r: u32) -> bool
-    requires { ⌜ Words h b a × (r < 2 * h) × ((r + a) % (2 * h) ≡ b) ⌝ }
-    ensures { λ o. ⌜ o ≡ subOverflow h b a ⌝ }
-{
-    if a == h {
-        return true;
-    }
-    if b < h {
-        if a < h { false } else { h <= r }
-    } else {
-        if a < h { r < h } else { false }
-    }
-}
-
-// SUB, with r the wrapped difference and the borrow as carry.
+// SUB, with r the wrapped difference: it overflows where A is least, and where unlike signs leave another than B's; the
+// carry is the borrow.
 fn subtracted(h: u32, b: u32, a: u32, r: u32) -> Fixed
     requires { ⌜ Words h b a × (r < 2 * h) × ((r + a) % (2 * h) ≡ b) ⌝ }
     ensures { λ o. ⌜ o ≡ sub h b a ⌝ }
 {
-    let over = difference_overflows(h, b, a, r);
+    let over = (a == h) | (unlike_signs(h, b, a) & unlike_signs(h, b, r));
     Fixed {
         word: r,
         error: overflow_bit(over),

@@ -1,31 +1,8 @@
--- What is true of float words, and what the proofs of the functions rest on. Assumes nothing.
+-- What is true of float words: of powers and of every operation. Each module has a folder with its laws. Assumes nothing.
 pub mod Powers
-pub mod Pair
-pub mod Jams
-pub mod NearWhole
-pub mod Signs
-pub mod Proper
-pub mod SumStands
-pub mod SumCut
-pub mod ProductCut
-pub mod Fix
-pub mod Values
 pub mod Order
 pub mod Results
-pub mod SignChange
-pub mod OnePair
-pub mod Nearest
-pub mod RulePair
-pub mod NoNearer
 pub mod Steps
-pub mod Kept
-pub mod Close
-pub mod Conversions
 pub mod Moved
-pub mod WholeRoot
-pub mod Means
-pub mod RootCut
-pub mod NearRoot
-pub mod RootExact
 pub mod Bench
 pub mod NearBench

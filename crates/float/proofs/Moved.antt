@@ -8,12 +8,12 @@ use native.Mathlib.Omega.{arith}
 use lib.IntN.{ℤ, pos, negℤ, subℕ, _+ℤ_, _-ℤ_}
 use lib.Signed.{_≤ℤ_}
 use lib.Ieee.{up, down}
-use Rattle.whole.proofs.Differences.{either, above, beneath, parts, le-differences, less-difference}
+use Rattle.numbers.proofs.Differences.{either, above, beneath, parts, le-differences, less-difference}
 use Rattle.terms.specs.declared.Rule.{Rule}
 use Rattle.float.specs.declared.Flagged.{Flagged}
 use Rattle.float.specs.Word.{biased, exponent, mantissa, size88}
 use Rattle.float.specs.Exact.{Steps, CutsBy, IsSize}
-use Rattle.float.proofs.OnePair.{scale}
+use Rattle.float.proofs.cut.OnePair.{scale}
 
 -- the magnitude of every word is m * 2 ^ (e - 24)
 pub word-size : (w : ℕ) → IsSize (size88 w) (mantissa w) (exponent w)

@@ -10,18 +10,18 @@ use lib.IntN.{ℤ, pos, negℤ, natAbs, _*ℤ_}
 use lib.Signed.{_≤ℤ_}
 use lib.Ieee.{unlike}
 use lib.Pow.{pow-pos}
-use Rattle.whole.specs.Signed.{withSign}
-use Rattle.whole.proofs.Differences.{le-sum-left, le-sum-right, le-opposite}
-use Rattle.whole.proofs.Signs.{opposite, times}
+use Rattle.numbers.specs.Signed.{withSign}
+use Rattle.numbers.proofs.Differences.{le-sum-left, le-sum-right, le-opposite}
+use Rattle.numbers.proofs.Signs.{opposite, times}
 use Rattle.float.specs.declared.Flagged.{Flagged}
 use Rattle.float.specs.Word.{negative, biased, mantissa, size88, value}
 use Rattle.terms.specs.declared.Rule.{Rule}
 use Rattle.float.specs.Cut.{below0, cutSize, cut}
 use Rattle.float.specs.Float.{exactSum, exactDifference, exactProduct, dividend, divisor, add, sub, mul, div}
 use Rattle.float.specs.Order.{Le, LeBy}
-use Rattle.float.proofs.Pair.{grid-mono}
-use Rattle.float.proofs.Signs.{signed-parts, times-size, signed-le, le-signed, cut-sign}
-use Rattle.float.proofs.Values.{grid, grid-zero, cut-value}
+use Rattle.float.proofs.cut.Pair.{grid-mono}
+use Rattle.float.proofs.cut.Signs.{signed-parts, times-size, signed-le, le-signed, cut-sign}
+use Rattle.float.proofs.cut.Values.{grid, grid-zero, cut-value}
 
 -- ---- magnitudes with a sign
 module _ (r : Rule) (n d n' d' : ℕ) (D : 0 < d) (D' : 0 < d') where

@@ -17,8 +17,8 @@ use Rattle.terms.specs.declared.Rule.the-variants.{Cut}
 use Rattle.float.specs.Cut.{lost, kept, whole, mantissaOf, digitsOf, packed, stored, zeroWord, below0, cutSize, cut}
 use Rattle.float.specs.Float.{exactSum, exactDifference, exactProduct, dividend, divisor, add, sub, mul, div, Result}
 use Rattle.float.specs.Convert.{integer, fltd, flts}
-use Rattle.float.proofs.Pair.{whole-ge, kept-le, kept-ge, cut-zero}
-use Rattle.float.proofs.Values.{packed-mantissa, packed-lt, error-lt, cut-stored}
+use Rattle.float.proofs.cut.Pair.{whole-ge, kept-le, kept-ge, cut-zero}
+use Rattle.float.proofs.cut.Values.{packed-mantissa, packed-lt, error-lt, cut-stored}
 use Rattle.float.proofs.Order.{size-pos, div-cut}
 
 -- ---- a cut

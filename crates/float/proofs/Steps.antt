@@ -14,10 +14,10 @@ use lib.IntN.{ℤ, pos, negℤ, natAbs, subℕ, _+ℤ_, _-ℤ_}
 use lib.Signed.{_≤ℤ_}
 use lib.Ieee.{size, unlike}
 use lib.Pow.{pow-add, pow-pos, pow-mono}
-use Rattle.whole.specs.Signed.{withSign}
-use Rattle.whole.proofs.Differences.{either, same, above, beneath, parts, le-parts, le-differences, differences-le, less-difference, more-difference}
-use Rattle.whole.proofs.Differences.{size-difference}
-use Rattle.whole.proofs.Signs.{sum-signs, opposite, times, size-of-signed}
+use Rattle.numbers.specs.Signed.{withSign}
+use Rattle.numbers.proofs.Differences.{either, same, above, beneath, parts, le-parts, le-differences, differences-le, less-difference, more-difference}
+use Rattle.numbers.proofs.Differences.{size-difference}
+use Rattle.numbers.proofs.Signs.{sum-signs, opposite, times, size-of-signed}
 use Rattle.float.specs.declared.Flagged.{Flagged}
 use Rattle.float.specs.Word.{negative, biased, exponent, mantissa, size88, value, proper}
 use Rattle.terms.specs.declared.Rule.{Rule}
@@ -26,15 +26,16 @@ use Rattle.float.specs.Cut.{Pair, lost, kept, mantissaOf, digitsOf, pack
 use Rattle.float.specs.Float.{exactSum, exactDifference, exactProduct, dividend, divisor, add, sub, mul, div}
 use Rattle.float.specs.Nearest.{PairBy}
 use Rattle.float.specs.Exact.{Steps, CutsBy, ExactlyBy}
-use Rattle.float.proofs.Proper.{proper-norm}
-use Rattle.float.proofs.Pair.{size-gt, kept-le, grid-mono, cuts-one, cut-zero}
-use Rattle.float.proofs.OnePair.{from-scale}
-use Rattle.float.proofs.Nearest.{near-one}
-use Rattle.float.proofs.RulePair.{from-near}
-use Rattle.float.proofs.Signs.{nought}
-use Rattle.float.proofs.Values.{packed-mantissa, packed-biased, packed-sign, error-in, error-over, error-under, digits-near, settled, grid, cut-stored}
+use Rattle.float.proofs.word.Proper.{proper-norm}
+use Rattle.float.proofs.cut.Pair.{size-gt, kept-le, grid-mono, cuts-one, cut-zero}
+use Rattle.float.proofs.cut.OnePair.{from-scale}
+use Rattle.float.proofs.cut.NearPair.{near-one}
+use Rattle.float.proofs.cut.RulePair.{from-near}
+use Rattle.float.proofs.cut.Signs.{nought}
+use Rattle.float.proofs.cut.Values.{packed-mantissa, packed-biased, packed-sign, error-in, error-over, error-under}
+use Rattle.float.proofs.cut.Values.{digits-near, settled, grid, cut-stored}
 use Rattle.float.proofs.Results.{kept-big, mantissa-big}
-use Rattle.float.proofs.Kept.{fits-exact}
+use Rattle.float.proofs.cut.Kept.{fits-exact}
 use Rattle.float.proofs.Order.{size-pos, div-cut}
 
 -- ---- the exponent e = k - 176, in its three ranges

@@ -1,4 +1,5 @@
--- Request 12: two words of one sign, neither more than twice the other, and a difference that loses nothing. Definitions only. Assumes nothing.
+-- Request 12, the theorem of Sterbenz: two words of one sign, neither more than twice the other, have a difference that loses nothing. Definitions only.
+-- Assumes nothing.
 use mathlib.Core.Path.{_≡_}
 use mathlib.Core.Logic.{_⊎_}
 use Prim.Native.Nat.{ℕ, _*_, _^_, _≤_}
@@ -16,8 +17,7 @@ pub record Close (b a : ℕ) : Type 0 where
   pub a-within : size88 a ≤ 2 * size88 b
 
 -- r is the exact value z, times 2 ^ 88, "where no error bit is set"; "where underflow is set it is exact after taking 128 from the exponent", so the word as it
--- stands is 2 ^ 128
--- times z; no other error is set
+-- stands is 2 ^ 128 times z; no other error is set
 pub record Lossless (z : ℤ) (r : Flagged) : Type 0 where
   pub exact : r .error ≡ 0 → value (r .word) ≡ z
   pub under : r .error ≡ underflow → value (r .word) ≡ z *ℤ pos (2 ^ 128)

@@ -10,20 +10,28 @@ use Rattle.terms.specs.declared.Rule.the-variants.{Cut, Nearest}
 use Rattle.terms.specs.Errors.{overflow, underflow}
 use Rattle.float.specs.declared.Flagged.{Flagged}
 
--- ---- what 01 says: m and e of the magnitude n / d are the one pair, e unbounded, with m the whole part of n / d * 2 ^ (24 - e) and 2 ^ 23 <= m < 2 ^ 24.
--- By comparing products: the fraction up x / down x is 2 ^ x, so m * 2 ^ (e - 24) reaches n / d and (m + 1) * 2 ^ (e - 24) passes it
+-- ---- what 01 says of a magnitude n / d that is not zero
+
+-- the place of m's last digit: a word is m * 2 ^ (e - 24)
+abbrev pub lastPlace : ℤ → ℤ
+lastPlace e = e -ℤ pos 24
+
+-- "m and e are the one pair, e unbounded, with m the whole part of magnitude times 2^(24-e) and 2^23 <= m < 2^24": m * 2 ^ (e - 24) reaches n / d, and
+-- (m + 1) * 2 ^ (e - 24) passes it. 2 ^ x is the fraction up x / down x, so products are compared. For 1 / 3, m = AAAAAA and e = -1, since 2 ^ 25 / 3
+-- is AAAAAA and 2 / 3
 pub record Pair (n d m : ℕ) (e : ℤ) : Type 0 where
   pub low : 2 ^ 23 ≤ m
   pub high : m < 2 ^ 24
-  pub reached : m * (d * up (e -ℤ pos 24)) ≤ n * down (e -ℤ pos 24)
-  pub passed : n * down (e -ℤ pos 24) < (m + 1) * (d * up (e -ℤ pos 24))
+  pub reached : m * (d * up (lastPlace e)) ≤ n * down (lastPlace e)
+  pub passed : n * down (lastPlace e) < (m + 1) * (d * up (lastPlace e))
 
 -- ---- a function that finds it, under either rule, in whole numbers alone
--- magnitudes are counted in fine units of 2 ^ -fine, so that every exact value of 01's scales has at least 24 binary digits before the point
+
+-- magnitudes are counted in fine units of 2 ^ -200, so small that every exact value of 01's scales has at least 24 binary digits before the point
 abbrev pub fine : ℕ
 fine = 200
 
--- so many digits of a number of fine units are lost below the mantissa where e is 0: m * 2 ^ (e - 24) is m * 2 ^ (atZero + e) fine units
+-- m * 2 ^ (e - 24) is m * 2 ^ (176 + e) fine units: so many of their digits lie below m where e is 0
 abbrev pub atZero : ℕ
 atZero = fine - 24
 
@@ -32,7 +40,7 @@ abbrev pub whole : Rule → ℕ → ℕ → ℕ
 whole Cut n d = n / d
 whole Nearest n d = closest n d
 
--- of n / d fine units the 24 leading digits are kept; so many before the point are lost below them
+-- of n / d fine units the 24 leading digits are kept, and so many before the point are lost below them: of a number of 177 digits 153
 abbrev pub lost : ℕ → ℕ → ℕ
 lost n d = size (n / d) - 24
 
@@ -40,16 +48,17 @@ lost n d = size (n / d) - 24
 abbrev pub kept : Rule → ℕ → ℕ → ℕ
 kept r n d = whole r n (d * 2 ^ lost n d)
 
--- m of a kept number q: q, or 2 ^ 23 where q was rounded up to 2 ^ 24
+-- m of the number q that is kept: q itself, or 2 ^ 23 where q was rounded up to 2 ^ 24
 abbrev pub mantissaOf : ℕ → ℕ
 mantissaOf q = cond (ltb q (2 ^ 24)) q (2 ^ 23)
 
--- the digits lost below m: k, or one more where q was rounded up to 2 ^ 24. e is this less atZero
+-- the digits lost below m: k, or one more where q was rounded up to 2 ^ 24. Their number less 176 is e
 abbrev pub digitsOf : ℕ → ℕ → ℕ
 digitsOf q k = cond (ltb q (2 ^ 24)) k (k + 1)
 
 -- ---- the word and the error
--- the word of a sign, m and e = k - atZero. The field of seven bits holds e modulo 128, so e > 63 is stored as e - 128 and e < -64 as e + 128
+
+-- the word of a sign, m and e = k - 176. The field of seven bits holds e modulo 128, so e > 63 is stored as e - 128 and e < -64 as e + 128
 unfoldable pub packed : Bool → ℕ → ℕ → ℕ
 packed neg m k = cond neg (2 ^ 31) 0 + (k + (2 * 128 - atZero)) % 128 * 2 ^ 24 + m
 

@@ -4,7 +4,7 @@ use Prim.Native.Nat.{ℕ, _+_, _*_, _/_, _%_, _^_, _<_}
 use mathlib.Core.Bool.{Bool, true, _||_}
 use lib.Dec.{leb, eqb}
 use lib.IntN.{ℤ, subℕ}
-use Rattle.whole.specs.Signed.{withSign}
+use Rattle.numbers.specs.Signed.{withSign}
 
 -- bit 31, the sign
 abbrev pub negative : ℕ → Bool

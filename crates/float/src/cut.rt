@@ -6,7 +6,7 @@ ghost use mathlib.Core.Path.{_≡_};
 ghost use mathlib.Core.Bool.{cond};
 ghost use Prim.Native.Nat.{_*_, _^_, _≤_, _<_};
 ghost use lib.Ieee.Nearest.{closest};
-ghost use Rattle.float.specs.Cut.{packed, errorAt, mantissaOf, digitsOf, stored, cutSize};
+ghost use Rattle.float.specs.Cut.{errorAt, mantissaOf, digitsOf, stored, cutSize};
 ghost use Rattle.float.specs.Jam.{Jammed};
 
 // Where e is 64 and where it is -64, as k: the first that overflows, and the last that does not underflow.
@@ -48,21 +48,13 @@ fn error_at(k: u32) -> u8
     }
 }
 
-// The word of a sign, a mantissa and the exponent k - 176; k + 80 is that exponent modulo 128.
-fn pack(neg: bool, m: u32, k: u32) -> u32
-    requires { ⌜ (m < 16777216) × (k ≤ 4096) ⌝ }
-    ensures { λ r. ⌜ r ≡ packed neg m k ⌝ }
-{
-    sign_bit(neg) + (k + 80) % 128 * 0x100_0000 + m
-}
-
-// The word and the error of a sign, a mantissa and the exponent k - 176.
+// The word and the error of a sign, a mantissa and the exponent k - 176; k + 80 is that exponent modulo 128.
 fn store(neg: bool, m: u32, k: u32) -> Flagged
     requires { ⌜ (m < 16777216) × (k ≤ 4096) ⌝ }
     ensures { λ r. ⌜ r ≡ stored neg m k ⌝ }
 {
     Flagged {
-        word: pack(neg, m, k),
+        word: sign_bit(neg) + (k + 80) % 128 * 0x100_0000 + m,
         error: error_at(k),
     }
 }

@@ -6,7 +6,6 @@ use super::cut::jam;
 use super::word::biased_of;
 use super::word::is_negative;
 use super::word::mantissa_of;
-use super::word::unlike_signs;
 use terms::Rule;
 ghost use mathlib.Core.Path.{_≡_};
 ghost use mathlib.Core.Bool.{true};
@@ -24,7 +23,7 @@ const QUOTIENT_UNIT: u32 = 160;
 pub fn fmul(rule: Rule, b: u32, a: u32) -> Flagged
     ensures { λ r. ⌜ r ≡ mul rule b a ⌝ }
 {
-    let neg = unlike_signs(is_negative(b), is_negative(a));
+    let neg = is_negative(b) != is_negative(a);
     let p = mantissa_of(b) * mantissa_of(a);
     let x = biased_of(b) + biased_of(a) + PRODUCT_UNIT;
     cut_word(rule, neg, p, x)
@@ -45,6 +44,6 @@ pub fn fdiv(rule: Rule, b: u32, a: u32) -> Flagged
     let v = mantissa_of(b) * RAISED;
     let t = jam(v / ma, v % ma);
     let x = biased_of(b) + QUOTIENT_UNIT - biased_of(a);
-    let neg = unlike_signs(is_negative(b), is_negative(a));
+    let neg = is_negative(b) != is_negative(a);
     cut_word(rule, neg, t, x)
 }

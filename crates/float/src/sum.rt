@@ -5,14 +5,13 @@ use super::cut::cut_word;
 use super::cut::jam;
 use super::word::is_negative;
 use super::word::mantissa_of;
-use super::word::unlike_signs;
 use terms::Rule;
 ghost use mathlib.Core.Path.{_≡_};
 ghost use mathlib.Core.Bool.{true};
 ghost use Prim.Native.Nat.{_/_, _%_, _^_, _≤_, _<_};
 ghost use lib.IntN.{_+ℤ_};
-ghost use Rattle.whole.specs.Signed.{withSign};
-ghost use Rattle.float.specs.Word.{proper};
+ghost use Rattle.numbers.specs.Signed.{withSign};
+ghost use Rattle.float.specs.Word.{proper, size88, value};
 ghost use Rattle.float.specs.Cut.{cut};
 ghost use Rattle.float.specs.Float.{add, sub};
 ghost use Rattle.float.specs.Jam.{Jammed};
@@ -54,21 +53,25 @@ fn add_lower(rule: Rule, neg: bool, hi: u32, other: bool, lo: u32) -> Flagged
     let e = hi / 0x100_0000;
     let big = mantissa_of(hi) * SPARE;
     let small = shifted(mantissa_of(lo) * SPARE, e - lo / 0x100_0000);
-    if unlike_signs(neg, other) {
+    let differ = neg != other;
+    if differ {
         return cut_word(rule, neg, big - small, e + UNIT);
     }
     cut_word(rule, neg, big + small, e + UNIT)
 }
 
-// The sum of two addends with their signs.
-fn add_signed(rule: Rule, nb: bool, b: u32, na: bool, a: u32) -> Flagged
-    requires { ⌜ Addend b × Addend a ⌝ }
-    ensures { λ r. ⌜ r ≡ cut rule (withSign nb (addendSize b) +ℤ withSign na (addendSize a)) (2 ^ 88) ⌝ }
+// The sum of B and of A's magnitude with a sign, both proper words.
+fn add_signed(rule: Rule, b: u32, neg: bool, a: u32) -> Flagged
+    requires { ⌜ (proper b ≡ true) × (proper a ≡ true) ⌝ }
+    ensures { λ r. ⌜ r ≡ cut rule (value b +ℤ withSign neg (size88 a)) (2 ^ 88) ⌝ }
 {
-    if a <= b {
-        return add_lower(rule, nb, b, na, a);
+    let first = is_negative(b);
+    let x = addend_of(b);
+    let y = addend_of(a);
+    if y <= x {
+        return add_lower(rule, first, x, neg, y);
     }
-    add_lower(rule, na, a, nb, b)
+    add_lower(rule, neg, y, first, x)
 }
 
 // FADD of proper words: B + A.
@@ -76,13 +79,7 @@ pub fn fadd(rule: Rule, b: u32, a: u32) -> Flagged
     requires { ⌜ (proper b ≡ true) × (proper a ≡ true) ⌝ }
     ensures { λ r. ⌜ r ≡ add rule b a ⌝ }
 {
-    add_signed(
-        rule,
-        is_negative(b),
-        addend_of(b),
-        is_negative(a),
-        addend_of(a),
-    )
+    add_signed(rule, b, is_negative(a), a)
 }
 
 // FSUB of proper words: B - A.
@@ -90,11 +87,5 @@ pub fn fsub(rule: Rule, b: u32, a: u32) -> Flagged
     requires { ⌜ (proper b ≡ true) × (proper a ≡ true) ⌝ }
     ensures { λ r. ⌜ r ≡ sub rule b a ⌝ }
 {
-    add_signed(
-        rule,
-        is_negative(b),
-        addend_of(b),
-        !is_negative(a),
-        addend_of(a),
-    )
+    add_signed(rule, b, !is_negative(a), a)
 }

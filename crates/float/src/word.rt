@@ -1,7 +1,6 @@
 // What a float word says: its sign, its exponent and its mantissa, and whether it is proper.
 ghost use mathlib.Core.Path.{_≡_};
 ghost use Prim.Native.Nat.{_<_};
-ghost use lib.Ieee.{unlike};
 ghost use Rattle.float.specs.Word.{negative, biased, mantissa, proper};
 
 // Whether a word's sign bit is set.
@@ -33,11 +32,4 @@ pub fn is_proper(w: u32) -> bool
         return true;
     }
     w == 0
-}
-
-// The sign of a product or a quotient.
-pub fn unlike_signs(b: bool, a: bool) -> bool
-    ensures { λ r. ⌜ r ≡ unlike b a ⌝ }
-{
-    b != a
 }

@@ -17,8 +17,8 @@ use Rattle.formula.proofs.Places.{place-is, nowhere-at, longer-none, lo
 use Rattle.formula.proofs.Reading.{from, side, somewhere, reads-as}
 
 -- ---- the sign after an operand
-pub ends-code : (sign : ℕ → Sign) (text : List ℕ) (k b code : ℕ) → b ≡ getD text k 0 → code ≡ signCode (sign b) → code ≡ 0 → sign (getD text k 0) ≡ Ends
-ends-code sign text k b code h e z = ap sign (sym h) ∙ go (sign b) e
+pub ends-code : (sign : ℕ → Sign) (b code : ℕ) → code ≡ signCode (sign b) → code ≡ 0 → sign b ≡ Ends
+ends-code sign b code e z = go (sign b) e
   where
     go : (x : Sign) → code ≡ signCode x → x ≡ Ends
     go Ends e = refl
@@ -34,20 +34,18 @@ pub record Joining (sign : ℕ → Sign) (text : List ℕ) (k code : ℕ) : Type
   pub code-is : code ≡ codeOf operator
   pub inside : k < length text
 
-pub joins-code : (sign : ℕ → Sign) (text : List ℕ) (k b code : ℕ) → sign 0 ≡ Ends → b ≡ getD text k 0 → code ≡ signCode (sign b) → (code ≡ 0 → ⊥) → Joining sign
-    text k code
-joins-code sign text k b code z h e n = go (sign b) refl e
+joins-code : (sign : ℕ → Sign) (text : List ℕ) (k code : ℕ) → sign 0 ≡ Ends → code ≡ signCode (sign (getD text k 0)) → (code ≡ 0 → ⊥)
+    → Joining sign text k code
+joins-code sign text k code z e n = go (sign (getD text k 0)) refl e
   where
-    go : (x : Sign) → sign b ≡ x → code ≡ signCode x → Joining sign text k code
+    go : (x : Sign) → sign (getD text k 0) ≡ x → code ≡ signCode x → Joining sign text k code
     go Ends i e = absurd (n e)
-    go (Joins o) i e =
-        let s : sign (getD text k 0) ≡ Joins o = ap sign (sym h) ∙ i in
-        record {
-          operator = o;
-          sign-is = s;
-          code-is = e;
-          inside = ⊎-elim (λ l. l) (λ l. ends-never (sym z ∙ ap sign (sym (List·getD-eq-default text 0 l)) ∙ s)) (side k (length text));
-        }
+    go (Joins o) i e = record {
+      operator = o;
+      sign-is = i;
+      code-is = e;
+      inside = ⊎-elim (λ l. l) (λ l. ends-never (sym z ∙ ap sign (sym (List·getD-eq-default text 0 l)) ∙ i)) (side k (length text));
+    }
 
 -- ---- one turn of the reader
 module _ (sign : ℕ → Sign) (operand : Reader) (text : List ℕ) where
@@ -213,7 +211,7 @@ module _ {sign : ℕ → Sign} {operand : Reader} {text : List ℕ} {place : ℕ
           }
 
   -- what the right operand asks
-  pub going-asks : {start after : List ℕ} {least code p : ℕ} → Asks text place → Going sign operand text place start after least p → Joining sign text (atOf p)
+  going-asks : {start after : List ℕ} {least code p : ℕ} → Asks text place → Going sign operand text place start after least p → Joining sign text (atOf p)
       code
       → Asks text (p + 1)
   going-asks {start} {after} {least} {code} {p} A G J = go (G .so-far) (G .reads)
@@ -226,7 +224,7 @@ module _ {sign : ℕ → Sign} {operand : Reader} {text : List ℕ} {place : ℕ
           record { short = short; inside = omega (arith, J .inside); few = omega (arith, A .few, R .told .few) }
 
   -- and where it reads from: there is room for one more byte of postfix
-  pub going-later : {start after : List ℕ} {least code p : ℕ} → Asks text place → Going sign operand text place start after least p → Joining sign text (atOf p)
+  going-later : {start after : List ℕ} {least code p : ℕ} → Asks text place → Going sign operand text place start after least p → Joining sign text (atOf p)
       code
       → (atOf place < length text) × (atOf place < atOf (p + 1)) × (endOf (p + 1) < atOf (p + 1))
   going-later {start} {after} {least} {code} {p} A G J = go (G .so-far) (G .reads)
@@ -237,6 +235,19 @@ module _ {sign : ℕ → Sign} {operand : Reader} {text : List ℕ} {place : ℕ
           let pa = next p short J .0 in
           let pe = next p short J .1 in
           (omega (arith, J .inside, R .told .later), omega (arith, R .told .later), omega (arith, A .few, R .told .few))
+
+-- a turn of the loop, from its test: the sign that stands there, what its right operand asks, and where it reads from
+pub record Turn (sign : ℕ → Sign) (text : List ℕ) (place p code : ℕ) : Type 0 where
+  pub joining : Joining sign text (atOf p) code
+  pub asks : Asks text (p + 1)
+  pub later : (atOf place < length text) × (atOf place < atOf (p + 1)) × (endOf (p + 1) < atOf (p + 1))
+
+pub turn : {sign : ℕ → Sign} {operand : Reader} {text start after : List ℕ} {place least p code : ℕ} → Asks text place
+    → Going sign operand text place start after least p → sign 0 ≡ Ends → code ≡ signCode (sign (getD text (atOf p) 0)) → (code ≡ 0 → ⊥)
+    → Turn sign text place p code
+turn {sign} {text = text} {p = p} {code = code} A G z e n =
+    let J = joins-code sign text (atOf p) code z e n in
+    record { joining = J; asks = going-asks (A .short) A G J; later = going-later (A .short) A G J }
 
 -- the place after a reading that began with such room has it too
 pub reads-small : {text before after : List ℕ} {place r : ℕ} (x : Read) → length text ≤ mostText → endOf place < atOf place → Reads text place before after x r

@@ -80,28 +80,26 @@ module _ (P Q : Grammar) (d : ℕ) (sign : ℕ → Sign) (operand : Reader) (alo
       }) (x .last)
 
 -- ---- the signs
-sum-joins : (b : ℕ) (o : Operator) → sumSign b ≡ Joins o → (s t : List ℕ) (f g : Formula) → IsSum s f → IsProduct t g → IsSum (s ++ (b ∷ t)) (Joined o f g)
-sum-joins b o e s t f g F G = go (eqb b 0x2B) refl (eqb b 0x2D) refl e
+-- a byte that joins by one of two signs: what holds of either sign's operator, where the byte is that sign, holds of the operator
+joins-by : (b x y : ℕ) (p q : Operator) (P : Operator → Type 0) → (b ≡ x → P p) → (b ≡ y → P q) → (o : Operator)
+    → cond (eqb b x) (Joins p) (cond (eqb b y) (Joins q) Ends) ≡ Joins o → P o
+joins-by b x y p q P first second o e = go (eqb b x) refl (eqb b y) refl e
   where
-    go : (x : Bool) → eqb b 0x2B ≡ x → (y : Bool) → eqb b 0x2D ≡ y → cond x (Joins Plus) (cond y (Joins Less) Ends) ≡ Joins o
-        → IsSum (s ++ (b ∷ t)) (Joined o f g)
-    go true h y k j = let z : Plus ≡ o = cc in subst (λ (o : Operator). IsSum (s ++ (b ∷ t)) (Joined o f g)) z
-        (plus F G (ap (λ (x : ℕ). s ++ (x ∷ t)) (eqb-true b 0x2B h)))
-    go false h true k j = let z : Less ≡ o = cc in subst (λ (o : Operator). IsSum (s ++ (b ∷ t)) (Joined o f g)) z
-        (less F G (ap (λ (x : ℕ). s ++ (x ∷ t)) (eqb-true b 0x2D k)))
+    go : (u : Bool) → eqb b x ≡ u → (v : Bool) → eqb b y ≡ v → cond u (Joins p) (cond v (Joins q) Ends) ≡ Joins o → P o
+    go true h v k j = let z : p ≡ o = cc in subst P z (first (eqb-true b x h))
+    go false h true k j = let z : q ≡ o = cc in subst P z (second (eqb-true b y k))
     go false h false k j = ends-never j
+
+sum-joins : (b : ℕ) (o : Operator) → sumSign b ≡ Joins o → (s t : List ℕ) (f g : Formula) → IsSum s f → IsProduct t g → IsSum (s ++ (b ∷ t)) (Joined o f g)
+sum-joins b o e s t f g F G =
+    joins-by b 0x2B 0x2D Plus Less (λ o. IsSum (s ++ (b ∷ t)) (Joined o f g)) (λ h. plus F G (ap (λ (x : ℕ). s ++ (x ∷ t)) h))
+    (λ h. less F G (ap (λ (x : ℕ). s ++ (x ∷ t)) h)) o e
 
 product-joins : (b : ℕ) (o : Operator) → productSign b ≡ Joins o → (s t : List ℕ) (f g : Formula) → IsProduct s f → IsFactor t g
     → IsProduct (s ++ (b ∷ t)) (Joined o f g)
-product-joins b o e s t f g F G = go (eqb b 0x2A) refl (eqb b 0x2F) refl e
-  where
-    go : (x : Bool) → eqb b 0x2A ≡ x → (y : Bool) → eqb b 0x2F ≡ y → cond x (Joins Times) (cond y (Joins Over) Ends) ≡ Joins o
-        → IsProduct (s ++ (b ∷ t)) (Joined o f g)
-    go true h y k j = let z : Times ≡ o = cc in subst (λ (o : Operator). IsProduct (s ++ (b ∷ t)) (Joined o f g)) z
-        (times F G (ap (λ (x : ℕ). s ++ (x ∷ t)) (eqb-true b 0x2A h)))
-    go false h true k j = let z : Over ≡ o = cc in subst (λ (o : Operator). IsProduct (s ++ (b ∷ t)) (Joined o f g)) z
-        (over F G (ap (λ (x : ℕ). s ++ (x ∷ t)) (eqb-true b 0x2F k)))
-    go false h false k j = ends-never j
+product-joins b o e s t f g F G =
+    joins-by b 0x2A 0x2F Times Over (λ o. IsProduct (s ++ (b ∷ t)) (Joined o f g)) (λ h. times F G (ap (λ (x : ℕ). s ++ (x ∷ t)) h))
+    (λ h. over F G (ap (λ (x : ℕ). s ++ (x ∷ t)) h)) o e
 
 -- ---- leaves
 leaf-sound : (d : ℕ) → Sound IsFactor d leafOf

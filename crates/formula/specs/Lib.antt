@@ -4,6 +4,7 @@ pub mod Grammar
 pub mod Reader
 pub mod File
 pub mod Evaluation
+pub mod Translation
+-- what the program keeps and 02 does not name: a formula in postfix order, the places of a reading
 pub mod Postfix
 pub mod Told
-pub mod Translation

@@ -8,11 +8,14 @@ use lib.Dec.{eqb}
 use lib.ListN.{length, drop, getD}
 use lib.Seq.{sets}
 use Rattle.formula.specs.Formula.{Formula}
-use Rattle.formula.specs.Reader.{Read, Found, Outside, Sign, Joins, Ends}
+use Rattle.formula.specs.Reader.{Read, Found, Outside, Sign, Joins, Ends, sumSign, productSign}
 use Rattle.formula.specs.File.{codeOf}
+use Rattle.formula.specs.declared.parts.Rank.{Rank}
+use Rattle.formula.specs.declared.parts.Rank.the-variants.{Sum, Product}
 use Rattle.formula.specs.Postfix.{postfixOf}
 
 -- ---- limits
+
 -- the most bytes of a text
 abbrev pub mostText : ℕ
 mostText = 256
@@ -22,10 +25,14 @@ abbrev pub mostFile : ℕ
 mostFile = 2048
 
 -- ---- places
--- a place is one number: 512 times the bytes of postfix before it, and the bytes of the text before it
+-- A place is one number: 512 times the bytes of postfix before it, and the bytes of the text before it. Where `a*b` was read from the front, 3 bytes of text
+-- and 3 of postfix (`a`, `b` and the code of FMUL) lie before it: 512 * 3 + 3.
+
+-- the bytes of the text before a place
 unfoldable pub atOf : ℕ → ℕ
 atOf p = p % 512
 
+-- the bytes of postfix before it
 unfoldable pub endOf : ℕ → ℕ
 endOf p = p / 512
 
@@ -33,7 +40,7 @@ endOf p = p / 512
 abbrev pub nowhere : ℕ
 nowhere = 511
 
--- the closing bracket follows
+-- the place behind the closing bracket that follows, nowhere where none does
 abbrev pub closedAt : List ℕ → ℕ → ℕ
 closedAt text p = cond (eqb (getD text (atOf p) 0) (code ")")) (p + 1) nowhere
 
@@ -41,19 +48,26 @@ closedAt text p = cond (eqb (getD text (atOf p) 0) (code ")")) (p + 1) nowhere
 abbrev pub longerOf : ℕ → ℕ
 longerOf p = cond (eqb p nowhere) nowhere (p + 512)
 
+-- the signs of a rank
+abbrev pub signOf : Rank → ℕ → Sign
+signOf Sum = sumSign
+signOf Product = productSign
+
 -- the code of a sign's command, 0 where it joins nothing
 abbrev pub signCode : Sign → ℕ
 signCode (Joins o) = codeOf o
 signCode Ends = 0
 
--- ---- a reading
+-- ---- a reading: from a place of the text on, the postfix stored before it and what is stored after it
+
 -- what it asks: at most 256 bytes of text, a place in it, and no more postfix than text before it
 pub record Asks (text : List ℕ) (place : ℕ) : Type 0 where
   pub short : length text ≤ mostText
   pub inside : atOf place ≤ length text
   pub few : endOf place ≤ atOf place
 
--- a formula was found: the place after it; its postfix is stored from the end of what stood before, and has no more bytes than its text
+-- the formula f was found, r is the place after it and `rest` the text from there on: its postfix is stored behind what stood before, and has no
+-- more bytes than its text
 pub record Tells (text : List ℕ) (place : ℕ) (before after : List ℕ) (f : Formula) (rest : List ℕ) (r : ℕ) : Type 0 where
   pub rest-is : rest ≡ drop (atOf r) text
   pub end-is : endOf r ≡ endOf place + length (postfixOf f)
@@ -62,11 +76,11 @@ pub record Tells (text : List ℕ) (place : ℕ) (before after : List ℕ) (f : 
   pub inside : atOf r ≤ length text
   pub few : endOf r + atOf place ≤ endOf place + atOf r
 
--- a formula, or none
+-- what is told of a formula, and of none: then the place is nowhere
 abbrev pub Told : List ℕ → ℕ → List ℕ → List ℕ → Read → ℕ → Type 0
 Told text place before after (Found f rest) r = Tells text place before after f rest r
 Told text place before after Outside r = r ≡ nowhere
 
--- a reading from a place on
+-- a function that reads x from a place on, and answers r
 pub record Reads (text : List ℕ) (place : ℕ) (before after : List ℕ) (x : Read) (r : ℕ) : Type 0 where
   pub told : Told text place before after x r

@@ -5,20 +5,25 @@
 use crate::words::are_digits;
 use crate::words::byte_at;
 use crate::words::is_letter;
-use crate::words::product_code;
-use crate::words::sum_code;
 ghost use mathlib.Core.Path.{_≡_};
 ghost use Prim.Native.Nat.{_+_, _≤_, _<_};
 ghost use lib.ListN.{length, take, drop, getD, set};
 ghost use lib.Seq.{sets};
 ghost use Rattle.formula.specs.Reader.{constantOf, leafOf, factorOf, productOf, sumOf};
-ghost use Rattle.formula.specs.Told.{mostText, atOf, endOf, nowhere, closedAt, longerOf, Asks, Reads};
+ghost use Rattle.formula.specs.Told.{mostText, atOf, endOf, nowhere, closedAt, longerOf, signCode, signOf};
+ghost use Rattle.formula.specs.Told.{Asks, Reads};
 
 // The place after no part: past every text, so that nothing can be joined to it.
 pub const NOWHERE: u32 = 511;
 
 // The command of a minus, CHSF.
 const MINUS: u8 = 0x15;
+
+// What joins operands: plus and minus the products of a sum, times and divide the factors of a product.
+pub enum Rank {
+    Sum,
+    Product,
+}
 
 // Where a place lies in the text.
 pub fn at_of(place: u32) -> usize
@@ -116,6 +121,25 @@ fn bracketed(text: &[u8], place: u32) -> u32
     place + 1
 }
 
+// The code of the command of a sign of a rank that stands at a place, 0 where none does.
+fn sign_at(text: &[u8], place: u32, rank: Rank) -> u8
+    ensures { λ r. ⌜ r ≡ signCode (signOf rank (getD (now (text .entry)) (atOf place) 0)) ⌝ }
+{
+    let b = byte_at(text, at_of(place));
+    match rank {
+        Rank::Sum => match b {
+            b'+' => 0x10,
+            b'-' => 0x11,
+            _ => 0,
+        },
+        Rank::Product => match b {
+            b'*' => 0x12,
+            b'/' => 0x13,
+            _ => 0,
+        },
+    }
+}
+
 // A sum: products joined by plus or minus, left to right.
 pub fn sum(text: &[u8], out: &mut [u8; 256], place: u32, depth: u32) -> u32
     requires { ⌜ Asks (now text) place ⌝ }
@@ -124,7 +148,7 @@ pub fn sum(text: &[u8], out: &mut [u8; 256], place: u32, depth: u32) -> u32
 {
     let mut left = product(text, out, place, depth);
     loop {
-        let code = sum_code(byte_at(text, at_of(left)));
+        let code = sign_at(text, left, Rank::Sum);
         if code == 0 {
             return left;
         }
@@ -141,7 +165,7 @@ fn product(text: &[u8], out: &mut [u8; 256], place: u32, depth: u32) -> u32
 {
     let mut left = factor(text, out, place, depth);
     loop {
-        let code = product_code(byte_at(text, at_of(left)));
+        let code = sign_at(text, left, Rank::Product);
         if code == 0 {
             return left;
         }

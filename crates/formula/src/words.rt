@@ -4,37 +4,14 @@ ghost use mathlib.Core.Bool.{true};
 ghost use Prim.Native.Nat.{_+_, _*_, _<_};
 ghost use lib.ListN.{length, getD};
 ghost use Rattle.formula.specs.Grammar.{isDigit, areDigits};
-ghost use Rattle.formula.specs.Reader.{isLetter, sumSign, productSign};
+ghost use Rattle.formula.specs.Reader.{isLetter};
 ghost use Rattle.formula.specs.File.{letterWord, digitValue, constantWord};
-ghost use Rattle.formula.specs.Told.{signCode};
 
 // The byte at a place, 0 past the end.
 pub fn byte_at(text: &[u8], i: usize) -> u8
     ensures { λ r. ⌜ r ≡ getD (now (text .entry)) i 0 ⌝ }
 {
     if i < text.len() { text[i] } else { 0 }
-}
-
-// The code of FADD for a plus, of FSUB for a minus, else 0.
-pub fn sum_code(b: u8) -> u8
-    ensures { λ r. ⌜ r ≡ signCode (sumSign b) ⌝ }
-{
-    match b {
-        b'+' => 0x10,
-        b'-' => 0x11,
-        _ => 0,
-    }
-}
-
-// The code of FMUL for a `*`, of FDIV for a `/`, else 0.
-pub fn product_code(b: u8) -> u8
-    ensures { λ r. ⌜ r ≡ signCode (productSign b) ⌝ }
-{
-    match b {
-        b'*' => 0x12,
-        b'/' => 0x13,
-        _ => 0,
-    }
 }
 
 // Whether a byte is a letter, a to h.

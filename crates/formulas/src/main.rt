@@ -22,7 +22,7 @@ fn main() {
     let mut text = [0u8; 257];
     let n = io::read_full(STDIN_FILENO, &mut text);
     let mut file = [0u8; 1664];
-    let r = pundaliket::formulas::pundaliket_formula(&text[..n], &letters, &mut file);
+    let r = pundaliket::pundaliket_formula(&text[..n], &letters, &mut file);
     if r < 65536 {
         let n = io::count(r as isize, &file);
         io::write_all(STDOUT_FILENO, &file[..n]);

@@ -2,6 +2,7 @@
 -- the last three exclude being minus zero. Assumes nothing.
 use mathlib.Core.Path.{_≡_, sym, ap, _∙_, subst}
 use mathlib.Core.Logic.{_⊎_, inl, inr, ⊎-elim}
+use mathlib.Core.Bool.{Bool}
 use Prim.Native.Nat.{ℕ, _*_, _^_, _≤_, _<_}
 use native.Mathlib.Nat.{eq-of-mul-eq-mul-right, mul-assoc, mul-comm, mul-right-comm, zero-mul, one-mul, mul-le-mul-right, mul-lt-mul-of-pos-right, mul-pos}
 use native.Mathlib.Nat.{lt-irrefl, lt-of-lt-of-le, lt-of-le-of-lt, le-trans, le-of-eq}
@@ -9,10 +10,10 @@ use lib.Pow.{pow-pos}
 use lib.Ieee.{Float, nan, inf, fin, up, down}
 use lib.Ieee.Fits.{down-pos, up-pos}
 use Rattle.float.specs.Word.{negative, mantissa, size88, value}
-use Rattle.float.proofs.Kept.{same-word}
+use Rattle.float.proofs.cut.Kept.{same-word}
 use Rattle.host_floats.specs.Values.{HasWord, Endless, IsMinusZero, Large, Small}
 use Rattle.host_floats.proofs.Signs.{of-signed, parted}
-use Rattle.host_floats.proofs.Words.{proper-cases, size-zero, size-some, size-lt}
+use Rattle.host_floats.proofs.WordSizes.{proper-cases, size-zero, size-some, size-lt}
 
 value-same : (w v : ℕ) → size88 w ≡ size88 v → (negative w ≡ negative v) ⊎ (size88 v ≡ 0) → value w ≡ value v
 unfolding value
@@ -64,15 +65,20 @@ held-small (fin s m e) w a h = ⊎-elim some none (proper-cases w (a .word .is-p
         let f : m * up e * 2 ^ 88 ≡ 0 = sizes ∙ ap (λ (n : ℕ). n * down e) (ap size88 z ∙ size-zero) ∙ zero-mul (down e) in
         lt-irrefl 0 (subst (λ (n : ℕ). 0 < n) f (mul-pos (mul-pos (h .0) (up-pos e)) (pow-pos 88)))
 
+-- an endless float has nothing that neither a NaN nor an infinity has
+endless-not : (P : Float → Type 0) → (P nan → ⊥) → ((s : Bool) → P (inf s) → ⊥) → (x : Float) → Endless x → P x → ⊥
+endless-not P n i nan t h = n h
+endless-not P n i (inf s) t h = i s h
+endless-not P n i (fin s m e) t h = t
+
 pub endless-large : (x : Float) → Endless x → Large x → ⊥
-endless-large nan t h = h
-endless-large (inf s) t h = h
-endless-large (fin s m e) t h = t
+endless-large = endless-not Large (λ h. h) (λ s h. h)
 
 pub endless-small : (x : Float) → Endless x → Small x → ⊥
-endless-small nan t h = h
-endless-small (inf s) t h = h
-endless-small (fin s m e) t h = t
+endless-small = endless-not Small (λ h. h) (λ s h. h)
+
+pub endless-minus : (x : Float) → Endless x → IsMinusZero x → ⊥
+endless-minus = endless-not IsMinusZero (λ h. h) (λ s h. h)
 
 pub large-small : (x : Float) → Large x → Small x → ⊥
 large-small nan l h = h
@@ -83,11 +89,6 @@ large-small (fin s m e) l h =
     let r : 2 ^ 63 * down e * 2 ^ 65 ≡ 2 ^ 128 * down e = mul-right-comm (2 ^ 63) (down e) (2 ^ 65) in
     lt-irrefl (m * up e * 2 ^ 65)
     (lt-of-lt-of-le (h .1) (le-trans (le-of-eq (sym (one-mul (down e)))) (le-trans q (le-trans (le-of-eq (sym r)) p))))
-
-pub endless-minus : (x : Float) → Endless x → IsMinusZero x → ⊥
-endless-minus nan t h = h
-endless-minus (inf s) t h = h
-endless-minus (fin s m e) t h = t
 
 pub minus-large : (x : Float) → IsMinusZero x → Large x → ⊥
 minus-large nan t h = h

@@ -18,7 +18,7 @@ use Rattle.host_floats.specs.declared.Taken.the-variants.{Word, Refused}
 use Rattle.host_floats.proofs.Signs.{same-value}
 use Rattle.host_floats.proofs.Patterns.{joined, rejoined}
 use Rattle.host_floats.proofs.Sizes.{of-minus}
-use Rattle.host_floats.proofs.Words.{proper-cases, size-some}
+use Rattle.host_floats.proofs.WordSizes.{proper-cases, size-some}
 use Rattle.host_floats.proofs.Outward.{bits-some, word-value}
 use Rattle.host_floats.proofs.Apart.{one-word, held-endless, held-large, held-small, endless-large, endless-small, large-small, endless-minus}
 use Rattle.host_floats.proofs.Apart.{minus-large, minus-small}

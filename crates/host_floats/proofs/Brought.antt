@@ -15,9 +15,9 @@ use borrow.Author.Tests.{ltb-true, ltb-false, eqb-true, eqb-false}
 use lib.Ieee.{Float, nan, inf, fin, up, down, binary64, ofBits}
 use lib.Ieee.Exact.{HasValue}
 use lib.Ieee.Fits.{down-pos}
-use Rattle.whole.specs.Signed.{withSign}
-use Rattle.whole.proofs.Differences.{either, above, beneath, parts, le-differences}
-use Rattle.whole.proofs.Signs.{size-of-signed}
+use Rattle.numbers.specs.Signed.{withSign}
+use Rattle.numbers.proofs.Differences.{either, above, beneath, parts, le-differences}
+use Rattle.numbers.proofs.Signs.{size-of-signed}
 use Rattle.terms.specs.declared.Refusal.the-variants.{NotFinite, TooLarge, TooSmall, MinusZero}
 use Rattle.terms.specs.declared.Rule.{Rule}
 use Rattle.terms.specs.declared.Rule.the-variants.{Cut, Nearest}
@@ -27,17 +27,17 @@ use Rattle.float.specs.Cut.{below0}
 use Rattle.float.specs.Exact.{CutsBy}
 use Rattle.float.specs.Float.{Result}
 use Rattle.float.specs.Nearest.{PairBy}
-use Rattle.float.proofs.Signs.{cut-sign}
+use Rattle.float.proofs.cut.Signs.{cut-sign}
 use Rattle.float.proofs.Results.{cut-result}
 use Rattle.float.proofs.Steps.{exactly}
 use Rattle.float.proofs.Moved.{stored-as-is}
-use Rattle.float.proofs.RulePair.{one-pair-by, a-pair-by}
+use Rattle.float.proofs.cut.RulePair.{one-pair-by, a-pair-by}
 use Rattle.host_floats.specs.Values.{HasWord, Endless, IsMinusZero, Small, PairOf, Signed, BroughtTo, LargeBy}
 use Rattle.host_floats.specs.Double.{doubleSign, doubleField, doubleFraction, doubleBits, broughtOf, inwardOf}
 use Rattle.host_floats.specs.declared.entry.Inward.{Inward}
 use Rattle.host_floats.specs.declared.entry.Inward.the-variants.{Exact, Rounded, Refused}
 use Rattle.host_floats.proofs.Signs.{parted, same-value}
-use Rattle.host_floats.proofs.Words.{proper-cases, size-zero}
+use Rattle.host_floats.proofs.WordSizes.{proper-cases, size-zero}
 use Rattle.host_floats.proofs.Patterns.{all-ones}
 use Rattle.host_floats.proofs.Classes.{below-ones, zero-right, minus-right, minus-bits, small-right}
 use Rattle.host_floats.proofs.DoubleOut.{double-value}

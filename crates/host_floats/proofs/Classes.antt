@@ -10,12 +10,12 @@ use lib.Dec.{lit<}
 use lib.Pow.{pow-pos, pow-mono}
 use borrow.Author.Tests.{leb-true}
 use lib.Ieee.{Format, binary32, binary64, emax, low, hid, ones, top, ofBits}
-use Rattle.whole.proofs.Differences.{either}
+use Rattle.numbers.proofs.Differences.{either}
 use Rattle.host_floats.specs.Values.{HasWord, IsMinusZero, Small}
 use Rattle.host_floats.proofs.Patterns.{signIn, fieldIn, digitsIn, leading, leading-lt, leading-none, leading-some, bits-value, all-ones}
 use Rattle.host_floats.proofs.Sizes.{same-of, small-of, first-zero, minus-of, of-minus}
 use Rattle.host_floats.proofs.Apart.{endless-minus}
-use Rattle.host_floats.proofs.Words.{size-zero}
+use Rattle.host_floats.proofs.WordSizes.{size-zero}
 
 -- the size of bits whose field is not all ones, in units of the least value
 abbrev pub sizeIn : Format → ℕ → ℕ

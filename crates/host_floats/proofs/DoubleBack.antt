@@ -16,15 +16,15 @@ use Rattle.terms.specs.declared.Refusal.the-variants.{NotFinite, TooLarge, TooS
 use Rattle.terms.specs.declared.Rule.{Rule}
 use Rattle.float.specs.Word.{negative, mantissa, exponent, size88, value, FloatWord}
 use Rattle.float.proofs.Moved.{word-size}
-use Rattle.float.proofs.Kept.{same-word}
-use Rattle.float.proofs.RulePair.{one-pair-by}
+use Rattle.float.proofs.cut.Kept.{same-word}
+use Rattle.float.proofs.cut.RulePair.{one-pair-by}
 use Rattle.host_floats.specs.Values.{HasWord, Endless, IsMinusZero, Small, BroughtTo, LargeBy}
 use Rattle.float.specs.declared.Flagged.{Flagged}
 use Rattle.host_floats.specs.Double.{doubleField, doubleBits, broughtOf, inwardOf}
 use Rattle.host_floats.specs.declared.entry.Inward.{Inward}
 use Rattle.host_floats.specs.declared.entry.Inward.the-variants.{Exact, Rounded, Refused}
 use Rattle.host_floats.proofs.Signs.{of-signed, united}
-use Rattle.host_floats.proofs.Words.{size-zero}
+use Rattle.host_floats.proofs.WordSizes.{size-zero}
 use Rattle.host_floats.proofs.Back.{word-not-minus}
 use Rattle.host_floats.proofs.Apart.{one-word, held-endless, held-small, endless-small, endless-minus, minus-small}
 use Rattle.host_floats.proofs.DoubleOut.{double-value}

@@ -1,7 +1,7 @@
--- What is true of the two conversions, and what the proofs of the functions rest on.
+-- What is true of the conversions, and what the proofs of the functions rest on; the last five are of buffers.
 pub mod Signs
 pub mod Patterns
-pub mod Words
+pub mod WordSizes
 pub mod Outward
 pub mod Apart
 pub mod Sizes
@@ -15,3 +15,8 @@ pub mod Pairs
 pub mod Owned
 pub mod Brought
 pub mod DoubleBack
+pub mod Looking
+pub mod Writing
+pub mod Answers
+pub mod Blocks
+pub mod Found

@@ -16,7 +16,7 @@ use Rattle.float.specs.Word.{negative, biased, mantissa, proper, size88}
 use Rattle.host_floats.specs.Host.{exponentField, hostBits, hostOf}
 use Rattle.host_floats.specs.declared.Host.the-variants.{Float as Floats, Refused}
 use Rattle.host_floats.proofs.Patterns.{lower, recast, normal, subnormal, of-bits, fieldIn, joined, joined-field, of-joined}
-use Rattle.host_floats.proofs.Words.{proper-cases, size-zero}
+use Rattle.host_floats.proofs.WordSizes.{proper-cases, size-zero}
 
 -- ---- in either format
 -- the bits of a word with bit 23 set: its sign, its exponent, its mantissa without the leading bit and zeros behind that

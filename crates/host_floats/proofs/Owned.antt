@@ -12,16 +12,16 @@ use lib.Pow.{pow-add, pow-pos, pow-mono}
 use lib.Ieee.{Float, nan, inf, fin, up, down, binary64, ofBits}
 use lib.Ieee.Exact.{HasValue}
 use lib.Ieee.Fits.{down-pos}
-use Rattle.whole.specs.Signed.{withSign}
-use Rattle.whole.proofs.Differences.{either}
-use Rattle.whole.proofs.Signs.{times}
+use Rattle.numbers.specs.Signed.{withSign}
+use Rattle.numbers.proofs.Differences.{either}
+use Rattle.numbers.proofs.Signs.{times}
 use Rattle.terms.specs.declared.Rule.{Rule}
 use Rattle.float.specs.Word.{negative, biased, mantissa, size88, value, FloatWord}
-use Rattle.float.proofs.Signs.{alone}
-use Rattle.float.proofs.Kept.{own-value}
+use Rattle.float.proofs.cut.Signs.{alone}
+use Rattle.float.proofs.cut.Kept.{own-value}
 use Rattle.host_floats.specs.Double.{doubleSign, doubleField, doubleFraction, doubleBits, broughtOf}
 use Rattle.host_floats.proofs.Patterns.{joined, leading-many, bits-value, rejoined}
-use Rattle.host_floats.proofs.Words.{proper-cases}
+use Rattle.host_floats.proofs.WordSizes.{proper-cases}
 use Rattle.host_floats.proofs.Outward.{not-zero}
 use Rattle.host_floats.proofs.DoubleOut.{double-some}
 use Rattle.host_floats.proofs.DoubleIn.{doubleSize}

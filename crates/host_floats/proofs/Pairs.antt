@@ -12,13 +12,14 @@ use lib.Signed.{_≤ℤ_}
 use lib.Pow.{pow-pos, pow-mono}
 use lib.Ieee.{up, down}
 use lib.Ieee.Fits.{up-pos, down-pos}
-use Rattle.whole.proofs.Differences.{either, above, beneath, parts, le-parts, sub-ge, less-difference}
+use Rattle.numbers.proofs.Differences.{either, above, beneath, parts, le-parts, sub-ge, less-difference}
 use Rattle.terms.specs.declared.Rule.{Rule}
 use Rattle.terms.specs.declared.Rule.the-variants.{Cut, Nearest}
 use Rattle.float.specs.Word.{mantissa, exponent, size88}
+use Rattle.float.specs.Cut.{lastPlace}
 use Rattle.float.specs.Nearest.{belowMark, aboveMark, Between, PairBy}
-use Rattle.float.proofs.Nearest.{mark-least, mark-more, least-or-more}
-use Rattle.float.proofs.RulePair.{rescaled}
+use Rattle.float.proofs.cut.NearPair.{mark-least, mark-more, least-or-more}
+use Rattle.float.proofs.cut.RulePair.{rescaled}
 use Rattle.float.proofs.Moved.{word-size}
 use Rattle.float.proofs.Steps.{size-lt}
 
@@ -33,10 +34,14 @@ module _ (a c b d m : ℕ) (e : ℤ) (C : 0 < c) (D : 0 < d) (same : a * d ≡ b
   units : (k y : ℕ) → k * (c * y) * d ≡ k * (d * y) * c
   units k y = mul-assoc k (c * y) d ∙ ap (λ (x : ℕ). k * x) (exchanged c y d) ∙ sym (mul-assoc k (d * y) c)
 
+  abbrev U : ℕ
+  U = up (lastPlace e)
+
+  abbrev Y : ℕ
+  Y = down (lastPlace e)
+
   pub pair-same : (r : Rule) → PairBy r a c m e → PairBy r b d m e
   pair-same Cut p =
-      let U = up (e -ℤ pos 24) in
-      let Y = down (e -ℤ pos 24) in
       record {
         low = p .low;
         high = p .high;
@@ -44,8 +49,6 @@ module _ (a c b d m : ℕ) (e : ℤ) (C : 0 < c) (D : 0 < d) (same : a * d ≡ b
         passed = lt-of-mul-lt-mul-right c (subst₂ (λ (x y : ℕ). x < y) (numbers Y) (units (m + 1) U) (mul-lt-mul-of-pos-right (p .passed) D));
       }
   pair-same Nearest p =
-      let U = up (e -ℤ pos 24) in
-      let Y = down (e -ℤ pos 24) in
       record {
         low = p .low;
         high = p .high;

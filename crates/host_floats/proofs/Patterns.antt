@@ -9,7 +9,7 @@ use lib.Dec.{T, leb, eqb}
 use borrow.Author.Tests.{le-leb, lt-leb, ne-eqb}
 use lib.Ieee.{Float, nan, inf, fin, Format, binary32, binary64, prec, low, hid, ones, top, ofBits, ofFields, up, down, nanBits}
 use lib.Ieee.Exact.{HasValue, odd-sign}
-use Rattle.whole.proofs.Differences.{either}
+use Rattle.numbers.proofs.Differences.{either}
 use Rattle.host_floats.specs.Values.{Endless}
 
 -- the fields of bits: the sign, the exponent's field, the digits below the leading one

@@ -12,13 +12,13 @@ use borrow.Author.Tests.{lt-leb, le-leb}
 use lib.Ieee.Nearest.{closest}
 use Rattle.terms.specs.declared.Rule.{Rule}
 use Rattle.terms.specs.declared.Rule.the-variants.{Cut, Nearest}
-use Rattle.whole.proofs.Differences.{either}
+use Rattle.numbers.proofs.Differences.{either}
 use Rattle.float.specs.declared.Flagged.{Flagged}
 use Rattle.float.specs.Word.{negative, biased, mantissa}
 use Rattle.float.specs.Cut.{whole, mantissaOf, digitsOf, packed, stored}
-use Rattle.float.proofs.NearWhole.{closest-up, closest-stays}
-use Rattle.float.proofs.Pair.{whole-same}
-use Rattle.float.proofs.Values.{packed-mantissa, packed-biased, packed-sign, error-in, error-over, settled-same, settled-up, top-cut}
+use Rattle.float.proofs.cut.NearWhole.{closest-up, closest-stays}
+use Rattle.float.proofs.cut.Pair.{whole-same}
+use Rattle.float.proofs.cut.Values.{packed-mantissa, packed-biased, packed-sign, error-in, error-over, settled-same, settled-up, top-cut}
 use Rattle.host_floats.specs.Double.{doubleSign, doubleField, doubleFraction, doubleBits, broughtOf}
 use Rattle.host_floats.proofs.DoubleIn.{cut-is}
 use Rattle.host_floats.proofs.DoubleOut.{double-some, double-are}

@@ -10,8 +10,8 @@ use lib.IntN.{ℤ, pos, negℤ, negℤ-negℤ}
 use lib.Ieee.{Float, nan, inf, fin, up, down}
 use lib.Ieee.Exact.{HasValue}
 use lib.Ieee.Fits.{down-pos}
-use Rattle.whole.specs.Signed.{withSign}
-use Rattle.whole.proofs.Signs.{zero-signed}
+use Rattle.numbers.specs.Signed.{withSign}
+use Rattle.numbers.proofs.Signs.{zero-signed}
 use Rattle.float.specs.Word.{negative, size88}
 use Rattle.host_floats.specs.Values.{Same}
 

@@ -7,7 +7,7 @@ use lib.IntN.{ℤ}
 use lib.Ieee.{binary64, ofBits}
 use Rattle.terms.specs.declared.Refusal.the-variants.{Improper, NotFinite, TooLarge, TooSmall, MinusZero}
 use Rattle.terms.specs.declared.Rule.{Rule}
-use Rattle.whole.specs.Signed.{withSign}
+use Rattle.numbers.specs.Signed.{withSign}
 use Rattle.float.specs.declared.Flagged.{Flagged}
 use Rattle.float.specs.Word.{negative, biased, mantissa, proper}
 use Rattle.float.specs.Cut.{cut}

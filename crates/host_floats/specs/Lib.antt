@@ -1,4 +1,5 @@
--- Chip words as host floats and back.
+-- Chip words as host floats and back, and buffers of them.
 pub mod Host
 pub mod Values
 pub mod Double
+pub mod Buffers

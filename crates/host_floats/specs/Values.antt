@@ -5,7 +5,7 @@ use mathlib.Core.Path.{_≡_}
 use mathlib.Core.Bool.{Bool, true}
 use lib.IntN.{ℤ, pos, _-ℤ_}
 use lib.Ieee.{Float, nan, inf, fin, up, down}
-use Rattle.whole.specs.Signed.{withSign}
+use Rattle.numbers.specs.Signed.{withSign}
 use Rattle.terms.specs.declared.Rule.{Rule}
 use Rattle.float.specs.Word.{negative, mantissa, exponent, size88, FloatWord}
 use Rattle.float.specs.Nearest.{PairBy}

@@ -1,6 +1,5 @@
 // One entry of a buffer: a chip word as an f64, always exact, and an f64 as a chip word, exact or brought to
-// 24 bits by a rule. An f64 comes in by its bits, so that a pattern that is no number is turned away
-// before a float is made of it.
+// 24 bits by a rule.
 ghost use mathlib.Core.Path.{_≡_};
 ghost use mathlib.Core.Bool.{cond};
 ghost use Prim.Native.Nat.{_+_, _-_, _*_, _/_, _%_, _^_, _≤_, _<_};

@@ -1,6 +1,9 @@
-// Chip words as host floats and back, the value unchanged. An f32 comes in by its bits,
-// so that a pattern that is no number is turned away before a float is made of it.
+// Chip words as host floats and back: an f32, the value unchanged; an f64; and buffers of f64s. A float comes in by
+// its bits, so that a pattern that is no number is turned away before a float is made of it.
+pub mod buffer;
 pub mod entry;
+pub mod floats;
+pub mod words;
 
 ghost use mathlib.Core.Path.{_≡_};
 ghost use mathlib.Core.Bool.{cond};

@@ -1,13 +1,14 @@
 -- Document 01, 'The listing program': what is printed for an input. Definitions only. Assumes nothing.
-use Prim.Native.Nat.{ℕ}
+use Prim.Native.Nat.{ℕ, _-_}
+use mathlib.Core.Bool.{Bool, false, cond}
 use mathlib.Core.List.{List, [], _∷_}
+use lib.Dec.{ltb}
 use lib.ListN.{replicate}
 use Rattle.terms.specs.Limits.{stateBytes, reportBytes}
 use Rattle.state_bytes.specs.Calls.{Called, callOf}
-use Rattle.listing.specs.Listing.{newline, replyRoom, printedOf}
-use Rattle.options.specs.declared.Asked.{Asked}
-use Rattle.options.specs.declared.Asked.the-variants.{Under, Nothing}
-use Rattle.options.specs.Options.{askedOf}
+use Rattle.listing.specs.Listing.{replyRoom, printedOf}
+use Rattle.listing.specs.Options.{sameText, askedOf, textFor}
+use Rattle.list_text.specs.Trace.{traceOf}
 
 -- the run that it makes: the input on the state of a reset, under a mode and a rule
 abbrev pub callUnder : ℕ → ℕ → List ℕ → Called
@@ -24,14 +25,16 @@ callFor = callUnder 0 0
 abbrev pub printoutOf : List ℕ → List ℕ
 printoutOf = printoutUnder 0 0
 
--- the line `usage`
-abbrev pub usageText : List ℕ
-usageText = 117 ∷ 115 ∷ 97 ∷ 103 ∷ 101 ∷ newline ∷ []
+-- `--trace` behind the program's name asks for the trace in the place of the listing
+abbrev pub traceText : List ℕ
+traceText = 45 ∷ 45 ∷ 116 ∷ 114 ∷ 97 ∷ 99 ∷ 101 ∷ []
 
--- what the program prints for a call: that line where the call asks for nothing that it does
-abbrev pub textOf : Asked → List ℕ → List ℕ
-textOf (Under mode rule) input = printoutUnder mode rule input
-textOf Nothing input = usageText
+unfoldable pub isTrace : ℕ → List ℕ → Bool
+isTrace words first = cond (ltb words 2) false (sameText first traceText)
 
-abbrev pub toldOf : ℕ → List ℕ → List ℕ → List ℕ → List ℕ
-toldOf words first second input = textOf (askedOf words first second) input
+-- what the program prints for a call of so many words, its own name among them
+abbrev pub toldOf : ℕ → List ℕ → List ℕ → List ℕ → List ℕ → List ℕ
+toldOf words first second third input =
+    cond (isTrace words first)
+    (textFor traceOf (askedOf (words - 1) second third) input)
+    (textFor printoutUnder (askedOf words first second) input)

@@ -6,7 +6,7 @@ use Prim.Native.Nat.{ℕ, _+_, _/_, _%_, _≤_, min}
 use native.Mathlib.Omega.{arith}
 use native.Mathlib.Nat.{add-zero, zero-add}
 use lib.ListN.{length, take, length-append, length-take}
-use lib.Seq.{paste, take-paste, take-length, take-all}
+use lib.Seq.{paste, take-paste, take-length, take-all, length-take-le}
 use lib.Dec.{leb}
 use borrow.Author.Tests.{leb-true, leb-false}
 use Rattle.io.specs.Counts.{Counts}
@@ -22,6 +22,24 @@ both {x} {y} {a} {b} {c} {p} {q} {r} h k = record {
   moved = omega (arith, h .moved, k .moved, length-append x y);
   reads = k .reads ∙ ap (λ (l : List ℕ). l ++ y) (h .reads) ∙ append-assoc (take p a) x y;
 }
+
+-- text added by another name
+pub told-as : {x y before after : List ℕ} {place new : ℕ} → x ≡ y → Adds x before after place new → Adds y before after place new
+told-as {before = before} {after = after} {place = place} {new = new} e h = subst (λ (t : List ℕ). Adds t before after place new) e h
+
+-- where all of a text is what stands before a place and a rest: with no rest it is added, and what the rest begins with comes next
+module _ {all rest after : List ℕ} {place : ℕ} (so-far : all ≡ take place after ++ rest) where
+  pub all-added : {before : List ℕ} → place ≤ length after → rest ≡ [] → Adds all before after 0 place
+  all-added h e =
+      let is : all ≡ take place after = so-far ∙ ap (λ (l : List ℕ). take place after ++ l) e ∙ append-nil (take place after) in
+      record { moved = rw is (omega (arith, length-take-le place after h)); reads = sym is }
+
+  pub next-added : (line tail : List ℕ) {out : List ℕ} {new : ℕ} → rest ≡ line ++ tail → Adds line after out place new → all ≡ take new out ++ tail
+  next-added line tail e a =
+      so-far
+      ∙ ap (λ (l : List ℕ). take place after ++ l) e
+      ∙ sym (append-assoc (take place after) line tail)
+      ∙ ap (λ (l : List ℕ). l ++ tail) (sym (a .reads))
 
 -- a copy adds what is copied
 pub copied : (t l : List ℕ) (place : ℕ) → place + length t ≤ length l → Adds t l (paste l place t (length t)) place (place + length t)
@@ -42,6 +60,10 @@ pub counted : {text before after : List ℕ} {new : ℕ} → Adds text before af
 counted {text} {before} {after} {new} h =
     let e : length (take new after) ≡ new = ap length (h .reads) ∙ sym (h .moved ∙ zero-add (length text)) in
     (omega (arith, e, length-take new after), sym e)
+
+-- and is what they hold, by another name
+pub at-front : {x y before after : List ℕ} {new : ℕ} → x ≡ y → Adds x before after 0 new → Counts new after × (take new after ≡ y)
+at-front e h = (counted h, h .reads ∙ e)
 
 -- as many as there are, where more are asked for
 pub take-least : (l : List ℕ) (n most : ℕ) → length l ≡ most → take (min n most) l ≡ take n l

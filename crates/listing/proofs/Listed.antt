@@ -1,6 +1,6 @@
 -- The lines of the replies come one reply at a time, and each line has room: four characters for each byte of its reply. Assumes nothing.
 use mathlib.Core.Path.{_≡_, refl, sym, ap, _∙_}
-use mathlib.Core.List.{List, [], _∷_, _++_, append-assoc, append-nil}
+use mathlib.Core.List.{List, [], _∷_, _++_}
 use mathlib.Core.Bool.{Bool, true, false, cond}
 use Prim.Native.Nat.{ℕ, zero, suc, _+_, _*_, _-_, _≤_, _<_, min}
 use native.Mathlib.Omega.{arith}
@@ -8,13 +8,13 @@ use native.Mathlib.Nat.{not-suc-le-zero}
 use lib.ListN.{length, take, drop, getD, length-append, length-take, length-drop, drop-of-length-le}
 use lib.Dec.{ltb}
 use borrow.Author.Tests.{lt-ltb}
-use lib.Seq.{length-take-le, drop-drop, take-all, getD-drop, take-append-seam, drop-append-seam}
-use Rattle.little.specs.Little.{wordAt, fourAt}
-use Rattle.little.proofs.Exact.{two-bytes}
+use lib.Seq.{drop-drop, take-all, getD-drop, take-append-seam, drop-append-seam}
+use Rattle.numbers.specs.Little.{wordAt, fourAt}
+use Rattle.numbers.proofs.Exact.{two-bytes}
 use Rattle.listing.specs.Text.{Adds}
 use Rattle.listing.specs.Listing.{lineOf, replyBytes, kindFrom, replyKind, replyRefusal, replyData, replySize, replyLine, hasReply, wholeSize, Front}
 use Rattle.listing.specs.Listing.{linesUpTo, linesOf, listingOf, printedOf}
-use Rattle.listing.proofs.Adding.{take-least}
+use Rattle.listing.proofs.Adding.{take-least, all-added, next-added}
 use Rattle.listing.proofs.Decimal.{short}
 use Rattle.listing.proofs.Lines.{line-length, data-length}
 use Rattle.listing.proofs.Replies.{front, found, is-whole}
@@ -121,10 +121,7 @@ module _ (replies before after : List ℕ) (place number at : ℕ) (g : Going re
   where
     -- no line is left
     pub ends : linesOf number (drop at replies) ≡ [] → Adds (linesOf 1 replies) before after 0 place
-    ends e =
-        let k : length (take place after) ≡ place = length-take-le place after (omega (arith, g .room, g .at-most, g .same)) in
-        let all : linesOf 1 replies ≡ take place after = g .so-far ∙ ap (λ (x : List ℕ). take place after ++ x) e ∙ append-nil (take place after) in
-        record { moved = rw all (omega arith); reads = sym all }
+    ends e = all-added (g .so-far) (omega (arith, g .room, g .at-most, g .same)) e
 
     pub stops : hasReply (drop at replies) ≡ false → Adds (linesOf 1 replies) before after 0 place
     stops e = ends (no-more number (drop at replies) e)
@@ -150,20 +147,15 @@ module _ (replies before after : List ℕ) (place number at : ℕ) (g : Going re
           same = s ∙ g .same;
           few = omega (arith, g .few, f .at-least);
           room = omega (arith, a .moved, g .room);
-          so-far =
-              g .so-far
-              ∙ ap (λ (x : List ℕ). take place after ++ x) next
-              ∙ sym (append-assoc (take place after) line tail)
-              ∙ ap (λ (x : List ℕ). x ++ tail) (sym (a .reads));
+          so-far = next-added (g .so-far) line tail next a;
         }
 
 -- what the code reads of the report
-pub as-printed : (replies report : List ℕ) (n written refusal taken : ℕ) → length replies ≡ 65536 → n ≡ min written 65536
-    → written ≡ fourAt report 5 → refusal ≡ getD report 0 0 → taken ≡ fourAt report 1 → listingOf (take n replies) refusal taken ≡ printedOf replies report
-as-printed replies report n written refusal taken h a w r t =
-    ap (λ (x : List ℕ). listingOf x refusal taken)
+pub as-printed : (replies report : List ℕ) (n written taken : ℕ) → length replies ≡ 65536 → n ≡ min written 65536
+    → written ≡ fourAt report 5 → taken ≡ fourAt report 1 → listingOf (take n replies) (getD report 0 0) taken ≡ printedOf replies report
+as-printed replies report n written taken h a w t =
+    ap (λ (x : List ℕ). listingOf x (getD report 0 0) taken)
     (ap (λ (k : ℕ). take k replies) a ∙ take-least replies written 65536 h ∙ ap (λ (k : ℕ). take k replies) w)
-    ∙ ap (λ (k : ℕ). listingOf (take (fourAt report 5) replies) k taken) r
     ∙ ap (λ (k : ℕ). listingOf (take (fourAt report 5) replies) (getD report 0 0) k) t
 
 -- the word of a core's reply is read back

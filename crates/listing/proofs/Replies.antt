@@ -2,13 +2,25 @@
 use mathlib.Core.Path.{_≡_, refl}
 use mathlib.Core.List.{List}
 use mathlib.Core.Bool.{Bool, true, false, cond}
-use Prim.Native.Nat.{ℕ, _+_, _≤_, _<_}
+use Prim.Native.Nat.{ℕ, _+_, _*_, _/_, _%_, _≤_, _<_}
 use native.Mathlib.Omega.{arith}
 use lib.Dec.{leb}
-use lib.ListN.{length}
+use lib.ListN.{length, getD}
 use borrow.Author.Tests.{le-leb, lt-leb, leb-true}
-use Rattle.little.specs.Little.{wordAt}
+use Rattle.numbers.specs.Little.{wordAt, fourAt}
 use Rattle.listing.specs.Listing.{replySize, hasReply, wholeSize, Front}
+
+-- the first four bytes as one number: its low half is the length's word, its high half the kind's
+halves : (a b c d : ℕ) → a < 256 → b < 256
+    → ((a + b * 256 + c * 65536 + d * 16777216) % 65536 ≡ a + b * 256) × ((a + b * 256 + c * 65536 + d * 16777216) / 65536 ≡ c + d * 256)
+halves a b c d h k = (omega arith, omega arith)
+
+module _ (l : List ℕ) {head : ℕ} (bytes : (i : ℕ) → getD l i 0 < 256) (e : head ≡ fourAt l 0) where
+  pub size-of : 2 + head % 65536 ≡ replySize l
+  size-of = omega (arith, e, halves (getD l 0 0) (getD l 1 0) (getD l 2 0) (getD l 3 0) (bytes 0) (bytes 1) .0)
+
+  pub kind-of : head / 65536 ≡ wordAt l 2
+  kind-of = omega (arith, e, halves (getD l 0 0) (getD l 1 0) (getD l 2 0) (getD l 3 0) (bytes 0) (bytes 1) .1)
 
 -- each test that fails leaves none
 pub too-short : (l : List ℕ) → length l < 5 → 0 ≡ wholeSize l

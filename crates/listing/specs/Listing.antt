@@ -5,7 +5,7 @@ use mathlib.Core.Bool.{Bool, false, cond}
 use mathlib.Core.List.{List, [], _∷_, _++_}
 use lib.Dec.{leb, ltb}
 use lib.ListN.{length, take, drop, getD}
-use Rattle.little.specs.Little.{wordAt, le2, fourAt}
+use Rattle.numbers.specs.Little.{wordAt, le2, fourAt}
 use Rattle.listing.specs.Text.{decimal, hex}
 
 -- the bytes of replies that the program lends

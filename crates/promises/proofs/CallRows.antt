@@ -3,7 +3,7 @@ use mathlib.Core.Path.{refl}
 use lib.Ieee.{size, ofBits, toBits}
 use Rattle.host_floats.specs.Host.{hostOf, takenOf}
 use Rattle.host_floats.specs.Double.{outwardOf, inwardOf}
-use Rattle.host_buffers.specs.Buffers.{wordsTurn, floatsTurn}
+use Rattle.host_floats.specs.Buffers.{wordsTurn, floatsTurn}
 use Rattle.formula.specs.Formula.{needOf}
 use Rattle.formula.specs.Reader.{formulaOf, factorOf, more, leafOf}
 use Rattle.formula.specs.File.{letterWord, properIn, fileOf}

@@ -41,7 +41,7 @@ use Rattle.promises.specs.RecordFiles.{IsRecord, push, pop, command, sta
 use Rattle.promises.specs.Records.{joined, EachTaken, repliesOf, inTurn}
 use Rattle.promises.specs.Chains.{Step, Add, Subtract, Multiply, Divide, TakeFrom, Change, Constants, chainOf, runEvents}
 use Rattle.promises.specs.Cores.{Core, Meets, driven, answersOf, allZero, onBus, busRun, wordLeft}
-use Rattle.promises.specs.ErrorMemory.{recordEvents, eventsIn}
+use Rattle.promises.specs.ErrorMemory.{recordEvents, eventsOfRecords}
 use Rattle.promises.specs.ChainFiles.{Carries, allAnswered, wordAtEnd, Demand3Records, ChainMet}
 use Rattle.promises.proofs.Measures.{ours-state, theirs-state}
 use Rattle.chip.proofs.Rows.{both-of}
@@ -89,8 +89,8 @@ Zero k r room es =
     (runOf k r room .written ≡ 3 ∷ 0 ∷ (getD r 2 0 + 128) ∷ 0 ∷ 0 ∷ []) × Silent es × (allZero (answersOf (runOf k r room .state) es) ≡ true)
 
 -- where a record is taken, and its events and those behind it are answered 0
-abbrev Answers : Card → ℕ → List Event → List ℕ → Type 0
-Answers k room es r =
+abbrev TakenSilently : Card → ℕ → List Event → List ℕ → Type 0
+TakenSilently k room es r =
     runOf k r room .refusal ≡ 0 → Silent (recordEvents r ++ es) → allZero (answersOf k (recordEvents r ++ es)) ≡ true → Zero k r room es
 
 abbrev pushes : List ℕ → List Event
@@ -110,7 +110,7 @@ no-pops : (n : ℕ) (es : List Event) → 1 ≤ n → Silent (replicate n (Chip 
 no-pops zero es l h = omega arith
 no-pops (suc n) es l h = h
 
-push-zero : (k : Card) (p : List ℕ) (room : ℕ) (es : List Event) → 1 ≤ length p → length p ≤ 240 → Answers k room es ((2 + length p) ∷ 0 ∷ 1 ∷ 0 ∷ p)
+push-zero : (k : Card) (p : List ℕ) (room : ℕ) (es : List Event) → 1 ≤ length p → length p ≤ 240 → TakenSilently k room es ((2 + length p) ∷ 0 ∷ 1 ∷ 0 ∷ p)
 push-zero k p room es a b z s h =
     let o = record-run k ((2 + length p) ∷ 0 ∷ 1 ∷ 0 ∷ p) room (push p a b refl) z in
     let f = zero-pushes (k .on) (k .memory) p (before (k .chip)) es refl h in (
@@ -119,7 +119,7 @@ push-zero k p room es a b z s h =
       ap (λ (x : Outcome). allZero (answersOf (x .state) es)) o ∙ f .1,
     )
 
-command-zero : (k : Card) (code room : ℕ) (es : List Event) → Answers k room es (3 ∷ 0 ∷ 3 ∷ 0 ∷ code ∷ [])
+command-zero : (k : Card) (code room : ℕ) (es : List Event) → TakenSilently k room es (3 ∷ 0 ∷ 3 ∷ 0 ∷ code ∷ [])
 command-zero k code room es z s h =
     let o = record-run k (3 ∷ 0 ∷ 3 ∷ 0 ∷ code ∷ []) room (command code refl) z in
     let f = first-zero (numberOf ((eventIn k (Chip (Command code))) .refusal)) _ _ h in (
@@ -128,9 +128,9 @@ command-zero k code room es z s h =
       ap (λ (x : Outcome). allZero (answersOf (x .state) es)) o ∙ f .1,
     )
 
-one-zero : (k : Card) (r : List ℕ) (room : ℕ) (es : List Event) → IsRecord r → Answers k room es r
-one-zero k r room es (push p a b e) = subst (Answers k room es) (sym e) (push-zero k p room es a b)
-one-zero k r room es (command code e) = subst (Answers k room es) (sym e) (command-zero k code room es)
+one-zero : (k : Card) (r : List ℕ) (room : ℕ) (es : List Event) → IsRecord r → TakenSilently k room es r
+one-zero k r room es (push p a b e) = subst (TakenSilently k room es) (sym e) (push-zero k p room es a b)
+one-zero k r room es (command code e) = subst (TakenSilently k room es) (sym e) (command-zero k code room es)
 one-zero k r room es (pop n a b e) = λ z s h. absurd (no-pops n es a (subst (λ (x : List ℕ). Silent (recordEvents x ++ es)) e s))
 one-zero k r room es (status e) = λ z s h. absurd (subst (λ (x : List ℕ). Silent (recordEvents x ++ es)) e s)
 one-zero k r room es (reset e) = λ z s h. absurd (subst (λ (x : List ℕ). Silent (recordEvents x ++ es)) e s)
@@ -138,11 +138,11 @@ one-zero k r room es (acknowledge e) = λ z s h. absurd (subst (λ (x : List ℕ
 one-zero k r room es (recall e) = λ z s h. absurd (subst (λ (x : List ℕ). Silent (recordEvents x ++ es)) e s)
 one-zero k r room es (forget e) = λ z s h. absurd (subst (λ (x : List ℕ). Silent (recordEvents x ++ es)) e s)
 
-all-zero : (rs : List (List ℕ)) (k : Card) (room : ℕ) → EachTaken k rs room → Silent (eventsIn rs) → allZero (answersOf k (eventsIn rs)) ≡ true
+all-zero : (rs : List (List ℕ)) (k : Card) (room : ℕ) → EachTaken k rs room → Silent (eventsOfRecords rs) → allZero (answersOf k (eventsOfRecords rs)) ≡ true
     → joined (repliesOf k rs room) ≡ allAnswered rs
 all-zero [] k room t s h = refl
 all-zero (r ∷ rs) k room t s h =
-    let o = one-zero k r room (eventsIn rs) (t .0) (t .1) s h in
+    let o = one-zero k r room (eventsOfRecords rs) (t .0) (t .1) s h in
     ap₂ (λ (x y : List ℕ). x ++ y) (o .0) (all-zero rs (runOf k r room .state) (room - length (runOf k r room .written)) (t .2) (o .1) (o .2))
 
 module _ (g : Given) (C : Chosen g) (c : Core) (M : Meets g c) (state : List ℕ) (w : ℕ) (sr : ℕ → Bool) (ks : List Step) (rs : List (List ℕ))

@@ -18,7 +18,7 @@ use Rattle.float.specs.Float.{Result, add, sub, mul, div}
 use Rattle.float.specs.Convert.{chsf}
 use Rattle.float.proofs.Results.{add-result, sub-result, mul-result, div-result}
 use Rattle.float.proofs.Order.{add-keeps, sub-keeps, sub-turns, mul-order, div-order}
-use Rattle.float.proofs.SignChange.{chsf-word, chsf-turns}
+use Rattle.float.proofs.convert.SignChange.{chsf-word, chsf-turns}
 use Rattle.stack.specs.Stack.{tos, bytesOf}
 use Rattle.stack.proofs.Words.{number-bytes}
 use Rattle.codes.specs.declared.FloatOp.the-variants.{Add as FAdd, Sub as FSub, Mul as FMul, Div as FDiv}
@@ -40,7 +40,7 @@ use Rattle.chip.proofs.Events.{pushes-do}
 use Rattle.promises.specs.FloatWords.{FloatWord as Proper}
 use Rattle.promises.proofs.Measures.{theirs-rest, ours-rest, theirs-word, ours-word, theirs-le, ours-le}
 use Rattle.promises.specs.Chains.{eventsOf, commandsIn, chainOf, Step, Add, Subtract, Multiply, Divide, TakeFrom, Change, Constant, Constants}
-use Rattle.promises.specs.Chains.{isReversing, reversing, workOf, wordAfter, Run, Starts, eventsIn, stateAtEnd, resultOf, Quiet, Chains, Demand3}
+use Rattle.promises.specs.Chains.{isReversing, reversing, workOf, wordAfter, Run, Starts, eventsOfRun, stateAtEnd, resultOf, Quiet, Chains, Demand3}
 use Rattle.promises.specs.Chains.{Examples}
 
 -- ---- one step
@@ -129,7 +129,7 @@ module _ (on : Settings) where
         no-errors = λ q. let p = quiet-append on s (eventsOf sr k) rest q in (d .no-error (p .0), i .no-errors (p .1));
       }
 
-  run : (x : Run) (ks : List Step) → Starts x → Constants ks → Chained on (x .state) (eventsIn x ks) (x .word) ks
+  run : (x : Run) (ks : List Step) → Starts x → Constants ks → Chained on (x .state) (eventsOfRun x ks) (x .word) ks
   run x ks S C =
       let s = x .state in
       let w = x .word in

@@ -1,7 +1,6 @@
 -- Close readings: the law of the crate float over the rule, and the table computed under each. Assumes nothing.
 use mathlib.Core.Path.{_≡_, refl}
 use mathlib.Core.Logic.{_⊎_, inl, inr}
-use mathlib.Core.List.{map}
 use Prim.Native.Nat.{ℕ}
 use native.Mathlib.Omega.{arith}
 use lib.Ieee.{size}
@@ -9,13 +8,12 @@ use Rattle.terms.specs.declared.Rule.{Rule}
 use Rattle.terms.specs.declared.Rule.the-variants.{Cut, Nearest}
 use Rattle.float.specs.Word.{value}
 use Rattle.float.specs.Float.{sub}
-use Rattle.float.proofs.Close.{close-difference}
+use Rattle.float.proofs.sum.Close.{close-difference}
 use Rattle.codes.specs.Codes.{decoded}
 use Rattle.chip.specs.Status.{statusOf}
 use Rattle.chip.specs.Commands.{floats}
 use Rattle.chip.specs.Step.{pushOf, carried, commandUnder}
-use Rattle.promises.specs.Bench.{expected}
-use Rattle.promises.specs.NearBench.{shownBy}
+use Rattle.promises.specs.Bench.{RowsHold}
 use Rattle.promises.proofs.Measures.{theirs-word, theirs-close, ours-lossless}
 use Rattle.promises.specs.CloseReadings.{CloseReadings, closeTable, CloseExamples}
 
@@ -31,7 +29,7 @@ close-readings = record {
   no-overflow = λ rule b a B A C. no-overflow ((sub rule b a) .error) (close-difference rule b a (theirs-word B) (theirs-word A) (theirs-close C) .no-other);
 }
 
-rows : (rule : Rule) → map (shownBy rule) closeTable ≡ map expected closeTable
+rows : (rule : Rule) → RowsHold rule closeTable
 unfolding pushOf commandUnder carried floats statusOf decoded sub size
 rows Cut = refl
 rows Nearest = refl

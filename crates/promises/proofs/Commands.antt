@@ -14,8 +14,8 @@ use lib.ListN.{length}
 use lib.Seq.{take-at}
 use lib.Ieee.{unlike}
 use lib.Signed.{quotZ, shrZ}
-use Rattle.whole.specs.Signed.{withSign}
-use Rattle.whole.proofs.Differences.{either}
+use Rattle.numbers.specs.Signed.{withSign}
+use Rattle.numbers.proofs.Differences.{either}
 use Rattle.terms.specs.declared.Width.{Width}
 use Rattle.terms.specs.declared.Width.the-variants.{Single, Double}
 use Rattle.terms.specs.declared.Refusal.the-variants.{Improper}
@@ -33,8 +33,8 @@ use Rattle.float.specs.Cut.{below0}
 use Rattle.float.specs.Convert.{fltd, flts, fix, wholePart, complement, chsf}
 use Rattle.float.proofs.Results.{add-result, sub-result, mul-result, div-result, fltd-result, flts-result}
 use Rattle.float.proofs.Steps.{div-by-zero}
-use Rattle.float.proofs.Conversions.{fltd-no-error, flts-no-error}
-use Rattle.float.proofs.Fix.{fix-over, fix-within}
+use Rattle.float.proofs.convert.Conversions.{fltd-no-error, flts-no-error}
+use Rattle.float.proofs.convert.Fix.{fix-over, fix-within}
 use Rattle.stack.specs.Stack.{bytesOf, zeros, tos, nos, overA, overZero}
 use Rattle.stack.proofs.Words.{tos-over}
 use Rattle.codes.specs.Command.{Command}

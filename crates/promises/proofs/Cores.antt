@@ -40,9 +40,11 @@ use Rattle.state_bytes.specs.Calls.{Signal, signalBy, signalUnder, answerToKind
 use Rattle.state_bytes.proofs.Calling.{event-chosen}
 use Rattle.promises.proofs.Measures.{ours-state, theirs-state}
 use Rattle.promises.specs.Given.{Given, Chosen, settingsIn, eventCall}
-use Rattle.promises.specs.Chains.{Step, Add, Subtract, Multiply, Divide, TakeFrom, Change, given, eventsOf, commandsIn, chainOf, Constants, wordAfter}
+use Rattle.promises.specs.Chains.{Step, Add, Subtract, Multiply, Divide, TakeFrom, Change, commandEvent, eventsOf, commandsIn, chainOf, Constants}
+use Rattle.promises.specs.Chains.{wordAfter}
 use Rattle.promises.specs.Chains.{Run, Starts, resultOf, Quiet, runEvents}
-use Rattle.promises.specs.Cores.{Core, Meets, kindNumber, byteOf, onBus, driven, returned, answersOf, NoRecall, Keeps, Sendable, allZero, clearAfter}
+use Rattle.promises.specs.Cores.{Core, Meets, kindNumber, byteOf, onBus, driven, returned, answersOf, NoRecall, KeepsMemory, Sendable, allZero}
+use Rattle.promises.specs.Cores.{clearAfter}
 use Rattle.promises.specs.Cores.{drivenQuietly, Begins, busRun, wordLeft, Cores}
 use Rattle.promises.specs.FloatWords.{FloatWord, Le}
 use Rattle.promises.proofs.Kept.{command-byte}
@@ -234,12 +236,12 @@ code-sendable true code h = omega arith
 code-sendable false code h = omega arith
 
 step-sendable : (sr : ℕ → Bool) (k : Step) → Sendable (onBus (eventsOf sr k))
-step-sendable sr (Add c) = sendable-append (pushesOf 4 c) (given (sr 0) 0x10 ∷ []) (pushes-sendable 4 c) (code-sendable (sr 0) 0x10 (lit< tt), tt)
-step-sendable sr (Subtract c) = sendable-append (pushesOf 4 c) (given (sr 0) 0x11 ∷ []) (pushes-sendable 4 c) (code-sendable (sr 0) 0x11 (lit< tt), tt)
-step-sendable sr (Multiply c) = sendable-append (pushesOf 4 c) (given (sr 0) 0x12 ∷ []) (pushes-sendable 4 c) (code-sendable (sr 0) 0x12 (lit< tt), tt)
-step-sendable sr (Divide c) = sendable-append (pushesOf 4 c) (given (sr 0) 0x13 ∷ []) (pushes-sendable 4 c) (code-sendable (sr 0) 0x13 (lit< tt), tt)
+step-sendable sr (Add c) = sendable-append (pushesOf 4 c) (commandEvent (sr 0) 0x10 ∷ []) (pushes-sendable 4 c) (code-sendable (sr 0) 0x10 (lit< tt), tt)
+step-sendable sr (Subtract c) = sendable-append (pushesOf 4 c) (commandEvent (sr 0) 0x11 ∷ []) (pushes-sendable 4 c) (code-sendable (sr 0) 0x11 (lit< tt), tt)
+step-sendable sr (Multiply c) = sendable-append (pushesOf 4 c) (commandEvent (sr 0) 0x12 ∷ []) (pushes-sendable 4 c) (code-sendable (sr 0) 0x12 (lit< tt), tt)
+step-sendable sr (Divide c) = sendable-append (pushesOf 4 c) (commandEvent (sr 0) 0x13 ∷ []) (pushes-sendable 4 c) (code-sendable (sr 0) 0x13 (lit< tt), tt)
 step-sendable sr (TakeFrom c) =
-    sendable-append (pushesOf 4 c) (given (sr 0) 0x19 ∷ given (sr 1) 0x11 ∷ []) (pushes-sendable 4 c)
+    sendable-append (pushesOf 4 c) (commandEvent (sr 0) 0x19 ∷ commandEvent (sr 1) 0x11 ∷ []) (pushes-sendable 4 c)
     (code-sendable (sr 0) 0x19 (lit< tt), (code-sendable (sr 1) 0x11 (lit< tt), tt))
 step-sendable sr Change = (code-sendable (sr 0) 0x15 (lit< tt), tt)
 
@@ -377,7 +379,7 @@ module _ (g : Given) (C : Chosen g) (c : Core) (M : Meets g c) where
       from-bytes (λ (l : List ℕ). driven c l es ≡ laidOut (length state) (afterAll (cardOf state) es)) state i
       (states g C c M (length state) (ours-state i .size) (cardOf state) (serves state B i) es S)
 
-  calls-return : (state : List ℕ) (es : List Event) → Bytes state → isState state ≡ true → Sendable es → Keeps state es
+  calls-return : (state : List ℕ) (es : List Event) → Bytes state → isState state ≡ true → Sendable es → KeepsMemory state es
       → returned c state es ≡ answersOf (cardOf state) es
   calls-return state es B i S o =
       let r = serves state B i in

@@ -14,9 +14,9 @@ use lib.IntN.{ℤ, pos, negℤ, natAbs, _-ℤ_}
 use lib.Signed.{_≤ℤ_}
 use lib.ListN.{length, length-append}
 use lib.Pow.{pow-mono, pow-add}
-use Rattle.whole.specs.Signed as signs
-use Rattle.whole.proofs.Differences.{either, above, beneath, parts, le-differences}
-use Rattle.whole.proofs.Signs.{size-of-signed}
+use Rattle.numbers.specs.Signed as signs
+use Rattle.numbers.proofs.Differences.{either, above, beneath, parts, le-differences}
+use Rattle.numbers.proofs.Signs.{size-of-signed}
 use Rattle.terms.specs.declared.Rule.{Rule}
 use Rattle.terms.specs.declared.Rule.the-variants.{Cut, Nearest}
 use Rattle.terms.specs.declared.Refusal.the-variants.{TooLarge, TooSmall}
@@ -26,7 +26,7 @@ use Rattle.float.specs.Cut.{cut, below0}
 use Rattle.float.specs.Exact.{CutsBy}
 use Rattle.float.specs.Float.{Result}
 use Rattle.float.specs.Nearest as near
-use Rattle.float.proofs.Signs.{cut-sign}
+use Rattle.float.proofs.cut.Signs.{cut-sign}
 use Rattle.float.proofs.Results.{cut-result}
 use Rattle.float.proofs.Steps.{exactly}
 use Rattle.float.proofs.Moved.{stored-as-is}

@@ -2,7 +2,7 @@
 use mathlib.Core.Path.{refl}
 use lib.Ieee.{size, ofBits, toBits}
 use Rattle.host_floats.specs.Double.{outwardOf, inwardOf}
-use Rattle.host_buffers.specs.Buffers.{wordsTurn, floatsTurn}
+use Rattle.host_floats.specs.Buffers.{wordsTurn, floatsTurn}
 use Rattle.promises.specs.DoubleBench.{DoublesBench}
 
 pub doubles-bench : DoublesBench

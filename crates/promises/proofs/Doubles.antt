@@ -13,11 +13,11 @@ use borrow.Author.Tests.{le-leb, lt-leb, eqb-true, eqb-false}
 use lib.Ieee.{Float, binary64, ofBits, toBits}
 use lib.Ieee.Bits.{ofBits-fits, ofBits-toBits, toBits-ofBits, toBits-lt}
 use lib.Ieee.Exact.{HasValue}
-use Rattle.whole.proofs.Differences.{either}
+use Rattle.numbers.proofs.Differences.{either}
 use Rattle.terms.specs.declared.Rule.{Rule}
 use Rattle.terms.specs.Settings.{isRule, ruleOf}
-use Rattle.little.specs.Little.{le4, le8, fourAt, eightAt}
-use Rattle.little.proofs.Exact.{four-back, eight-back, le4-of, le8-of, four-lt, eight-lt}
+use Rattle.numbers.specs.Little.{le4, le8, fourAt, eightAt}
+use Rattle.numbers.proofs.Exact.{four-back, eight-back, le4-of, le8-of, four-lt, eight-lt}
 use Rattle.stack.specs.Stack.{Bytes}
 use Rattle.stack.proofs.Words.{byte-at}
 use Rattle.float.specs.Word.{negative, proper, size88, FloatWord}
@@ -33,13 +33,13 @@ use Rattle.host_floats.proofs.Brought.{held-large-by, endless-large-by, minus-l
 use Rattle.host_floats.proofs.Brought.{right}
 use Rattle.host_floats.proofs.DoubleBack.{brought-once, answers-exact, answers-rounded, answers-endless, answers-minus, answers-small, answers-large}
 use Rattle.host_floats.proofs.DoubleBack.{double-back, exact-bits}
-use Rattle.host_buffers.specs.declared.Entry.{Entry}
-use Rattle.host_buffers.specs.declared.Reply.{Reply}
-use Rattle.host_buffers.specs.Buffers.{outwardEntry, inwardEntry, wordEntry, floatEntry, floatEntries, replyTo, Turn, wordsTurn, floatsTurn, Turns}
-use Rattle.host_buffers.proofs.Writing.{firstBytes, first-length}
-use Rattle.host_buffers.proofs.Answers.{part-words, no-room-words, bad-word, words-written, no-rule, part-floats, no-room-floats, bad-float, floats-written}
-use Rattle.host_buffers.proofs.Blocks.{block, whole}
-use Rattle.host_buffers.proofs.Found.{roundedBelow, Taken, reply-bad, reply-done, First, all-or-first, none-rounded, rounded-none}
+use Rattle.host_floats.specs.declared.buffer.Entry.{Entry}
+use Rattle.host_floats.specs.declared.buffer.BufferReply.{BufferReply}
+use Rattle.host_floats.specs.Buffers.{outwardEntry, inwardEntry, wordEntry, floatEntry, floatEntries, replyTo, Turn, wordsTurn, floatsTurn, Turns}
+use Rattle.host_floats.proofs.Writing.{firstBytes, first-length}
+use Rattle.host_floats.proofs.Answers.{part-words, no-room-words, bad-word, words-written, no-rule, part-floats, no-room-floats, bad-float, floats-written}
+use Rattle.host_floats.proofs.Blocks.{block, whole}
+use Rattle.host_floats.proofs.Found.{roundedBelow, Taken, reply-bad, reply-done, First, all-or-first, none-rounded, rounded-none}
 use Rattle.promises.proofs.Measures.{theirs-held, ours-held, theirs-brought, ours-brought, theirs-large, ours-large}
 use Rattle.promises.specs.Doubles.{carriedBits, outward, inward, OutwardExact, InwardAnswered, BroughtOnce, floatIn, wordBytes, floatBytes, turned}
 use Rattle.promises.specs.Doubles.{WordsCall, Names, cut, nearest, isRounded, howMany, FloatsCall, BufferCalls, BuffersKept, WordsBack, FloatsBack}
@@ -286,7 +286,7 @@ module _ (rule : ℕ) (floats out : List ℕ) where
     half : length floats / 8 * 4 ≡ length floats / 2
     half = omega arith
 
-    by-rule : (s : Reply) → s ≡ replyTo (floatEntries how floats) → s ≡ replyTo (floatEntries (ruleOf rule) floats)
+    by-rule : (s : BufferReply) → s ≡ replyTo (floatEntries how floats) → s ≡ replyTo (floatEntries (ruleOf rule) floats)
     by-rule s e = e ∙ ap (λ (q : Rule). replyTo (floatEntries q floats)) (sym (r .1))
 
     floats-first : (b : First (floatEntry how floats) (length floats / 8)) → floatsTurn rule floats out ≡ turned (floatEntry how floats (b .i) .refusal)

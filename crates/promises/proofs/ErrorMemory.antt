@@ -51,7 +51,8 @@ use Rattle.promises.specs.RecordFiles.{IsRecord}
 use Rattle.promises.proofs.RecordFiles.{theirs-record}
 use Rattle.promises.specs.Records.{joined, EachTaken, repliesOf, inTurn}
 use Rattle.promises.specs.Cores.{Core, Meets, kindNumber, byteOf, Sendable, driven}
-use Rattle.promises.specs.ErrorMemory.{noted, callHistory, memoryAt, recordEvents, eventsIn, rememberedAfter, Lent, ErrorMemory, RecordsAreEvents}
+use Rattle.promises.specs.ErrorMemory.{noted, callHistory, memoryAt, recordEvents, eventsOfRecords, rememberedAfter, RecordsLent, ErrorMemory}
+use Rattle.promises.specs.ErrorMemory.{RecordsAreEvents}
 use Rattle.promises.specs.ErrorMemory.{lengthened, ShortStates}
 use Rattle.promises.proofs.Records.{in-turn, record-run, recall-record, bytes-parts}
 use Rattle.promises.proofs.Kept.{command-byte, event-ready}
@@ -152,12 +153,12 @@ one-record : (k : Card) (r : List ℕ) (room : ℕ) (one : IsRecord r) → runOf
 one-record k r room one z = ap (λ (o : Outcome). o .state) (record-run k r room one z) ∙ record-is k r (theirs-record one .event) (theirs-record one .held)
 
 -- records in turn, and then others
-in-order : (k : Card) (rs : List (List ℕ)) (room : ℕ) → EachTaken k rs room → inTurn k rs [] room .state ≡ afterAll k (eventsIn rs)
+in-order : (k : Card) (rs : List (List ℕ)) (room : ℕ) → EachTaken k rs room → inTurn k rs [] room .state ≡ afterAll k (eventsOfRecords rs)
 in-order k [] room h = ap (λ (o : Outcome). o .state) (nothing lawful k room)
 in-order k (r ∷ rs) room h =
     in-order (runOf k r room .state) rs (room - length (runOf k r room .written)) (h .2)
-    ∙ ap (λ (x : Card). afterAll x (eventsIn rs)) (one-record k r room (h .0) (h .1))
-    ∙ sym (after-joined k (recordEvents r) (eventsIn rs))
+    ∙ ap (λ (x : Card). afterAll x (eventsOfRecords rs)) (one-record k r room (h .0) (h .1))
+    ∙ sym (after-joined k (recordEvents r) (eventsOfRecords rs))
 
 pub records-are-events : RecordsAreEvents
 records-are-events k rs room h =
@@ -172,7 +173,7 @@ replyWith m = 5 ∷ 0 ∷ 135 ∷ 0 ∷ 0 ∷ m .bits ∷ m .code ∷ []
 
 recall-behind : (k : Card) (rs : List (List ℕ)) (room : ℕ) → ReadyCard k → Bytes (joined rs) → EachTaken k rs room → length (joined (repliesOf k rs room))
     + 7 ≤ room
-    → runOf k (joined rs ++ recall) room .written ≡ joined (repliesOf k rs room) ++ replyWith (afterAll k (eventsIn rs) .memory)
+    → runOf k (joined rs ++ recall) room .written ≡ joined (repliesOf k rs room) ++ replyWith (afterAll k (eventsOfRecords rs) .memory)
 recall-behind k [] room r B h fits = ap (λ (o : Outcome). o .written) (recall-record (k .on) (k .chip) (k .memory) room (lt-leb 128 (k .chip .status)
     (r .chip .ready)) (omega arith))
 recall-behind k (x ∷ rs) room r B h fits =
@@ -180,15 +181,16 @@ recall-behind k (x ∷ rs) room r B h fits =
     let left = room - length (o .written) in
     let parts = bytes-parts x (joined rs) B in
     let n = length-append (o .written) (joined (repliesOf (o .state) rs left)) in
-    let e : afterAll (o .state) (eventsIn rs) ≡ afterAll k (eventsIn (x ∷ rs)) =
-    ap (λ (y : Card). afterAll y (eventsIn rs)) (one-record k x room (h .0) (h .1)) ∙ sym (after-joined k (recordEvents x) (eventsIn rs)) in
+    let e : afterAll (o .state) (eventsOfRecords rs) ≡ afterAll k (eventsOfRecords (x ∷ rs)) =
+    ap (λ (y : Card). afterAll y (eventsOfRecords rs)) (one-record k x room (h .0) (h .1)) ∙ sym (after-joined k (recordEvents x) (eventsOfRecords rs)) in
     ap (λ (p : Outcome). p .written) (in-turn k (x ∷ rs) recall room h)
     ∙ ap (λ (p : Outcome). o .written ++ p .written) (sym (in-turn (o .state) rs recall left (h .2)))
     ∙ ap (λ (l : List ℕ). o .written ++ l) (recall-behind (o .state) rs left (run-ready k x room r (parts .0)) (parts .1) (h .2) (omega arith))
-    ∙ sym (append-assoc (o .written) (joined (repliesOf (o .state) rs left)) (replyWith (afterAll (o .state) (eventsIn rs) .memory)))
+    ∙ sym (append-assoc (o .written) (joined (repliesOf (o .state) rs left)) (replyWith (afterAll (o .state) (eventsOfRecords rs) .memory)))
     ∙ ap (λ (y : Card). (o .written ++ joined (repliesOf (o .state) rs left)) ++ replyWith (y .memory)) e
 
-module _ (g : Given) (C : Chosen g) (c : Core) (M : Meets g c) (state : List ℕ) (rs : List (List ℕ)) (replies report : List ℕ) (L : Lent g state rs replies
+module _ (g : Given) (C : Chosen g) (c : Core) (M : Meets g c) (state : List ℕ) (rs : List (List ℕ)) (replies report : List ℕ)
+    (L : RecordsLent g state rs replies
     report) where
   abbrev start : Card
   start = cardIn (settingsIn g) state
@@ -196,7 +198,7 @@ module _ (g : Given) (C : Chosen g) (c : Core) (M : Meets g c) (state : List ℕ
   ready : ReadyCard start
   ready = card-ready (settingsIn g) state (L .bytes .0) (theirs-state (L .good))
 
-  files-say : length state ≡ 21 → memoryAt ((c .run state (joined rs) replies report) .state) ≡ rememberedAfter start (eventsIn rs)
+  files-say : length state ≡ 21 → memoryAt ((c .run state (joined rs) replies report) .state) ≡ rememberedAfter start (eventsOfRecords rs)
   files-say n =
       let s = L .short in
       let o = runOf start (joined rs) (length replies) in
@@ -207,17 +209,17 @@ module _ (g : Given) (C : Chosen g) (c : Core) (M : Meets g c) (state : List ℕ
       ∙ ap (λ (m : ℕ). laidOut m (o .state)) n)
       ∙ two-bytes (o .state) (after .chip .stack .sixteen)
       ∙ ap (λ (k : Card). k .memory) (records-are-events start rs (length replies) (L .each))
-      ∙ memory-is-history start (eventsIn rs)
+      ∙ memory-is-history start (eventsOfRecords rs)
 
   recall-says : take 7 (drop (length (joined (repliesOf start rs (length replies)))) ((c .run state (joined rs ++ recall) replies report) .replies))
-      ≡ replyWith (rememberedAfter start (eventsIn rs))
+      ≡ replyWith (rememberedAfter start (eventsOfRecords rs))
   recall-says =
       let ws = joined (repliesOf start rs (length replies)) in
       let m = length-append (joined rs) recall in
       let s = L .short in
       let w = recall-behind start rs (length replies) ready (L .bytes .1) (L .each) (L .room)
-      ∙ ap (λ (x : Memory). ws ++ replyWith x) (memory-is-history start (eventsIn rs)) in
-      let reply = replyWith (rememberedAfter start (eventsIn rs)) in
+      ∙ ap (λ (x : Memory). ws ++ replyWith x) (memory-is-history start (eventsOfRecords rs)) in
+      let reply = replyWith (rememberedAfter start (eventsOfRecords rs)) in
       let rest = drop (length (runOf start (joined rs ++ recall) (length replies) .written)) replies in
       ap (λ (l : List ℕ). take 7 (drop (length ws) l))
       (M .run state (joined rs ++ recall) replies report (L .bytes .0) (bytes-append (joined rs) recall (L .bytes .1)

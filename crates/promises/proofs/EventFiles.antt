@@ -43,8 +43,8 @@ use Rattle.promises.specs.StateBytes.{IsState}
 use Rattle.promises.specs.Given.{Given, Chosen, settingsIn, runCall}
 use Rattle.promises.specs.Records.{countAt}
 use Rattle.promises.specs.Chains.{Step, runEvents}
-use Rattle.promises.specs.Cores.{Core, Meets, byteOf, Sendable, NoRecall, Keeps, driven, returned, answersOf, allZero, kindNumber, busRun, wordLeft}
-use Rattle.promises.specs.EventFiles.{recordOf, fileOf, codesBefore, replyTo, repliesTo, FileOfEvents, Lent, EventFiles, chainFile, zerosFor}
+use Rattle.promises.specs.Cores.{Core, Meets, byteOf, Sendable, NoRecall, KeepsMemory, driven, returned, answersOf, allZero, kindNumber, busRun, wordLeft}
+use Rattle.promises.specs.EventFiles.{recordOf, fileOf, codesBefore, replyTo, repliesTo, FileOfEvents, FileLent, EventFiles, chainFile, zerosFor}
 use Rattle.promises.specs.EventFiles.{Demand3Files}
 use Rattle.promises.proofs.Records.{counts-exact, push-record, pop-record, command-record, status-record, reset-record, acknowledge-record}
 use Rattle.promises.proofs.Records.{recall-record, forget-record}
@@ -189,7 +189,8 @@ same-replies (Chip e ∷ es) ns ks ls o = ap₂ _++_ (alike e) (same-replies es 
 same-replies (Recall ∷ es) ns ks ls o = absurd o
 same-replies (Forget ∷ es) ns ks ls o = ap (λ (l : List ℕ). replyTo Forget (getD ns 0 0) 0 ++ l) (same-replies es (drop 1 ns) (drop 1 ks) (drop 1 ls) o)
 
-replies-told : (g : Given) → Chosen g → (c : Core) → Meets g c → (state : List ℕ) (es : List Event) → Bytes state → IsState state → Sendable es → Keeps state es
+replies-told : (g : Given) → Chosen g → (c : Core) → Meets g c → (state : List ℕ) (es : List Event) → Bytes state → IsState state → Sendable es
+    → KeepsMemory state es
     → repliesTo es (returned c state es) (codesBefore c state es) ≡ answered (cardIn (settingsIn g) state) es
 replies-told g C c M state es B I S o =
     let i = theirs-state I in
@@ -251,7 +252,7 @@ all-zeros c (e ∷ es) state h =
 
 -- the word on top after the file is the word on top after the events
 on-top : (g : Given) → Chosen g → (c : Core) → Meets g c → (state : List ℕ) (w : ℕ) (sr : ℕ → Bool) (ks : List Step) (replies report : List ℕ)
-    → Lent c state (busRun w sr ks) replies report
+    → FileLent c state (busRun w sr ks) replies report
     → tos 4 ((c .run state (chainFile w sr ks) replies report) .state) ≡ wordLeft c state (busRun w sr ks)
 on-top g C c M state w sr ks replies report L = ap (tos 4) (event-files g C c M state (busRun w sr ks) replies report (sent w sr ks) L .state-is)
 

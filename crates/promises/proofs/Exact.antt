@@ -10,7 +10,7 @@ use lib.Dec.{leb}
 use lib.IntN.{ℤ, pos, negℤ, natAbs, _*ℤ_}
 use lib.Ieee.{unlike}
 use lib.Pow.{pow-pos}
-use Rattle.whole.proofs.Signs.{times}
+use Rattle.numbers.proofs.Signs.{times}
 use Rattle.terms.specs.declared.Rule.{Rule}
 use Rattle.terms.specs.declared.Rule.the-variants.{Cut}
 use Rattle.float.specs.Word.{size88 as size-of, value as value-of}
@@ -18,17 +18,17 @@ use Rattle.float.specs.Cut.{cut}
 use Rattle.float.specs.Float.{add, sub, mul, div}
 use Rattle.float.specs.Convert.{fltd, flts, fix, chsf, wholePart as whole-of}
 use Rattle.float.specs.Exact.{Fixes}
-use Rattle.float.proofs.OnePair.{a-pair, one-pair}
-use Rattle.float.proofs.Signs.{times-size}
+use Rattle.float.proofs.cut.OnePair.{a-pair, one-pair}
+use Rattle.float.proofs.cut.Signs.{times-size}
 use Rattle.float.proofs.Order.{size-pos, div-cut}
 use Rattle.float.proofs.Steps.{add-exactly, sub-exactly, mul-exactly, div-exactly, div-by-zero}
 use Rattle.float.proofs.Results.{add-result, sub-result, mul-result, div-result, fltd-result, flts-result}
-use Rattle.float.proofs.SignChange.{chsf-word, chsf-value}
-use Rattle.float.proofs.Kept.{own-value, same-word}
-use Rattle.float.proofs.Conversions.{flts-exact, fltd-exactly, fltd-no-error, flts-no-error, flts-either, whole-part, fix-law}
+use Rattle.float.proofs.convert.SignChange.{chsf-word, chsf-value}
+use Rattle.float.proofs.cut.Kept.{own-value, same-word}
+use Rattle.float.proofs.convert.Conversions.{flts-exact, fltd-exactly, fltd-no-error, flts-no-error, flts-either, whole-part, fix-law}
 use Rattle.promises.specs.FloatWords.{withSign, below0, mantissa, size88, value, FloatWord, exactSum, exactDifference, exactProduct, dividend, divisor}
 use Rattle.promises.specs.FloatResults.{clean, ExactlyBy, integer, wholePart, Truncated}
-use Rattle.promises.specs.Exact.{Exact}
+use Rattle.promises.specs.Exact.{Operations, ResultWords, Exact}
 use Rattle.promises.proofs.Measures.{theirs-word, ours-word, theirs-cut-pair, ours-cut-pair, ours-exactly, ours-truncated}
 
 -- ---- the exact value, brought to a word by a rule
@@ -140,6 +140,27 @@ over half a h = go (fix-law half a)
     go (inl t) = let k = t .0 in absurd (omega arith)
     go (inr t) = t .1
 
+-- ---- the four operations under either rule
+pub operations-by : (rule : Rule) → Operations rule
+operations-by rule = record {
+  sum = λ b a B A. sum-exact rule b a;
+  difference = λ b a B A. difference-exact rule b a;
+  product = product-exact rule;
+  quotient = quotient-exact rule;
+  by-zero = λ b a A z. div-by-zero rule b a z;
+}
+
+pub results-by : (rule : Rule) → ResultWords rule
+results-by rule = record {
+  proper-sum = λ b a. (ours-word (add-result rule b a .word), ours-word (sub-result rule b a .word));
+  proper-product = λ b a. ours-word (mul-result rule b a .word);
+  proper-quotient = λ b a B. ours-word (div-result rule b a (theirs-word B) .word);
+  sum-kept = sum-kept rule;
+  difference-kept = difference-kept rule;
+  product-kept = product-kept rule;
+  quotient-kept = quotient-kept rule;
+}
+
 -- ---- the statement
 pub exact : Exact
 exact = record {
@@ -147,22 +168,10 @@ exact = record {
     exists = λ n d N D. let p = a-pair n d N D in (p .0, p .1, ours-cut-pair (p .2));
     only = λ n d m m' e e' D P Q. one-pair n d m m' e e' D (theirs-cut-pair P) (theirs-cut-pair Q);
   };
-  operations = record {
-    sum = λ b a B A. sum-exact Cut b a;
-    difference = λ b a B A. difference-exact Cut b a;
-    product = product-exact Cut;
-    quotient = quotient-exact Cut;
-    by-zero = λ b a A z. div-by-zero Cut b a z;
-  };
+  operations = operations-by Cut;
   words = record {
-    proper-sum = λ b a. (ours-word (add-result Cut b a .word), ours-word (sub-result Cut b a .word));
-    proper-product = λ b a. ours-word (mul-result Cut b a .word);
-    proper-quotient = λ b a B. ours-word (div-result Cut b a (theirs-word B) .word);
+    results = results-by Cut;
     proper-change = λ a A. ours-word (chsf-word a (theirs-word A));
-    sum-kept = sum-kept Cut;
-    difference-kept = difference-kept Cut;
-    product-kept = product-kept Cut;
-    quotient-kept = quotient-kept Cut;
     one-word = one-word;
     opposite = opposite;
   };

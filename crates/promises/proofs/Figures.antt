@@ -7,8 +7,8 @@ use Prim.Native.Nat.{ℕ, _+_, _-_, _*_, _/_, _%_, _^_, _≤_, _<_}
 use native.Mathlib.Omega.{arith}
 use borrow.Author.Tests.{le-leb, lt-leb, ne-eqb}
 use lib.IntN.{pos, negℤ}
-use Rattle.whole.specs.Signed.{withSign}
-use Rattle.whole.proofs.Differences.{either}
+use Rattle.numbers.specs.Signed.{withSign}
+use Rattle.numbers.proofs.Differences.{either}
 use Rattle.float.specs.Word.{negative, biased, mantissa, proper, size88, value}
 use Rattle.stack.specs.Stack.{bytesOf, lowFirst}
 use Rattle.codes.specs.Codes.{decoded}

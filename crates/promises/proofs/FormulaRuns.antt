@@ -10,7 +10,7 @@ use Rattle.terms.specs.declared.Rule.{Rule}
 use Rattle.terms.specs.Settings.{Settings}
 use Rattle.float.specs.Word.{FloatWord}
 use Rattle.float.proofs.Results.{add-result, sub-result, mul-result, div-result}
-use Rattle.float.proofs.SignChange.{chsf-word}
+use Rattle.float.proofs.convert.SignChange.{chsf-word}
 use Rattle.stack.specs.Stack.{bytesOf}
 use Rattle.stack.proofs.Words.{length-bytes}
 use Rattle.codes.specs.declared.FloatOp.the-variants.{Add, Sub, Mul, Div}
@@ -65,7 +65,7 @@ did on letters (Joined o l r) ws s m W O h =
     }
 
 -- what the file leaves
-pub record Left (on : Settings) (s : State) (m : Memory) (file replies : List ℕ) (word : ℕ) : Type 0 where
+pub record AfterFile (on : Settings) (s : State) (m : Memory) (file replies : List ℕ) (word : ℕ) : Type 0 where
   pub end : State
   pub memory : Memory
   pub ran : Ran on s m file replies end memory
@@ -75,7 +75,7 @@ pub record Left (on : Settings) (s : State) (m : Memory) (file replies : List �
   pub proper : FloatWord word
 
 pub evaluates : (on : Settings) (letters : List ℕ) (f : Formula) (s : State) (m : Memory) → Leaves letters f → needOf f ≤ 4 → length (s .stack) ≡ 16 → AtRest s
-    → Left on s m (fileOf letters f) (repliesTo f) (evaluated (on .rule) letters f)
+    → AfterFile on s m (fileOf letters f) (repliesTo f) (evaluated (on .rule) letters f)
 evaluates on letters f s m W need six R =
     let d = did on letters f [] s m W (record { rest = s .stack; stack-is = refl; sixteen = six; at-rest = R }) (omega arith) in
     let o = d .step .stands in

@@ -7,7 +7,7 @@ use native.Mathlib.Omega.{arith}
 use borrow.Author.Tests.{lt-leb}
 use lib.ListN.{length, take, length-append}
 use lib.Seq.{take-append-add, length-take-le}
-use Rattle.little.specs.Little.{le4}
+use Rattle.numbers.specs.Little.{le4}
 use Rattle.terms.specs.declared.Width.the-variants.{Double}
 use Rattle.terms.specs.Refusal.{numberOf}
 use Rattle.terms.specs.Settings.{Settings}

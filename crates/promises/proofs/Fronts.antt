@@ -6,7 +6,7 @@ use mathlib.Core.List.{List, [], _∷_}
 use Prim.Native.Nat.{ℕ, _+_, _*_, _-_, _≤_, _<_}
 use native.Mathlib.Omega.{arith}
 use borrow.Author.Tests.{lt-ltb, le-ltb, ne-eqb}
-use lib.Dec.{lit≤}
+use lib.Dec.{lit<, lit≤}
 use lib.ListN.{length, getD}
 use Rattle.terms.specs.declared.Refusal.{Refusal}
 use Rattle.terms.specs.declared.Refusal.the-variants.{NoSuchKind, CutShort, BadLength, NoRoom}
@@ -17,8 +17,12 @@ use Rattle.record_runs.specs.Record.{Event}
 use Rattle.record_runs.specs.Record.{Push, Pop, Command, Status, Reset, Acknowledge, Recall, Forget}
 use Rattle.record_runs.specs.declared.head.Frame.the-variants.{Broken}
 use Rattle.record_runs.specs.Record.{Stop}
-use Rattle.little.specs.Little.{wordAt}
-use Rattle.record_runs.specs.Record.{answeredOf, rowUnder, frameUnder, headIn, headOf, Holds, stopped, turnUnder, turnOf}
+use Rattle.numbers.specs.Little.{wordAt}
+use Rattle.terms.specs.declared.EventKind.{EventKind}
+use Rattle.terms.specs.declared.EventKind.the-variants.{Unknown as UnknownKind}
+use Rattle.terms.specs.Kind.{kindNamed}
+use Rattle.record_runs.specs.Record.{kindOf, payloadOf, answeredOf, rowBy, rowUnder, frameUnder, headIn, headOf, Carried, Holds, stopped, turnUnder}
+use Rattle.record_runs.specs.Record.{turnOf}
 use Rattle.record_files.proofs.Tests.{either-lt, either-eq}
 use Rattle.record_runs.proofs.Single.{stopped-by}
 use Rattle.record_runs.proofs.Heads.{short, low, high, cut, whole, head-is}
@@ -44,11 +48,11 @@ row-is l n k a b d e =
 
 -- ---- rows
 -- a kind that is none is none of the eight
-pub none : (k : ℕ) → (k ≡ 0) ⊎ (8 < k) → (i : ℕ) → 1 ≤ i → i ≤ 8 → k ≡ i → ⊥
+none : (k : ℕ) → (k ≡ 0) ⊎ (8 < k) → (i : ℕ) → 1 ≤ i → i ≤ 8 → k ≡ i → ⊥
 none k h i a b e = ⊎-elim (λ z. omega arith) (λ z. omega arith) h
 
-other-kind : (k n first : ℕ) → (k ≡ 0) ⊎ (8 < k) → rowUnder mostPayload k n first ≡ Stop NoSuchKind
-other-kind k n first h =
+pub unnamed : (k : ℕ) → (k ≡ 0) ⊎ (8 < k) → kindNamed k ≡ UnknownKind
+unnamed k h =
     rw (
       ne-eqb k 1 (none k h 1 (lit≤ tt) (lit≤ tt)),
       ne-eqb k 2 (none k h 2 (lit≤ tt) (lit≤ tt)),
@@ -59,6 +63,9 @@ other-kind k n first h =
       ne-eqb k 7 (none k h 7 (lit≤ tt) (lit≤ tt)),
       ne-eqb k 8 (none k h 8 (lit≤ tt) (lit≤ tt)),
     )
+
+other-kind : (k n first : ℕ) → (k ≡ 0) ⊎ (8 < k) → rowUnder mostPayload k n first ≡ Stop NoSuchKind
+other-kind k n first h = ap (λ (x : EventKind). rowBy mostPayload x n first) (unnamed k h)
 
 not-one : (n first : ℕ) → (n ≡ 1 → ⊥) → (rowUnder mostPayload 2 n first ≡ Stop BadLength) × (rowUnder mostPayload 3 n first ≡ Stop BadLength)
 not-one n first h = rw (ne-eqb n 1 h) (refl, refl)
@@ -85,6 +92,18 @@ no-turn s l room e h g = rw (head-is l e h, lt-ltb room (5 + answeredOf e) g)
 
 crowded : (s : Card) (l : List ℕ) (room : ℕ) (e : Event) → Holds mostPayload l e → room < 5 + answeredOf e → Stops s l room 8
 crowded s l room e h g = first-stops lawful s l room (stopped NoRoom s) (no-turn s l room e h g) (omega (arith, h .there)) (λ y. omega arith)
+
+-- one without payload, of a kind that is one byte
+crowded-bare : (s : Card) (room : ℕ) (e : Event) (rest : List ℕ) → payloadOf e ≡ 0 → Carried mostPayload (getD rest 0 0) e → kindOf e < 256
+    → room < 5 + answeredOf e → Stops s (2 ∷ 0 ∷ kindOf e ∷ 0 ∷ rest) room 8
+crowded-bare s room e rest z c k g =
+    crowded s (2 ∷ 0 ∷ kindOf e ∷ 0 ∷ rest) room e (record {
+      length-is = omega (arith, z);
+      kind-is = omega arith;
+      there = omega (arith, z);
+      small = omega (arith, z);
+      carried = c;
+    }) g
 
 -- ---- the statement
 pub fronts : Fronts
@@ -135,39 +154,9 @@ fronts = record {
         small = omega arith;
         carried = refl;
       }) h;
-  status-room = λ s room rest h. crowded s (2 ∷ 0 ∷ 4 ∷ 0 ∷ rest) room Status (record {
-    length-is = refl;
-    kind-is = refl;
-    there = omega arith;
-    small = omega arith;
-    carried = tt;
-  }) h;
-  reset-room = λ s room rest h. crowded s (2 ∷ 0 ∷ 5 ∷ 0 ∷ rest) room Reset (record {
-    length-is = refl;
-    kind-is = refl;
-    there = omega arith;
-    small = omega arith;
-    carried = tt;
-  }) h;
-  acknowledge-room = λ s room rest h. crowded s (2 ∷ 0 ∷ 6 ∷ 0 ∷ rest) room Acknowledge (record {
-    length-is = refl;
-    kind-is = refl;
-    there = omega arith;
-    small = omega arith;
-    carried = tt;
-  }) h;
-  recall-room = λ s room rest h. crowded s (2 ∷ 0 ∷ 7 ∷ 0 ∷ rest) room Recall (record {
-    length-is = refl;
-    kind-is = refl;
-    there = omega arith;
-    small = omega arith;
-    carried = tt;
-  }) h;
-  forget-room = λ s room rest h. crowded s (2 ∷ 0 ∷ 8 ∷ 0 ∷ rest) room Forget (record {
-    length-is = refl;
-    kind-is = refl;
-    there = omega arith;
-    small = omega arith;
-    carried = tt;
-  }) h;
+  status-room = λ s room rest h. crowded-bare s room Status rest refl tt (lit< tt) h;
+  reset-room = λ s room rest h. crowded-bare s room Reset rest refl tt (lit< tt) h;
+  acknowledge-room = λ s room rest h. crowded-bare s room Acknowledge rest refl tt (lit< tt) h;
+  recall-room = λ s room rest h. crowded-bare s room Recall rest refl tt (lit< tt) h;
+  forget-room = λ s room rest h. crowded-bare s room Forget rest refl tt (lit< tt) h;
 }

@@ -11,7 +11,7 @@ use lib.Dec.{eqb, lit<}
 use lib.ListN.{length, take, drop, getD, length-append, length-drop, take-append-drop}
 use lib.Seq.{length-take-le, getD-drop, getD-append-add, take-take}
 use borrow.Author.Tests.{ne-eqb, leb-true, le-leb, lt-leb}
-use Rattle.little.proofs.Exact.{le4-exact}
+use Rattle.numbers.proofs.Exact.{le4-exact}
 use Rattle.terms.specs.Refusal.{numberOf}
 use Rattle.terms.specs.declared.Rule.{Rule}
 use Rattle.terms.specs.Settings.{isMode, isRule}
@@ -41,7 +41,7 @@ use Rattle.record_runs.proofs.Prefix.{lawful}
 use Rattle.record_runs.proofs.Ready.{run-ready}
 use Rattle.state_bytes.specs.Bytes.{isState, memoryIn, cardIn, laidOut}
 use Rattle.state_bytes.proofs.Cards.{card-returns, card-ready, laid-length, laid-state}
-use Rattle.record_runs.specs.declared.head.EventKind.{EventKind}
+use Rattle.terms.specs.declared.EventKind.{EventKind}
 use Rattle.state_bytes.specs.Calls.{Called, ranOf, callOf, Signal, signalOf, signalBy, unsent, answerToKind, answeredBy}
 use Rattle.pundaliket.specs.Calls.{Sent, sentOf}
 use Rattle.state_bytes.proofs.Calling.{bad-state, too-long, good}
@@ -312,17 +312,17 @@ state-stays g state input replies report h i S =
 -- a single event
 pub event-ready : (c : Card) (kind byte : ℕ) → byte < 256 → ReadyCard c → ReadyCard (answerToKind c kind byte .card)
 event-ready c kind byte h r =
-    either-eq (λ (k : EventKind). Left (answeredBy c byte k)) kind 1 _ _ (λ e. event-fair c (Chip (Push byte)) r h .left) (λ a.
-    either-eq (λ (k : EventKind). Left (answeredBy c byte k)) kind 2 _ _ (λ e. event-fair c (Chip Pop) r tt .left) (λ b.
-    either-eq (λ (k : EventKind). Left (answeredBy c byte k)) kind 3 _ _ (λ e. event-fair c (Chip (Command byte)) r tt .left) (λ d.
-    either-eq (λ (k : EventKind). Left (answeredBy c byte k)) kind 4 _ _ (λ e. event-fair c (Chip Status) r tt .left) (λ f.
-    either-eq (λ (k : EventKind). Left (answeredBy c byte k)) kind 5 _ _ (λ e. event-fair c (Chip Reset) r tt .left) (λ g.
-    either-eq (λ (k : EventKind). Left (answeredBy c byte k)) kind 6 _ _ (λ e. event-fair c (Chip Acknowledge) r tt .left) (λ i.
-    either-eq (λ (k : EventKind). Left (answeredBy c byte k)) kind 7 _ _ (λ e. event-fair c Recall r tt .left) (λ j.
-    either-eq (λ (k : EventKind). Left (answeredBy c byte k)) kind 8 _ _ (λ e. event-fair c Forget r tt .left) (λ k. r))))))))
+    either-eq (λ (k : EventKind). ReadyAfter (answeredBy c byte k)) kind 1 _ _ (λ e. event-fair c (Chip (Push byte)) r h .left) (λ a.
+    either-eq (λ (k : EventKind). ReadyAfter (answeredBy c byte k)) kind 2 _ _ (λ e. event-fair c (Chip Pop) r tt .left) (λ b.
+    either-eq (λ (k : EventKind). ReadyAfter (answeredBy c byte k)) kind 3 _ _ (λ e. event-fair c (Chip (Command byte)) r tt .left) (λ d.
+    either-eq (λ (k : EventKind). ReadyAfter (answeredBy c byte k)) kind 4 _ _ (λ e. event-fair c (Chip Status) r tt .left) (λ f.
+    either-eq (λ (k : EventKind). ReadyAfter (answeredBy c byte k)) kind 5 _ _ (λ e. event-fair c (Chip Reset) r tt .left) (λ g.
+    either-eq (λ (k : EventKind). ReadyAfter (answeredBy c byte k)) kind 6 _ _ (λ e. event-fair c (Chip Acknowledge) r tt .left) (λ i.
+    either-eq (λ (k : EventKind). ReadyAfter (answeredBy c byte k)) kind 7 _ _ (λ e. event-fair c Recall r tt .left) (λ j.
+    either-eq (λ (k : EventKind). ReadyAfter (answeredBy c byte k)) kind 8 _ _ (λ e. event-fair c Forget r tt .left) (λ k. r))))))))
   where
-    Left : CardAnswer → Type 0
-    Left a = ReadyCard (a .card)
+    ReadyAfter : CardAnswer → Type 0
+    ReadyAfter a = ReadyCard (a .card)
 
 event-stays : (g : Given) (state : List ℕ) (kind byte : ℕ) → Bytes state → byte < 256 → isState state ≡ true → (length state ≡ 19) ⊎ (length state ≡ 21)
     → (isState (eventCall g state kind byte .state) ≡ true) × (length (eventCall g state kind byte .state) ≡ length state)

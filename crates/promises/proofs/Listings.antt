@@ -24,21 +24,22 @@ use Rattle.listing.specs.Text.{spelled as their-spelled, decimal as their-decim
 use Rattle.promises.specs.PrintedText.{digit, spelled, decimal}
 use Rattle.promises.proofs.PrintedText.{decimal-is}
 use Rattle.listing.specs.Listing.{dataText, lineOf, endOf, replyKind, replyRefusal, replySize, replyData, linesUpTo, hasReply, linesOf, listingOf, printedOf}
-use Rattle.little.proofs.Exact.{two-bytes}
+use Rattle.numbers.proofs.Exact.{two-bytes}
 use Rattle.listing.proofs.Listed.{reply-listed, core-kind}
-use Rattle.options.specs.declared.Asked.{Asked}
-use Rattle.options.specs.declared.Asked.the-variants.{Under, Nothing}
-use Rattle.options.specs.Options.{sameText, am9511Text, nearestText, askedOf}
-use Rattle.options.proofs.Texts.{same-is}
-use Rattle.list_text.specs.Printout.{callUnder, printoutUnder, textOf, toldOf}
+use Rattle.listing.specs.declared.options.Asked.{Asked}
+use Rattle.listing.specs.declared.options.Asked.the-variants.{Under, Nothing}
+use Rattle.listing.specs.Options.{sameText, am9511Text, nearestText, askedOf, textFor}
+use Rattle.listing.proofs.Texts.{same-is}
+use Rattle.list_text.specs.Trace.{traceOf}
+use Rattle.list_text.specs.Printout.{callUnder, printoutUnder, traceText, isTrace, toldOf}
 use Rattle.promises.proofs.RecordFiles.{theirs-record}
 use Rattle.promises.specs.Records.{joined, EachTaken, repliesOf, total, lengths}
 use Rattle.promises.specs.PrintedText.{written}
 use Rattle.promises.specs.Given.{Given, Chosen}
 use Rattle.promises.specs.Listings.{valueOf, Digits, Decimal, hexText, recordLine, linesFor, lastLine}
-use Rattle.promises.specs.Listings.{Asks, neither, older, nearest, both, fresh, Listings}
+use Rattle.promises.specs.Listings.{Asks, neither, older, nearest, both, resetCard, Listings}
 use Rattle.promises.proofs.Records.{record-run}
-use Rattle.little.proofs.Exact.{le4-exact}
+use Rattle.numbers.proofs.Exact.{le4-exact}
 use Rattle.record_runs.proofs.Prefix.{lawful}
 
 -- ---- the lines of the records
@@ -88,22 +89,22 @@ last-is refusal taken = ap₂ (λ (t u : List ℕ). 101 ∷ 110 ∷ 100 ∷ ((32
 count-back : (n : ℕ) → n < 4294967296 → n % 256 + n / 256 % 256 * 256 + n / 65536 % 256 * 65536 + n / 16777216 % 256 * 16777216 ≡ n
 count-back n h = omega (arith, le4-exact n h)
 
-fresh-good : isState (replicate 19 0) ≡ true
+resetCard-good : isState (replicate 19 0) ≡ true
 unfolding isState
-fresh-good = refl
+resetCard-good = refl
 
 module _ (g : Given) (C : Chosen g) (input : List ℕ) where
   abbrev run : Outcome
-  run = runOf (fresh g) input 65536
+  run = runOf (resetCard g) input 65536
 
   call-is : length input ≤ 12288 → callUnder (g .mode) (g .rule) input ≡ ranOf 19 run (replicate 65536 0)
   call-is h =
-      good (g .mode) (g .rule) (replicate 19 0) input (replicate 65536 0) (replicate 9 0) refl (C .mode) (C .rule) fresh-good h
-      ∙ ap (λ (n : ℕ). ranOf 19 (runOf (fresh g) input n) (replicate 65536 0)) (length-replicate {A = ℕ} 65536 0)
+      good (g .mode) (g .rule) (replicate 19 0) input (replicate 65536 0) (replicate 9 0) refl (C .mode) (C .rule) resetCard-good h
+      ∙ ap (λ (n : ℕ). ranOf 19 (runOf (resetCard g) input n) (replicate 65536 0)) (length-replicate {A = ℕ} 65536 0)
 
   text-is : length input ≤ 12288 → printoutUnder (g .mode) (g .rule) input ≡ linesOf 1 (run .written) ++ endOf (run .refusal) (run .taken)
   text-is h =
-      let t = tally lawful (fresh g) input 65536 in
+      let t = tally lawful (resetCard g) input 65536 in
       let i = t .in-file in
       let f = t .few in
       let w = run .written in
@@ -116,7 +117,7 @@ module _ (g : Given) (C : Chosen g) (input : List ℕ) where
   unfolding linesUpTo hasReply their-spelled
   long-is h =
       ap (λ (c : Called). printedOf (c .replies) (c .report))
-      (too-long (g .mode) (g .rule) (replicate 19 0) input (replicate 65536 0) (replicate 9 0) refl (C .mode) (C .rule) fresh-good h)
+      (too-long (g .mode) (g .rule) (replicate 19 0) input (replicate 65536 0) (replicate 9 0) refl (C .mode) (C .rule) resetCard-good h)
 
 -- ---- what a call asks for
 chosen : {words : ℕ} {first second : List ℕ} {g : Given} → Asks words first second g → Chosen g
@@ -132,9 +133,30 @@ asked (older e f) = rw (e, f)
 asked (nearest e f) = rw (e, f)
 asked (both e f s) = rw (e, f, s)
 
-told-is : {words : ℕ} {first second : List ℕ} {g : Given} → (input : List ℕ) → Asks words first second g
-    → toldOf words first second input ≡ printoutUnder (g .mode) (g .rule) input
-told-is input A = ap (λ (a : Asked). textOf a input) (asked A)
+-- none of them is `--trace`, and behind it they ask for the same
+no-trace : {words : ℕ} {first second : List ℕ} {g : Given} → Asks words first second g → isTrace words first ≡ false
+unfolding isTrace sameText
+no-trace (neither e) = rw e
+no-trace (older e f) = rw (e, f)
+no-trace (nearest e f) = rw (e, f)
+no-trace (both e f s) = rw (e, f)
+
+told-is : {words : ℕ} {first second : List ℕ} {g : Given} → (third input : List ℕ) → Asks words first second g
+    → toldOf words first second third input ≡ printoutUnder (g .mode) (g .rule) input
+told-is third input A = rw (no-trace A) (ap (λ (a : Asked). textFor printoutUnder a input) (asked A))
+
+is-trace : {words : ℕ} {first second : List ℕ} {g : Given} → Asks words first second g → isTrace (words + 1) traceText ≡ true
+unfolding isTrace sameText
+is-trace (neither e) = rw e
+is-trace (older e f) = rw e
+is-trace (nearest e f) = rw e
+is-trace (both e f s) = rw e
+
+traced-is : {words : ℕ} {first second : List ℕ} {g : Given} → (input : List ℕ) → Asks words first second g
+    → toldOf (words + 1) traceText first second input ≡ traceOf (g .mode) (g .rule) input
+traced-is {words} input A =
+    let n : words + 1 - 1 ≡ words = omega arith in
+    rw (is-trace A, n) (ap (λ (a : Asked). textFor traceOf a input) (asked A))
 
 usage-is : (words : ℕ) (first second : List ℕ) → ((g : Given) → Asks words first second g → ⊥) → askedOf words first second ≡ Nothing
 unfolding askedOf
@@ -153,6 +175,23 @@ usage-is words first second h =
     by false e false f true i true j q k false l = refl
     by false e false f true i false j q k r l = refl
     by false e false f false i p j q k r l = refl
+
+-- a call that is none of these, with `--trace` before them or not
+other-is : (words : ℕ) (first second third input : List ℕ) → ((g : Given) → Asks words first second g → ⊥)
+    → ((n : ℕ) (g : Given) → words ≡ n + 1 → first ≡ traceText → Asks n second third g → ⊥)
+    → toldOf words first second third input ≡ written "usage" ++ (10 ∷ [])
+unfolding isTrace
+other-is words first second third input h k = by (ltb words 2) refl (sameText first traceText) refl
+  where
+    by : (a : Bool) → ltb words 2 ≡ a → (b : Bool) → sameText first traceText ≡ b
+        → cond (cond a false b) (textFor traceOf (askedOf (words - 1) second third) input) (textFor printoutUnder (askedOf words first second) input)
+        ≡ written "usage" ++ (10 ∷ [])
+    by true e b f = ap (λ (a : Asked). textFor printoutUnder a input) (usage-is words first second h)
+    by false e false f = ap (λ (a : Asked). textFor printoutUnder a input) (usage-is words first second h)
+    by false e true f =
+        let two = ltb-false words 2 e in
+        ap (λ (a : Asked). textFor traceOf a input)
+        (usage-is (words - 1) second third (λ g. k (words - 1) g (omega arith) (same-is first traceText f)))
 
 -- ---- characters
 value-snoc : (n : ℕ) (l : List ℕ) (c : ℕ) → valueOf n (l ++ (c ∷ [])) ≡ valueOf n l * 10 + (c - 48)
@@ -210,14 +249,15 @@ read-back kind refusal bytes rest h =
 
 pub listings : Listings
 listings = record {
-  printed = λ words first second input g A h p.
-      let r = runOf (fresh g) input 65536 in
-      told-is input A
+  printed = λ words first second third input g A h p.
+      let r = runOf (resetCard g) input 65536 in
+      told-is third input A
       ∙ text-is g (chosen A) input h
       ∙ ap₂ (λ (l : List ℕ) (n : ℕ). linesOf 1 l ++ endOf (r .refusal) n) (p .replies) (p .taken)
-      ∙ ap₂ (λ (l m : List ℕ). l ++ m) (lines-are (p .records) (fresh g) 65536 1 (p .each)) (last-is (r .refusal) (total (lengths (p .records))));
-  long = λ words first second input g A h. told-is input A ∙ long-is g (chosen A) input h;
-  usage = λ words first second input h. ap (λ (a : Asked). textOf a input) (usage-is words first second h);
+      ∙ ap₂ (λ (l m : List ℕ). l ++ m) (lines-are (p .records) (resetCard g) 65536 1 (p .each)) (last-is (r .refusal) (total (lengths (p .records))));
+  long = λ words first second third input g A h. told-is third input A ∙ long-is g (chosen A) input h;
+  traced = λ words first second input g A. traced-is input A;
+  usage = λ words first second third input h k. other-is words first second third input h k;
   read-back = λ kind refusal bytes rest h. read-back kind refusal bytes rest h;
   characters = record { decimals = λ n h. spells 20 n h; hex-digits = refl };
 }

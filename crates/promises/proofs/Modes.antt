@@ -38,7 +38,7 @@ use Rattle.record_runs.specs.Run.{Outcome, took, after, runOf}
 use Rattle.record_runs.proofs.Prefix.{lawful}
 use Rattle.record_runs.proofs.Single.{reset-is}
 use Rattle.state_bytes.specs.Bytes.{isState, stateOf, memoryIn, cardIn}
-use Rattle.record_runs.specs.declared.head.EventKind.{EventKind}
+use Rattle.terms.specs.declared.EventKind.{EventKind}
 use Rattle.state_bytes.specs.Calls.{Called, Signal, ranOf, away, callUnder, signalBy, signalUnder, unsent, answerToKind, answeredBy}
 use Rattle.state_bytes.proofs.Calling.{run-chosen, event-chosen, bad-mode, no-mode}
 use Rattle.promises.specs.Given.{Given, Chosen, settingsIn, runCall, eventCall}

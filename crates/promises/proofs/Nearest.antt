@@ -3,20 +3,18 @@ use mathlib.Core.Path.{_≡_, refl}
 use mathlib.Core.List.{_++_}
 use Rattle.terms.specs.declared.Rule.{Rule}
 use Rattle.terms.specs.declared.Rule.the-variants.{Cut, Nearest}
-use Rattle.float.proofs.RulePair.{a-pair-by, one-pair-by}
-use Rattle.float.proofs.NoNearer.{no-nearer}
-use Rattle.float.proofs.Steps.{div-by-zero}
-use Rattle.float.proofs.Results.{add-result, sub-result, mul-result, div-result, fltd-result}
-use Rattle.float.proofs.Conversions.{fltd-no-error}
-use Rattle.float.proofs.RootExact.{one-root-by, root-exactly}
+use Rattle.float.proofs.cut.RulePair.{a-pair-by, one-pair-by}
+use Rattle.float.proofs.cut.NoNearer.{no-nearer}
+use Rattle.float.proofs.Results.{fltd-result}
+use Rattle.float.proofs.convert.Conversions.{fltd-no-error}
+use Rattle.float.proofs.root.RootExact.{one-root-by, root-exactly}
 use Rattle.codes.specs.Codes.{decoded}
 use Rattle.chip.specs.Step.{carried, commandUnder}
 use Rattle.promises.specs.Stack.{bytesOf, zeros}
 use Rattle.promises.specs.BusEvents.{resetState, piWord}
 use Rattle.promises.specs.Nearest.{ByRule, NearestResults}
-use Rattle.promises.proofs.Measures.{theirs-word, ours-word, theirs-pair, ours-pair, theirs-near-pair, theirs-root, ours-exactly-root}
-use Rattle.promises.proofs.Exact.{sum-exact, difference-exact, product-exact, quotient-exact, fltd-exact, flts-brought, sum-kept, difference-kept}
-use Rattle.promises.proofs.Exact.{product-kept, quotient-kept}
+use Rattle.promises.proofs.Measures.{ours-word, theirs-pair, ours-pair, theirs-near-pair, theirs-root, ours-exactly-root}
+use Rattle.promises.proofs.Exact.{fltd-exact, flts-brought, operations-by, results-by}
 
 by-rule : (rule : Rule) → ByRule rule
 by-rule rule = record {
@@ -24,22 +22,8 @@ by-rule rule = record {
     exists = λ n d N D. let p = a-pair-by rule n d N D in (p .0, p .1, ours-pair rule n d (p .0) (p .1) (p .2));
     only = λ n d m m' e e' D P Q. one-pair-by rule n d m m' e e' D (theirs-pair rule n d m e P) (theirs-pair rule n d m' e' Q);
   };
-  operations = record {
-    sum = λ b a B A. sum-exact rule b a;
-    difference = λ b a B A. difference-exact rule b a;
-    product = product-exact rule;
-    quotient = quotient-exact rule;
-    by-zero = λ b a A z. div-by-zero rule b a z;
-  };
-  words = record {
-    proper-sum = λ b a. (ours-word (add-result rule b a .word), ours-word (sub-result rule b a .word));
-    proper-product = λ b a. ours-word (mul-result rule b a .word);
-    proper-quotient = λ b a B. ours-word (div-result rule b a (theirs-word B) .word);
-    sum-kept = sum-kept rule;
-    difference-kept = difference-kept rule;
-    product-kept = product-kept rule;
-    quotient-kept = quotient-kept rule;
-  };
+  operations = operations-by rule;
+  words = results-by rule;
   conversions = record {
     fltd-brought = fltd-exact rule;
     no-error = fltd-no-error rule;

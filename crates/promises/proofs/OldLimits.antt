@@ -42,8 +42,8 @@ long-pop n rest h =
     ap (headIn 16 l) (whole 16 l (omega arith) (omega arith) (omega arith) (omega arith)) ∙ rw (le-ltb n 1 (omega arith), lt-ltb 16 n h)
 
 -- a record within the old limits is held under both
-held : {r : List ℕ} (one : IsRecord r) → WithinOld one → Holds 16 r (theirs-record one .event)
-held {r} one w =
+held-under-old : {r : List ℕ} (one : IsRecord r) → WithinOld one → Holds 16 r (theirs-record one .event)
+held-under-old {r} one w =
     let h = theirs-record one .held in
     record { length-is = h .length-is; kind-is = h .kind-is; there = h .there; small = fewer one w; carried = carries one w }
   where
@@ -75,7 +75,7 @@ module _ (s : Card) (r : List ℕ) (room : ℕ) (one : IsRecord r) (w : WithinOl
   turn-is : turnUnder 16 s r room ≡ cond (ltb room (5 + answeredOf event)) (stopped NoRoom s) (worked s event (answerOf s (take (payloadOf event) (drop 4 r))
       event))
   unfolding turnUnder
-  turn-is = rw (head-is {most = 16} r event (held one w))
+  turn-is = rw (head-is {most = 16} r event (held-under-old one w))
 
   some : 0 < length r
   some = omega (arith, theirs-record one .size)

@@ -32,37 +32,37 @@ use Rattle.state_bytes.proofs.Cards.{card-ready, laid-at}
 use Rattle.promises.proofs.Measures.{theirs-stack, theirs-state}
 use Rattle.promises.specs.Cores.{Sendable, onBus}
 use Rattle.promises.specs.Given.{settingsIn}
-use Rattle.promises.specs.Pending.{Answers, stateWith, movedSince, Odd, Bus, PendingByte, BusEvents}
+use Rattle.promises.specs.Pending.{AnswerIs, stateWith, movedSince, Odd, Bus, PendingByte, BusEvents}
 use Rattle.promises.proofs.Refusals.{numbers}
 use Rattle.promises.proofs.Cores.{all-good, cores}
 
 module _ (l : List ℕ) (p : Bool) (u : ℕ) (v : Bool) (h : u < 128) where
-  pushes : (b : ℕ) → Answers (pushOf (stateWith l p u v) b) 0 0 (b ∷ take 15 l) (not p) u v
+  pushes : (b : ℕ) → AnswerIs (pushOf (stateWith l p u v) b) 0 0 (b ∷ take 15 l) (not p) u v
   unfolding pushOf
   pushes b = rw (lt-leb 128 u h) (record { number = refl; byte-read = refl; state = refl })
 
-  pops : (b : ℕ) → Answers (popOf (stateWith (b ∷ l) p u v)) 0 b (l ++ (b ∷ [])) (not p) u v
+  pops : (b : ℕ) → AnswerIs (popOf (stateWith (b ∷ l) p u v)) 0 b (l ++ (b ∷ [])) (not p) u v
   unfolding popOf
   pops b = rw (lt-leb 128 u h) (record { number = refl; byte-read = refl; state = refl })
 
-  resets : Answers (resetOf Am9511A (stateWith l p u v)) 0 0 (0 ∷ 0 ∷ 0 ∷ 0 ∷ 0 ∷ 0 ∷ 0 ∷ 0 ∷ 0 ∷ 0 ∷ 0 ∷ 0 ∷ 0 ∷ 0 ∷ 0 ∷ 0 ∷ []) false 0 false
+  resets : AnswerIs (resetOf Am9511A (stateWith l p u v)) 0 0 (0 ∷ 0 ∷ 0 ∷ 0 ∷ 0 ∷ 0 ∷ 0 ∷ 0 ∷ 0 ∷ 0 ∷ 0 ∷ 0 ∷ 0 ∷ 0 ∷ 0 ∷ 0 ∷ []) false 0 false
   unfolding resetOf
   resets = rw (lt-leb 128 u h) (record { number = refl; byte-read = refl; state = refl })
 
-  acknowledges : Answers (acknowledgeOf (stateWith l p u v)) 0 0 l p u false
+  acknowledges : AnswerIs (acknowledgeOf (stateWith l p u v)) 0 0 l p u false
   unfolding acknowledgeOf
   acknowledges = rw (lt-leb 128 u h) (record { number = refl; byte-read = refl; state = refl })
 
-  reads : Answers (readOf (stateWith l p u v)) 0 u l p u v
+  reads : AnswerIs (readOf (stateWith l p u v)) 0 u l p u v
   unfolding readOf
   reads = rw (lt-leb 128 u h) (record { number = refl; byte-read = refl; state = refl })
 
 -- of the older part
-older-keeps : (l : List ℕ) (u : ℕ) (v : Bool) → u < 128 → Answers (resetOf Am9511 (stateWith l false u v)) 0 0 l false 0 false
+older-keeps : (l : List ℕ) (u : ℕ) (v : Bool) → u < 128 → AnswerIs (resetOf Am9511 (stateWith l false u v)) 0 0 l false 0 false
 unfolding resetOf
 older-keeps l u v h = rw (lt-leb 128 u h) (record { number = refl; byte-read = refl; state = refl })
 
-older-realigns : (b : ℕ) (l : List ℕ) (u : ℕ) (v : Bool) → length l ≡ 15 → u < 128 → Answers (resetOf Am9511 (stateWith (b ∷ l) true u v)) 0 0 (take 14 l
+older-realigns : (b : ℕ) (l : List ℕ) (u : ℕ) (v : Bool) → length l ≡ 15 → u < 128 → AnswerIs (resetOf Am9511 (stateWith (b ∷ l) true u v)) 0 0 (take 14 l
     ++ (0 ∷ 0 ∷ [])) false 0 false
 unfolding resetOf
 older-realigns b l u v n h =
@@ -91,7 +91,7 @@ none : Odd false 0
 none = record { set = λ h. absurd (omega arith); clear = λ h. refl }
 
 -- the flag of a state that is written out
-flag-of : {a : Answer} {n b : ℕ} {l : List ℕ} {p : Bool} {u : ℕ} {v : Bool} → Answers a n b l p u v → a .state .pending ≡ p
+flag-of : {a : Answer} {n b : ℕ} {l : List ℕ} {p : Bool} {u : ℕ} {v : Bool} → AnswerIs a n b l p u v → a .state .pending ≡ p
 flag-of g = ap (λ (s : State). s .pending) (g .state)
 
 -- a command leaves pending as it was, done or refused
@@ -129,7 +129,7 @@ module _ (on : Settings) where
       parity es ((acknowledgeOf s) .state) n (acknowledge-fair s r .left) (S .1) (subst (λ (p : Bool). Odd p n) (sym (flag-of a)) o)
 
 -- a busy state
-busies : (on : Settings) (e : Event) (l : List ℕ) (p : Bool) (u : ℕ) (v : Bool) → 128 ≤ u → Answers (answerTo on (stateWith l p u v) e) 13 0 l p u v
+busies : (on : Settings) (e : Event) (l : List ℕ) (p : Bool) (u : ℕ) (v : Bool) → 128 ≤ u → AnswerIs (answerTo on (stateWith l p u v) e) 13 0 l p u v
 busies on e l p u v h =
     let t = numbers on .busy-state (stateWith l p u v) e (le-leb 128 u h) in
     record { number = t .number; byte-read = t .byte; state = t .state }
@@ -139,9 +139,9 @@ pub bus : (on : Settings) → Bus on
 bus on = record {
   push-leaves = λ b l p u v h. pushes l p u v h b;
   pop-leaves = λ b l p u v h. pops l p u v h b;
-  reset-leaves = λ m l p u v h. subst (λ (x : Mode). Answers (resetOf x (stateWith l p u v)) 0 0 (zeros 16) false 0 false) (sym m) (resets l p u v h);
-  older-reset-keeps = λ m l u v h. subst (λ (x : Mode). Answers (resetOf x (stateWith l false u v)) 0 0 l false 0 false) (sym m) (older-keeps l u v h);
-  older-reset-realigns = λ m b l u v n h. subst (λ (x : Mode). Answers (resetOf x (stateWith (b ∷ l) true u v)) 0 0 (take 14 l ++ (0 ∷ 0 ∷ [])) false 0 false)
+  reset-leaves = λ m l p u v h. subst (λ (x : Mode). AnswerIs (resetOf x (stateWith l p u v)) 0 0 (zeros 16) false 0 false) (sym m) (resets l p u v h);
+  older-reset-keeps = λ m l u v h. subst (λ (x : Mode). AnswerIs (resetOf x (stateWith l false u v)) 0 0 l false 0 false) (sym m) (older-keeps l u v h);
+  older-reset-realigns = λ m b l u v n h. subst (λ (x : Mode). AnswerIs (resetOf x (stateWith (b ∷ l) true u v)) 0 0 (take 14 l ++ (0 ∷ 0 ∷ [])) false 0 false)
       (sym m) (older-realigns b l u v n h);
   acknowledge-leaves = λ l p u v h. acknowledges l p u v h;
   read-leaves = λ l p u v h. reads l p u v h;

@@ -5,7 +5,7 @@ use mathlib.Core.List.{List, [], _∷_, _++_}
 use Prim.Native.Nat.{ℕ, zero, suc, _/_, _%_}
 use lib.Dec.{ltb}
 use Rattle.listing.specs.Text.{spelled as their-spelled, decimal as their-decimal}
-use Rattle.step_text.specs.Lines.{hexOf as their-hex}
+use Rattle.listing.specs.Hex.{digitsTo}
 use Rattle.promises.specs.PrintedText.{digit, spelled, decimal, hexOf}
 
 spelled-is : (most n : ℕ) → their-spelled most n ≡ spelled most n
@@ -16,7 +16,7 @@ spelled-is (suc most) n = ap (λ (l : List ℕ). cond (ltb n 10) (digit n ∷ []
 pub decimal-is : (n : ℕ) → their-decimal n ≡ decimal n
 decimal-is n = spelled-is 20 n
 
-pub hex-is : (count n : ℕ) → their-hex count n ≡ hexOf count n
-unfolding their-hex hexOf
+pub hex-is : (count n : ℕ) → digitsTo 16 count n ≡ hexOf count n
+unfolding digitsTo hexOf
 hex-is zero n = refl
 hex-is (suc count) n = ap (λ (l : List ℕ). l ++ (digit (n % 16) ∷ [])) (hex-is count (n / 16))

@@ -7,7 +7,7 @@ use native.Mathlib.Nat.{sub-zero}
 use lib.ListN.{length, take, drop, length-append, take-append-drop}
 use lib.Seq.{length-take-le, take-take}
 use borrow.Author.Tests.{leb-false}
-use Rattle.little.proofs.Exact.{le4-exact}
+use Rattle.numbers.proofs.Exact.{le4-exact}
 use Rattle.terms.specs.Refusal.{numberOf}
 use Rattle.stack.specs.Stack.{Bytes}
 use Rattle.stack.proofs.Words.{bytes-drop}
@@ -63,31 +63,17 @@ is-record s l room =
       size = n;
     })
 
+-- a run that ends at once, with this refusal
+none-taken : (s : Card) (l : List ℕ) (room refusal : ℕ) → (refusal ≡ 0 → l ≡ [])
+    → ((refusal ≡ 0 → ⊥) → runOf s l (room - 0) ≡ ended refusal s) → Split s l room (ended refusal s)
+none-taken s l room refusal c g =
+    record { records = []; rest = l; parts = refl; each = tt; replies = refl; taken = refl; written = refl; complete = c; stopped = g }
+
 pub counted : Counted
 counted =
     through lawful Split
-    (λ s room. record {
-      records = [];
-      rest = [];
-      parts = refl;
-      each = tt;
-      replies = refl;
-      taken = refl;
-      written = refl;
-      complete = λ z. refl;
-      stopped = λ z. absurd (z refl);
-    })
-    (λ s l room p z. record {
-      records = [];
-      rest = l;
-      parts = refl;
-      each = tt;
-      replies = refl;
-      taken = refl;
-      written = refl;
-      complete = λ y. absurd (z y);
-      stopped = λ y. rw (sub-zero room) (first-stops lawful s l room _ refl p z);
-    })
+    (λ s room. none-taken s [] room 0 (λ z. refl) (λ z. absurd (z refl)))
+    (λ s l room p z. none-taken s l room (turnOf s l room .refusal) (λ y. absurd (z y)) (λ y. rw (sub-zero room) (first-stops lawful s l room _ refl p z)))
     (λ s l room p z h.
     let t = turnOf s l room in
     let r = take (t .size) l in

@@ -10,11 +10,12 @@ use Rattle.error_memory.proofs.History.{memory-is-history as memory-is-told}
 use Rattle.promises.specs.Subjects.{Answer, ChipEvent, Push, Pop, Command, Status, Reset, Acknowledge, answerTo}
 use Rattle.promises.specs.Subjects.{Memory, Card, Event, Chip, Recall, Forget, eventIn}
 use Rattle.promises.specs.BusEvents.{busy}
-use Rattle.promises.specs.Remembered.{emptyMemory, errorsOf, accepted, Told, History, joinedBits, firstOf, memoryOf, from, told, chipTells, tells}
+use Rattle.promises.specs.Remembered.{emptyMemory, errorsOf, accepted, AcceptedCommand, History, joinedBits, firstOf, memoryOf, from, told, chipTells}
+use Rattle.promises.specs.Remembered.{tells}
 use Rattle.promises.specs.Remembered.{historyOf, afterAll}
 
 -- a command that was told, and a history, as the book has them
-abbrev ours-told : theirs.Told → Told
+abbrev ours-told : theirs.Told → AcceptedCommand
 ours-told t = record { code = t .code; status = t .status }
 
 abbrev ours : theirs.History → History
@@ -36,10 +37,11 @@ memory-same h =
 -- one more
 map-more : (ts us : List theirs.Told) → map ours-told (ts ++ us) ≡ map ours-told ts ++ map ours-told us
 map-more [] us = refl
-map-more (t ∷ ts) us = ap (λ (l : List Told). ours-told t ∷ l) (map-more ts us)
+map-more (t ∷ ts) us = ap (λ (l : List AcceptedCommand). ours-told t ∷ l) (map-more ts us)
 
 told-same : (h : theirs.History) (code status : ℕ) → ours (theirs.told h code status) ≡ told (ours h) code status
-told-same h code status = ap (λ (l : List Told). record { start = h .start; since = l }) (map-more (h .since) (record { code = code; status = status } ∷ []))
+told-same h code status = ap (λ (l : List AcceptedCommand). record { start = h .start; since = l })
+    (map-more (h .since) (record { code = code; status = status } ∷ []))
 
 either-way : (b : Bool) (g h : theirs.History) → ours (cond b g h) ≡ cond b (ours g) (ours h)
 either-way true g h = refl

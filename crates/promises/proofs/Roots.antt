@@ -15,8 +15,8 @@ use Rattle.terms.specs.declared.Rule.{Rule}
 use Rattle.terms.specs.declared.Rule.the-variants.{Cut}
 use Rattle.float.specs.Float.{exactProduct}
 use Rattle.float.specs.Root.{sqrt}
-use Rattle.float.proofs.RootCut.{root-negative, root-none}
-use Rattle.float.proofs.RootExact.{one-root, root-exactly, root-no-error, root-result, root-keeps, root-exact}
+use Rattle.float.proofs.root.RootCut.{root-negative, root-none}
+use Rattle.float.proofs.root.RootExact.{one-root, root-exactly, root-no-error, root-result, root-keeps, root-exact}
 use Rattle.stack.specs.Stack.{zeros}
 use Rattle.codes.specs.Command.{Sqrt}
 use Rattle.codes.specs.Codes.{decoded}

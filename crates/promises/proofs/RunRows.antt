@@ -5,7 +5,7 @@ use Prim.Native.Nat.{ℕ, _<_}
 use mathlib.Core.List.{[], map}
 use native.Mathlib.Omega.{arith}
 use lib.Dec.{lit<, lit≤}
-use lib.ListN.{length, replicate, length-replicate}
+use lib.ListN.{length, length-replicate}
 use lib.Ieee.{size}
 use Rattle.fixed.specs.Fixed.{add as xadd, sub as xsub, mul as xmul, muu as xmuu, div as xdiv, chs as xchs}
 use Rattle.float.specs.Float.{add, sub, mul, div}
@@ -21,13 +21,13 @@ use Rattle.state_bytes.specs.Bytes.{isState}
 use Rattle.state_bytes.specs.Calls.{callOf}
 use Rattle.promises.specs.PrintedText.{bytes}
 use Rattle.promises.specs.StateBytes.{IsState}
-use Rattle.promises.specs.Given.{Given}
+use Rattle.promises.specs.Given.{Given, runCall}
 use Rattle.promises.proofs.Kept.{no-report, no-state, long-input}
 use Rattle.promises.proofs.Modes.{no-such-mode}
 use Rattle.promises.proofs.Rules.{no-such-rule}
-use Rattle.promises.specs.RunRows.{RunRow, runTable, full, tooLong, Long13, RunRows}
+use Rattle.promises.specs.RunRows.{RunRow, runTable, full, reportLent, tooLong, Long13, RunRows}
 
-rows : map (λ (r : RunRow). callOf (r .mode) (r .rule) (r .state) (r .input) (r .replies) (r .report)) runTable ≡ map (λ (r : RunRow). r .after) runTable
+rows : map (λ (r : RunRow). runCall (r .numbers) (r .state) (r .input) (r .replies) (r .report)) runTable ≡ map (λ (r : RunRow). r .after) runTable
 unfolding callOf isState run runBy frameUnder turnUnder pushOf popOf readOf resetOf acknowledgeOf carried commandUnder decoded statusOf keepsA losesA changesA
     floats converts widens narrows roots xadd xsub xmul xmuu xdiv xchs add sub mul div fltd flts fix chsf sqrt size
 rows = refl
@@ -46,14 +46,14 @@ long-is : 12288 < length tooLong
 long-is = subst (λ (n : ℕ). 12288 < n) (sym (length-replicate {A = ℕ} 12289 0x5a)) (lit< tt)
 
 long-13 : Long13
-long-13 = no-state (numbers 1 1) (record { mode = lit≤ tt; rule = lit≤ tt }) [] tooLong [] (replicate 9 0x77) refl no-bytes
+long-13 = no-state (numbers 1 1) (record { mode = lit≤ tt; rule = lit≤ tt }) [] tooLong [] (reportLent 9) refl no-bytes
 
 pub run-rows : RunRows
 run-rows = record {
   rows = rows;
   long-14 = no-report (numbers 2 2) [] tooLong [] [] (λ n. omega (arith, n));
-  long-16 = no-such-mode .run (numbers 2 2) [] tooLong [] (replicate 9 0x77) (lit< tt) refl;
-  long-17 = no-such-rule .run (numbers 1 2) [] tooLong [] (replicate 9 0x77) (lit≤ tt) (lit< tt) refl;
+  long-16 = no-such-mode .run (numbers 2 2) [] tooLong [] (reportLent 9) (lit< tt) refl;
+  long-17 = no-such-rule .run (numbers 1 2) [] tooLong [] (reportLent 9) (lit≤ tt) (lit< tt) refl;
   long-13 = long-13;
-  long-9 = long-input (numbers 1 1) (record { mode = lit≤ tt; rule = lit≤ tt }) full tooLong (bytes "EE") (replicate 9 0x77) refl full-state long-is;
+  long-9 = long-input (numbers 1 1) (record { mode = lit≤ tt; rule = lit≤ tt }) full tooLong (bytes "EE") (reportLent 9) refl full-state long-is;
 }

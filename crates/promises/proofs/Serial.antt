@@ -44,16 +44,19 @@ use Rattle.bit_serial.proofs.Steps.{made}
 use Rattle.step_text.specs.declared.asked.Found.{Found}
 use Rattle.step_text.specs.declared.asked.Found.the-variants.{Operation as Named, Nothing as Unnamed}
 use Rattle.listing.specs.Text.{spelled as their-spelled, decimal as their-decimal}
-use Rattle.step_text.specs.Lines.{stepLine, answerLine, statusFor, hexOf as their-hex}
+use Rattle.listing.specs.Hex.{digitValue, hexFrom, digitsTo}
+use Rattle.listing.specs.Options.{sameText}
+use Rattle.step_text.specs.Lines.{stepLine, answerLine, statusFor}
 use Rattle.step_text.specs.Steps.{productLines, quotientLines, workingsOf, leftAfter, partialAfter, linesAfter}
-use Rattle.step_text.specs.Asked.{digitValue, readFrom, readHex, operationAt, sameText, ruleFor}
+use Rattle.step_text.specs.Asked.{readHex, operationAt, ruleFor}
 use Rattle.step_text.proofs.Numbered.{numbered}
 use Rattle.promises.specs.SerialWork as book
 use Rattle.promises.specs.PrintedText.{written, decimal, hexOf}
 use Rattle.promises.proofs.PrintedText.{decimal-is, hex-is}
 use Rattle.promises.specs.Figures.{from}
 use Rattle.promises.specs.Commands.{least, words, word, statusBy, Two}
-use Rattle.promises.specs.Serial.{floatAnswer, firstAnswer, commandFor, Does, ZeroOrFour, SameEngine, mostSteps, Work, eightCodes, StepsText, StepsBench}
+use Rattle.promises.specs.Serial.{floatAnswer, firstAnswer, commandFor, ChipGives, ZeroOrFour, SameEngine, mostSteps, Work, eightCodes, StepsText}
+use Rattle.promises.specs.Serial.{StepsBench}
 use Rattle.promises.proofs.StepsAsked.{told, not-told}
 use Rattle.promises.proofs.Commands.{accepted, loses, rows}
 
@@ -63,9 +66,9 @@ below-all Single = lit< tt
 below-all Double = lit< tt
 
 answers : (op : Operation) (rule : Rule) (b a : ℕ) → Operands op b a → answerOf op rule b a ≡ firstAnswer op rule b a (stepsIn (answerOf op rule b a))
-answers (Mul w) rule b a l = same-mul (least w) (bitsOf w) b a (words-of {op = Mul w} (least w) b a refl refl l) (below-all w)
-answers (Muu w) rule b a l = same-muu (least w) (bitsOf w) b a (words-of {op = Muu w} (least w) b a refl refl l) (below-all w)
-answers (Div w) rule b a l = same-div (least w) (bitsOf w) b a (words-of {op = Div w} (least w) b a refl refl l) (below-all w)
+answers (Mul w) rule b a l = same-mul (least w) (bitsOf w) b a (words-of (Mul w) (least w) b a refl l) (below-all w)
+answers (Muu w) rule b a l = same-muu (least w) (bitsOf w) b a (words-of (Muu w) (least w) b a refl l) (below-all w)
+answers (Div w) rule b a l = same-div (least w) (bitsOf w) b a (words-of (Div w) (least w) b a refl l) (below-all w)
 answers Fmul rule b a l = same-fmul rule b a
 answers Fdiv rule b a l = same-fdiv rule b a
 
@@ -76,7 +79,7 @@ in-words Double l = l
 
 module _ (rule : Rule) (w : Width) (b a : ℕ) (l : (b < 2 ^ bitsOf w) × (a < 2 ^ bitsOf w)) where
   W : Words (least w) b a
-  W = words-of {op = Mul w} (least w) b a refl refl l
+  W = words-of (Mul w) (least w) b a refl l
 
   mul-does : Two rule w (MulCommand w) b a (mul (least w) b a .word) (mul (least w) b a .error) false 0
   mul-does cs = accepted rule (MulCommand w) (word w a (word w b cs)) w _ _ _ _ refl (mul-word (least w) b a W) (loses w (mul (least w)) b a _ _ _ cs
@@ -92,14 +95,15 @@ module _ (rule : Rule) (w : Width) (b a : ℕ) (l : (b < 2 ^ bitsOf w) × (a < 2
 
 -- a float operation whose row and refusal the chip has
 float-does : (rule : Rule) (op : Operation) (b a steps : ℕ) (r : Flagged)
-    → (proper b ≡ true → proper a ≡ true → Does rule op b a (Word (r .word) (r .error) steps)) → ((proper b ≡ false) ⊎ (proper a ≡ false) → Does rule op b a
+    → (proper b ≡ true → proper a ≡ true → ChipGives rule op b a (Word (r .word) (r .error) steps)) →
+    ((proper b ≡ false) ⊎ (proper a ≡ false) → ChipGives rule op b a
     (Refused Improper))
-    → Does rule op b a (floatAnswer b a steps r)
+    → ChipGives rule op b a (floatAnswer b a steps r)
 float-does rule op b a steps r f g = go (proper b) (proper a) f g
   where
-    go : (s t : Bool) → (s ≡ true → t ≡ true → Does rule op b a (Word (r .word) (r .error) steps))
-        → ((s ≡ false) ⊎ (t ≡ false) → Does rule op b a (Refused Improper))
-        → Does rule op b a (cond (s && t) (Word (r .word) (r .error) steps) (Refused Improper))
+    go : (s t : Bool) → (s ≡ true → t ≡ true → ChipGives rule op b a (Word (r .word) (r .error) steps))
+        → ((s ≡ false) ⊎ (t ≡ false) → ChipGives rule op b a (Refused Improper))
+        → ChipGives rule op b a (cond (s && t) (Word (r .word) (r .error) steps) (Refused Improper))
     go true true f g = f refl refl
     go true false f g = g (inr refl)
     go false t f g = g (inl refl)
@@ -107,7 +111,7 @@ float-does rule op b a steps r f g = go (proper b) (proper a) f g
 float-word : {w : ℕ} → w < 2 ^ 32 → proper w ≡ true → FloatWord w
 float-word l p = record { fits = l; is-proper = p }
 
-first-does : (op : Operation) (rule : Rule) (b a steps : ℕ) → Operands op b a → Does rule op b a (firstAnswer op rule b a steps)
+first-does : (op : Operation) (rule : Rule) (b a steps : ℕ) → Operands op b a → ChipGives rule op b a (firstAnswer op rule b a steps)
 first-does (Mul w) rule b a steps l = mul-does rule w b a l
 first-does (Muu w) rule b a steps l = muu-does rule w b a l
 first-does (Div w) rule b a steps l = div-does rule w b a l
@@ -133,7 +137,7 @@ number Fdiv rule b a steps = zero-or-four (proper b && proper a) _ _ _
 pub same-engine : SameEngine
 same-engine = record {
   answers = answers;
-  in-chip = λ op rule b a l. subst (Does rule op b a) (sym (answers op rule b a l)) (first-does op rule b a (stepsIn (answerOf op rule b a)) l);
+  in-chip = λ op rule b a l. subst (ChipGives rule op b a) (sym (answers op rule b a l)) (first-does op rule b a (stepsIn (answerOf op rule b a)) l);
   numbers = λ op rule b a l. subst ZeroOrFour (sym (answers op rule b a l)) (number op rule b a (stepsIn (answerOf op rule b a)));
 }
 
@@ -159,8 +163,8 @@ task-is (Div w) b a = refl
 task-is Fmul b a = refl
 task-is Fdiv b a = refl
 
-ours-made : (task other : Task) (steps : ℕ) → task ≡ other → Made task steps → book.Made other steps
-ours-made task other steps e M = subst (λ (t : Task). book.Made t steps) e (record { at-most = M .at-most; fewer = M .fewer })
+ours-made : (task other : Task) (steps : ℕ) → task ≡ other → Made task steps → book.StepsMade other steps
+ours-made task other steps e M = subst (λ (t : Task). book.StepsMade t steps) e (record { at-most = M .at-most; fewer = M .fewer })
 
 pub work : Work
 work = record {
@@ -189,7 +193,7 @@ coded code op =
 -- a line, and the lines, as the book has them
 step-is : (number left partial : ℕ) → stepLine number left partial ≡ book.stepLine number left partial
 step-is number left partial =
-    ap (λ (t : List ℕ). t ++ ((32 ∷ their-decimal left) ++ (32 ∷ (their-hex 16 partial ++ (10 ∷ []))))) (decimal-is number)
+    ap (λ (t : List ℕ). t ++ ((32 ∷ their-decimal left) ++ (32 ∷ (digitsTo 16 16 partial ++ (10 ∷ []))))) (decimal-is number)
     ∙ ap₂ (λ (t u : List ℕ). decimal number ++ ((32 ∷ t) ++ (32 ∷ (u ++ (10 ∷ []))))) (decimal-is left) (hex-is 16 partial)
 
 lines-are : (task : Task) (n k : ℕ) → linesAfter task n k ≡ book.linesAfter task n k
@@ -205,7 +209,7 @@ status-is w r error = same-bits (cond (leb (least w) r) 64 0) (cond (eqb r 0) 32
 answer-is : (w : Width) (r : Answer) → answerLine w r ≡ book.answerLine w r
 answer-is w (Word r error n) =
     ap (λ (t : List ℕ). written "word " ++ (t ++ (written " error"
-    ++ ((32 ∷ their-decimal error) ++ (written " status " ++ (their-hex 2 (statusFor w r error) ++ (10 ∷ [])))))))
+    ++ ((32 ∷ their-decimal error) ++ (written " status " ++ (digitsTo 16 2 (statusFor w r error) ++ (10 ∷ [])))))))
     (hex-is (2 * sizeOf w) r)
     ∙ ap₂ (λ (t u : List ℕ). written "word " ++ (hexOf (2 * sizeOf w) r ++ (written " error" ++ ((32 ∷ t) ++ (written " status " ++ (u ++ (10 ∷ [])))))))
     (decimal-is error)
@@ -225,29 +229,20 @@ unfolding operationAt
 eight = refl
 
 pub steps-text : StepsText
-unfolding size low packed errorAt cutSize cut their-spelled their-hex addedUpTo subtractedUpTo mulAnswer muuAnswer divAnswer fmulAnswer fdivAnswer mulTask
-    divTask fmulTask fdivTask productLines quotientLines digitValue readFrom readHex operationAt sameText ruleFor
+unfolding size low packed errorAt cutSize cut their-spelled digitsTo addedUpTo subtractedUpTo mulAnswer muuAnswer divAnswer fmulAnswer fdivAnswer mulTask
+    divTask fmulTask fdivTask productLines quotientLines digitValue hexFrom readHex operationAt sameText ruleFor
 steps-text = record {
   codes = eight;
   chips = coded;
   lines = told-lines;
   told = told;
   not-told = not-told;
-  smul = refl;
-  smuu = refl;
-  sdiv = refl;
-  dmul = refl;
-  dmuu = refl;
-  ddiv = refl;
-  fmul = refl;
-  fdiv = refl;
-  refused = refl;
-  refused-a = refl;
+  rows = refl;
   third = refl;
   third-nearest = refl;
   product-nearest = refl;
   third-words = (refl, refl);
-  usage = (refl, refl, refl, refl, refl, refl);
+  usage = (refl, refl);
 }
 
 -- ---- the examples, computed from the definitions

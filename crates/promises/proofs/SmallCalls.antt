@@ -6,7 +6,7 @@ use mathlib.Core.List.{List, [], _∷_, _++_}
 use Prim.Native.Nat.{ℕ, _+_, _*_, _-_, _≤_, _<_}
 use native.Mathlib.Omega.{arith}
 use borrow.Author.Tests.{lt-leb, eq-eqb, ne-eqb, eqb-true, eqb-false}
-use lib.Dec.{eqb, leb, lit≤}
+use lib.Dec.{eqb, leb}
 use lib.ListN.{length, take, getD, length-append}
 use lib.Seq.{take-at, take-append-le, getD-append-add}
 use Rattle.terms.specs.declared.Mode.{Mode}
@@ -26,7 +26,7 @@ use Rattle.state_bytes.specs.Bytes.{isState, stateOf, memoryIn, cardIn, flagOf,
 use Rattle.record_files.proofs.Tests.{either-eq}
 use Rattle.state_bytes.proofs.States.{short-memory, long-memory}
 use Rattle.state_bytes.proofs.Cards.{flag-back, laid-is}
-use Rattle.record_runs.specs.declared.head.EventKind.{EventKind}
+use Rattle.terms.specs.declared.EventKind.{EventKind}
 use Rattle.state_bytes.specs.Calls.{Signal, settingsOf, signalBy, unsent, signalUnder, signalOf, answerToKind, answeredBy}
 use Rattle.pundaliket.specs.Calls.{sentOf}
 use Rattle.state_bytes.proofs.Calling.{event-chosen}
@@ -34,8 +34,8 @@ use Rattle.promises.proofs.Measures.{theirs-state, no-state-is}
 use Rattle.promises.specs.Given.{Given, Chosen, settingsIn, eventCall}
 use Rattle.promises.specs.Host.{number, outward, inward}
 use Rattle.promises.specs.Remembered.{Remembers}
-use Rattle.promises.specs.SmallCalls.{signalled, Tail, none as no-tail, two, Parts, EventCallUnder, EventCall, Converts, ConversionCalls}
-use Rattle.promises.proofs.Fronts.{none}
+use Rattle.promises.specs.SmallCalls.{signalled, Tail, none as no-tail, two, Parts, EventCallUnder, EventCall, ConversionCall, ConversionCalls}
+use Rattle.promises.proofs.Fronts.{unnamed}
 use Rattle.promises.proofs.Kept.{good-states}
 
 -- ---- turned away
@@ -44,18 +44,7 @@ bad-state on state kind byte h = rw h
 
 bad-kind : (on : Settings) (state : List ℕ) (kind byte : ℕ) → isState state ≡ true → (kind ≡ 0) ⊎ (8 < kind) → signalUnder on state kind byte ≡ signalled 1280
     state
-bad-kind on state kind byte g h =
-    rw (
-      g,
-      ne-eqb kind 1 (none kind h 1 (lit≤ tt) (lit≤ tt)),
-      ne-eqb kind 2 (none kind h 2 (lit≤ tt) (lit≤ tt)),
-      ne-eqb kind 3 (none kind h 3 (lit≤ tt) (lit≤ tt)),
-      ne-eqb kind 4 (none kind h 4 (lit≤ tt) (lit≤ tt)),
-      ne-eqb kind 5 (none kind h 5 (lit≤ tt) (lit≤ tt)),
-      ne-eqb kind 6 (none kind h 6 (lit≤ tt) (lit≤ tt)),
-      ne-eqb kind 7 (none kind h 7 (lit≤ tt) (lit≤ tt)),
-      ne-eqb kind 8 (none kind h 8 (lit≤ tt) (lit≤ tt)),
-    )
+bad-kind on state kind byte g h = rw (g, unnamed kind h)
 
 -- neither a push nor a command
 same-byte : (c : Card) (byte other kind : ℕ) → (kind ≡ 1 → ⊥) → (kind ≡ 3 → ⊥) → answerToKind c kind byte ≡ answerToKind c kind other
@@ -293,7 +282,7 @@ event-call = event-under
 
 -- ---- conversions
 module _ (reply : Reply) where
-  converts : Converts reply
+  converts : ConversionCall reply
   unfolding sentOf
   converts = record {
     other-length = λ out h. rw (ne-eqb (length out) 4 h);

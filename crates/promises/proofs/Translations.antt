@@ -36,7 +36,7 @@ use Rattle.formula.proofs.Texts.{read-is, is-read, one-tree}
 use Rattle.formula.proofs.Translating.{letters-wrong, text-empty, text-long, text-fits}
 use Rattle.formula.proofs.Sizes.{file-most, replies-few, file-bytes}
 use Rattle.promises.proofs.FormulaLeaves.{leaves}
-use Rattle.promises.proofs.FormulaRuns.{Left, evaluates}
+use Rattle.promises.proofs.FormulaRuns.{AfterFile, evaluates}
 use Rattle.pundaliket.specs.FormulaCall.{Wrote, wroteBy, formulaCall}
 use Rattle.promises.proofs.Measures.{ours-rest, ours-word, ours-state, theirs-state}
 use Rattle.promises.specs.Given.{Given, Chosen, settingsIn, runCall}
@@ -206,7 +206,7 @@ file-is text letters file f T = ap fileIn (is-translated text letters file f T) 
 
 record-run : (on : Settings) (s : State) (m : Memory) (text letters file : List ℕ) (f : Formula) → Takes text letters (length file) f → Bytes letters
     → length (s .stack) ≡ 16 → AtRest s
-    → Left on s m (fileOf letters f) (repliesTo f) (evaluated (on .rule) letters f)
+    → AfterFile on s m (fileOf letters f) (repliesTo f) (evaluated (on .rule) letters f)
 record-run on s m text letters file f T B six R = evaluates on letters f s m (leaves letters (T .stated .eight-words) B (T .stated .is-text .inside)
     (T .proper)) (T .need) six R
 

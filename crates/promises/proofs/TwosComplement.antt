@@ -8,7 +8,7 @@ use native.Mathlib.Omega.{arith}
 use borrow.Author.Tests.{lt-ltb, le-ltb, lt-leb, le-leb}
 use lib.Dec.{lit<, lit≤}
 use lib.IntN.{pos, subℕ}
-use Rattle.whole.proofs.Differences.{either, same, neg-pos}
+use Rattle.numbers.proofs.Differences.{either, same, neg-pos}
 use Rattle.terms.specs.declared.Width.{Width}
 use Rattle.terms.specs.declared.Width.the-variants.{Single, Double}
 use Rattle.fixed.specs.Parts.{Words}

@@ -47,7 +47,7 @@ use Rattle.state_bytes.specs.Bytes.{stateOf, cardIn, stateBytesOf, memoryBytesO
 use Rattle.state_bytes.proofs.Cards.{behind, laid-is, laid-at, card-returns, card-ready}
 use Rattle.state_bytes.specs.Calls.{joinedOf}
 use Rattle.promises.proofs.Measures.{theirs-stack, ours-stack, theirs-rest, ours-rest, theirs-state}
-use Rattle.promises.specs.Chains.{given}
+use Rattle.promises.specs.Chains.{commandEvent}
 use Rattle.promises.specs.Given.{Given, Chosen, settingsIn}
 use Rattle.promises.specs.Cores.{Core, Meets, onBus, driven, returned, answersOf, Sendable, allZero}
 use Rattle.promises.specs.Undo.{Shuffle, POPS, POPD, POPF, XCHS, XCHD, XCHF, codeOf, commandOf, undoOne, undo, eightPops, fourPopd, fourPopf, shuffled}
@@ -56,14 +56,18 @@ use Rattle.promises.proofs.Chains.{coded, coded-is}
 use Rattle.promises.proofs.Cores.{code-sendable, bus-told, cores}
 
 -- ---- the rule
+-- what holds of each holds of all
+each : (P : Shuffle → Type 0) → P POPS → P POPD → P POPF → P XCHS → P XCHD → P XCHF → (k : Shuffle) → P k
+each P a b c d e f POPS = a
+each P a b c d e f POPD = b
+each P a b c d e f POPF = c
+each P a b c d e f XCHS = d
+each P a b c d e f XCHD = e
+each P a b c d e f XCHF = f
+
 pub six-codes : SixCodes
 unfolding decoded
-six-codes POPS = refl
-six-codes POPD = refl
-six-codes POPF = refl
-six-codes XCHS = refl
-six-codes XCHD = refl
-six-codes XCHF = refl
+six-codes = each (λ k. decoded (codeOf k) ≡ Known (commandOf k)) refl refl refl refl refl refl
 
 undo-joined : (ks ls : List Shuffle) → undo (ks ++ ls) ≡ undo ls ++ undo ks
 undo-joined [] ls = sym (append-nil (undo ls))
@@ -72,21 +76,13 @@ undo-joined (k ∷ ks) ls = ap (λ (x : List Shuffle). x ++ undoOne k) (undo-joi
 -- ---- one command
 -- its code is below 128 and stands for it
 short-code : (k : Shuffle) → (codeOf k < 128) × (decoded (codeOf k % 128) ≡ Known (commandOf k))
-short-code POPS = (lit< tt, six-codes POPS)
-short-code POPD = (lit< tt, six-codes POPD)
-short-code POPF = (lit< tt, six-codes POPF)
-short-code XCHS = (lit< tt, six-codes XCHS)
-short-code XCHD = (lit< tt, six-codes XCHD)
-short-code XCHF = (lit< tt, six-codes XCHF)
+short-code =
+    each (λ k. (codeOf k < 128) × (decoded (codeOf k % 128) ≡ Known (commandOf k))) (lit< tt, six-codes POPS) (lit< tt, six-codes POPD)
+    (lit< tt, six-codes POPF) (lit< tt, six-codes XCHS) (lit< tt, six-codes XCHD) (lit< tt, six-codes XCHF)
 
 -- what holds of POP and XCH at each width holds of the six
 of-six : (P : Command → Type 0) → ((w : Width) → P (Pop w)) → ((w : Width) → P (Xch w)) → (k : Shuffle) → P (commandOf k)
-of-six P pop xch POPS = pop Single
-of-six P pop xch POPD = pop Double
-of-six P pop xch POPF = pop Double
-of-six P pop xch XCHS = xch Single
-of-six P pop xch XCHD = xch Double
-of-six P pop xch XCHF = xch Double
+of-six P pop xch = each (λ k. P (commandOf k)) (pop Single) (pop Double) (pop Double) (xch Single) (xch Double) (xch Double)
 
 any-operands : (k : Shuffle) (l : List ℕ) → properOperands (commandOf k) l ≡ true
 any-operands k l = of-six (λ (c : Command). properOperands c l ≡ true) (λ w. refl) (λ w. refl) k
@@ -114,7 +110,7 @@ module _ (on : Settings) where
   abbrev after : Shuffle → Bool → State → State
   after k b s = settled s (sr (coded b (codeOf k))) (outcomeOf (on .rule) (commandOf k) (s .stack))
 
-  obeyed : (k : Shuffle) (b : Bool) (s : State) → AtRest s → answerTo on s (given b (codeOf k)) ≡ done 0 (after k b s)
+  obeyed : (k : Shuffle) (b : Bool) (s : State) → AtRest s → answerTo on s (commandEvent b (codeOf k)) ≡ done 0 (after k b s)
   obeyed k b s R = accepts (on .rule) s (coded b (codeOf k)) (commandOf k) (at-rest-lt R) (R .whole) (coded-is b (codeOf k) (short-code k .1))
       (any-operands k (s .stack))
 
@@ -192,23 +188,23 @@ module _ (on : Settings) where
   stay : (ks : List Shuffle) → ((l : List ℕ) → leftBy ks (elems l 0 16) ≡ elems l 0 16) → Stays ks
   stay ks h l S = spelled (λ (x : List ℕ). leftBy ks x ≡ x) l (S .sixteen) (h l)
 
-  pops-undone : Stays (POPS ∷ undoOne POPS)
-  pops-undone = stay (POPS ∷ undoOne POPS) (λ l. refl)
+  record OneUndone : Type 0 where
+    pops : Stays (POPS ∷ undoOne POPS)
+    popd : Stays (POPD ∷ undoOne POPD)
+    popf : Stays (POPF ∷ undoOne POPF)
+    xchs : Stays (XCHS ∷ undoOne XCHS)
+    xchd : Stays (XCHD ∷ undoOne XCHD)
+    xchf : Stays (XCHF ∷ undoOne XCHF)
 
-  popd-undone : Stays (POPD ∷ undoOne POPD)
-  popd-undone = stay (POPD ∷ undoOne POPD) (λ l. refl)
-
-  popf-undone : Stays (POPF ∷ undoOne POPF)
-  popf-undone = stay (POPF ∷ undoOne POPF) (λ l. refl)
-
-  xchs-undone : Stays (XCHS ∷ undoOne XCHS)
-  xchs-undone = stay (XCHS ∷ undoOne XCHS) (λ l. refl)
-
-  xchd-undone : Stays (XCHD ∷ undoOne XCHD)
-  xchd-undone = stay (XCHD ∷ undoOne XCHD) (λ l. refl)
-
-  xchf-undone : Stays (XCHF ∷ undoOne XCHF)
-  xchf-undone = stay (XCHF ∷ undoOne XCHF) (λ l. refl)
+  each-undone : OneUndone
+  each-undone = record {
+    pops = stay (POPS ∷ undoOne POPS) (λ l. refl);
+    popd = stay (POPD ∷ undoOne POPD) (λ l. refl);
+    popf = stay (POPF ∷ undoOne POPF) (λ l. refl);
+    xchs = stay (XCHS ∷ undoOne XCHS) (λ l. refl);
+    xchd = stay (XCHD ∷ undoOne XCHD) (λ l. refl);
+    xchf = stay (XCHF ∷ undoOne XCHF) (λ l. refl);
+  }
 
   eight-stay : Stays eightPops
   eight-stay = stay eightPops (λ l. refl)
@@ -220,12 +216,8 @@ module _ (on : Settings) where
   four-float-stay = stay fourPopf (λ l. refl)
 
   one-undone : (k : Shuffle) → Stays (k ∷ undoOne k)
-  one-undone POPS = pops-undone
-  one-undone POPD = popd-undone
-  one-undone POPF = popf-undone
-  one-undone XCHS = xchs-undone
-  one-undone XCHD = xchd-undone
-  one-undone XCHF = xchf-undone
+  one-undone =
+      let u = each-undone in each (λ k. Stays (k ∷ undoOne k)) (u .pops) (u .popd) (u .popf) (u .xchs) (u .xchd) (u .xchf)
 
   list-undone : (ks : List Shuffle) → Stays (ks ++ undo ks)
   list-undone [] = λ l S. refl
@@ -239,10 +231,10 @@ shuffle-sendable [] bit = tt
 shuffle-sendable (k ∷ ks) bit = (code-sendable (bit 0) (codeOf k) (short-code k .0), shuffle-sendable ks (λ (n : ℕ). bit (suc n)))
 
 -- the card after a command: its chip is at rest, and its memory what it was
-card-rests : (x : Card) (k : Shuffle) (b : Bool) → AtRest (x .chip) → AtRest ((eventIn x (Chip (given b (codeOf k)))) .card .chip)
+card-rests : (x : Card) (k : Shuffle) (b : Bool) → AtRest (x .chip) → AtRest ((eventIn x (Chip (commandEvent b (codeOf k)))) .card .chip)
 card-rests x k b R = subst (λ (a : Answer). AtRest (a .state)) (sym (obeyed (x .on) k b (x .chip) R)) (rests (x .on) k b (x .chip) R)
 
-memory-stays : (x : Card) (k : Shuffle) (b : Bool) → AtRest (x .chip) → (eventIn x (Chip (given b (codeOf k)))) .card .memory ≡ x .memory
+memory-stays : (x : Card) (k : Shuffle) (b : Bool) → AtRest (x .chip) → (eventIn x (Chip (commandEvent b (codeOf k)))) .card .memory ≡ x .memory
 memory-stays x k b R =
     ap (keptAfter (x .memory) (CommandEvent (coded b (codeOf k)))) (obeyed (x .on) k b (x .chip) R)
     ∙ sym (none-left (x .memory) (coded b (codeOf k)) (statusAfter (x .on) k (x .chip .stack)) (clear (x .on) k (x .chip .stack) .1))
@@ -250,13 +242,13 @@ memory-stays x k b R =
 memory-kept : (ks : List Shuffle) (bit : ℕ → Bool) (x : Card) → AtRest (x .chip) → (afterAll x (onBus (shuffled bit ks))) .memory ≡ x .memory
 memory-kept [] bit x R = refl
 memory-kept (k ∷ ks) bit x R =
-    memory-kept ks (λ (n : ℕ). bit (suc n)) ((eventIn x (Chip (given (bit 0) (codeOf k)))) .card) (card-rests x k (bit 0) R) ∙ memory-stays x k (bit 0) R
+    memory-kept ks (λ (n : ℕ). bit (suc n)) ((eventIn x (Chip (commandEvent (bit 0) (codeOf k)))) .card) (card-rests x k (bit 0) R) ∙ memory-stays x k (bit 0) R
 
 zero-answers : (ks : List Shuffle) (bit : ℕ → Bool) (x : Card) → AtRest (x .chip) → allZero (answersOf x (onBus (shuffled bit ks))) ≡ true
 zero-answers [] bit x R = refl
 zero-answers (k ∷ ks) bit x R =
     ap₂ _&&_ (ap (λ (a : Answer). eqb (joinedOf (numberOf (a .refusal)) (a .byte)) 0) (obeyed (x .on) k (bit 0) (x .chip) R))
-    (zero-answers ks (λ (n : ℕ). bit (suc n)) ((eventIn x (Chip (given (bit 0) (codeOf k)))) .card) (card-rests x k (bit 0) R))
+    (zero-answers ks (λ (n : ℕ). bit (suc n)) ((eventIn x (Chip (commandEvent (bit 0) (codeOf k)))) .card) (card-rests x k (bit 0) R))
 
 -- where the bytes of a card lie
 module _ (x : Card) (sixteen : length (x .chip .stack) ≡ 16) (n : ℕ) where

@@ -8,11 +8,11 @@ use lib.ListN.{getD}
 use lib.Ieee.{size, ofBits, toBits}
 use Rattle.stack.specs.Stack.{Bytes, zeros}
 use Rattle.host_floats.specs.Double.{outwardOf, inwardOf}
-use Rattle.host_buffers.specs.Buffers.{Turn, wordsTurn, floatsTurn}
+use Rattle.host_floats.specs.Buffers.{Turn, wordsTurn, floatsTurn}
 use Rattle.promises.specs.Doubles.{turned}
-use Rattle.promises.specs.WrongConverters.{Converter, Converts, WrongConverter, never-words, never-floats, same-words, same-floats, back-words}
+use Rattle.promises.specs.WrongConverters.{Converter, KeepsContracts, WrongConverter, never-words, never-floats, same-words, same-floats, back-words}
 use Rattle.promises.specs.WrongConverters.{back-floats, number-words, number-floats, first-word, first-float, NoWrongConverter}
-use Rattle.promises.proofs.WrongCores.{isBytes, bytes-in}
+use Rattle.promises.proofs.WrongCores.{literal}
 
 -- ---- the inputs: 1 as a word and as an f64, a word that is not proper, an f64 halfway above 1
 abbrev one : List ℕ
@@ -27,23 +27,8 @@ improper = 0x01 ∷ 0x00 ∷ 0x00 ∷ 0x00 ∷ []
 abbrev halfway : List ℕ
 halfway = 0x00 ∷ 0x00 ∷ 0x00 ∷ 0x10 ∷ 0x00 ∷ 0x00 ∷ 0xf0 ∷ 0x3f ∷ []
 
-one-bytes : Bytes one
-one-bytes = bytes-in one (unfold isBytes in refl)
-
-float-bytes : Bytes oneFloat
-float-bytes = bytes-in oneFloat (unfold isBytes in refl)
-
-improper-bytes : Bytes improper
-improper-bytes = bytes-in improper (unfold isBytes in refl)
-
-halfway-bytes : Bytes halfway
-halfway-bytes = bytes-in halfway (unfold isBytes in refl)
-
-room : Bytes (zeros 16)
-room = bytes-in (zeros 16) (unfold isBytes in refl)
-
 -- ---- what the contracts say of them
-record Tells : Type 0 where
+record ConverterAnswers : Type 0 where
   no-words : wordsTurn [] [] ≡ turned 0 0 []
   no-floats : floatsTurn 0 [] [] ≡ turned 0 0 []
   part-word : wordsTurn (0x00 ∷ []) [] ≡ turned 18 0 []
@@ -55,7 +40,7 @@ record Tells : Type 0 where
   float : floatsTurn 0 oneFloat (zeros 16) ≡ turned 0 0 (one ++ zeros 12)
   floats : floatsTurn 0 (oneFloat ++ oneFloat) (zeros 16) ≡ turned 0 0 (one ++ one ++ zeros 8)
 
-tells : Tells
+tells : ConverterAnswers
 unfolding outwardOf inwardOf wordsTurn floatsTurn size ofBits toBits
 tells = record {
   no-words = refl;
@@ -71,7 +56,7 @@ tells = record {
 }
 
 -- ---- what a converter that keeps them does
-module _ (c : Converter) (k : Converts c) where
+module _ (c : Converter) (k : KeepsContracts c) where
   does-words : {t : Turn} (words out : List ℕ) → Bytes words → Bytes out → wordsTurn words out ≡ t → c .words-to-f64 words out ≡ t
   does-words words out a b e = let h = k .words words out a b in (λ i. record { result = h .result-is i; number = h .number-is i; out = h .out-is i }) ∙ e
 
@@ -101,29 +86,33 @@ module _ (c : Converter) (k : Converts c) where
       let b = sym (f 0 (0x00 ∷ []) [] (lit< tt) (lit< tt, tt) tt) ∙ result (does-floats (0x00 ∷ []) [] (lit< tt, tt) tt (tells .part-float)) in
       omega arith
   no-wrong (back-words f) =
-      let a = ap (λ (l : List ℕ). getD l 6 0) (sym (f one (zeros 16) one-bytes room)) ∙ left 6 (does-words one (zeros 16) one-bytes room (tells .word)) in
+      let a = ap (λ (l : List ℕ). getD l 6 0) (sym (f one (zeros 16) (literal one refl) (literal (zeros 16) refl))) ∙ left 6
+      (does-words one (zeros 16) (literal one refl) (literal (zeros 16) refl) (tells .word)) in
       omega arith
   no-wrong (back-floats f) =
-      let a = ap (λ (l : List ℕ). getD l 2 0) (sym (f 0 oneFloat (zeros 16) (lit< tt) float-bytes room))
-      ∙ left 2 (does-floats oneFloat (zeros 16) float-bytes room (tells .float)) in
+      let a = ap (λ (l : List ℕ). getD l 2 0) (sym (f 0 oneFloat (zeros 16) (lit< tt) (literal oneFloat refl) (literal (zeros 16) refl)))
+      ∙ left 2 (does-floats oneFloat (zeros 16) (literal oneFloat refl) (literal (zeros 16) refl) (tells .float)) in
       omega arith
   no-wrong (number-words n f) =
       let a = sym (f [] [] tt tt) ∙ number (does-words [] [] tt tt (tells .no-words)) in
-      let b = sym (f improper (zeros 16) improper-bytes room) ∙ number (does-words improper (zeros 16) improper-bytes room (tells .bad-word)) in
+      let b = sym (f improper (zeros 16) (literal improper refl) (literal (zeros 16) refl)) ∙ number
+      (does-words improper (zeros 16) (literal improper refl) (literal (zeros 16) refl) (tells .bad-word)) in
       omega arith
   no-wrong (number-floats n f) =
       let a = sym (f 0 [] [] (lit< tt) tt tt) ∙ number (does-floats [] [] tt tt (tells .no-floats)) in
-      let b = sym (f 0 halfway (zeros 16) (lit< tt) halfway-bytes room) ∙ number (does-floats halfway (zeros 16) halfway-bytes room (tells .rounded)) in
+      let b = sym (f 0 halfway (zeros 16) (lit< tt) (literal halfway refl) (literal (zeros 16) refl)) ∙ number
+      (does-floats halfway (zeros 16) (literal halfway refl) (literal (zeros 16) refl) (tells .rounded)) in
       omega arith
   no-wrong (first-word f) =
-      let a = left 14 (does-words (one ++ one) (zeros 16) (bytes-in (one ++ one) (unfold isBytes in refl)) room (tells .words)) in
-      let b = left 14 (does-words one (zeros 16) one-bytes room (tells .word)) in
-      let e = ap (λ (l : List ℕ). getD l 14 0) (f one one (zeros 16) refl one-bytes one-bytes room) in
+      let a = left 14 (does-words (one ++ one) (zeros 16) (literal (one ++ one) refl) (literal (zeros 16) refl) (tells .words)) in
+      let b = left 14 (does-words one (zeros 16) (literal one refl) (literal (zeros 16) refl) (tells .word)) in
+      let e = ap (λ (l : List ℕ). getD l 14 0) (f one one (zeros 16) refl (literal one refl) (literal one refl) (literal (zeros 16) refl)) in
       omega arith
   no-wrong (first-float f) =
-      let a = left 6 (does-floats (oneFloat ++ oneFloat) (zeros 16) (bytes-in (oneFloat ++ oneFloat) (unfold isBytes in refl)) room (tells .floats)) in
-      let b = left 6 (does-floats oneFloat (zeros 16) float-bytes room (tells .float)) in
-      let e = ap (λ (l : List ℕ). getD l 6 0) (f 0 oneFloat oneFloat (zeros 16) (lit< tt) refl float-bytes float-bytes room) in
+      let a = left 6 (does-floats (oneFloat ++ oneFloat) (zeros 16) (literal (oneFloat ++ oneFloat) refl) (literal (zeros 16) refl) (tells .floats)) in
+      let b = left 6 (does-floats oneFloat (zeros 16) (literal oneFloat refl) (literal (zeros 16) refl) (tells .float)) in
+      let e = ap (λ (l : List ℕ). getD l 6 0) (f 0 oneFloat oneFloat (zeros 16) (lit< tt) refl (literal oneFloat refl) (literal oneFloat refl)
+      (literal (zeros 16) refl)) in
       omega arith
 
 pub no-wrong-converter : NoWrongConverter

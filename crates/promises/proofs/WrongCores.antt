@@ -8,7 +8,7 @@ use native.Mathlib.Omega.{arith}
 use borrow.Author.Tests.{ltb-true}
 use lib.Dec.{ltb, lit<, lit≤}
 use lib.ListN.{length, take, getD}
-use Rattle.little.specs.Little.{le4}
+use Rattle.numbers.specs.Little.{le4}
 use Rattle.float.specs.Convert.{chsf}
 use Rattle.stack.specs.Stack.{Bytes, zeros}
 use Rattle.chip.specs.Step.{pushOf, resetOf}
@@ -31,101 +31,81 @@ use Rattle.promises.specs.Cores.{Core, Meets, driven, Begins, busRun}
 use Rattle.promises.specs.WrongCores.{No, RefusesEverything, never-run, never-event, never-float, never-word, SingleReply, same-run, same-event}
 use Rattle.promises.specs.WrongCores.{same-float, same-word, SameReplies, DoesNothing, back-state, back-replies, back-report, back-event, back-float}
 use Rattle.promises.specs.WrongCores.{back-word, FirstRecordOnly, first-state, first-replies, InventedCounts, wrong-taken, wrong-written, wrong-away}
-use Rattle.promises.specs.WrongCores.{ZeroChains, fresh, nine, first, second, fresher, Tells, WrongCores}
+use Rattle.promises.specs.WrongCores.{ZeroChains, resetBytes, nine, firstPush, secondPush, resetRecord, CoreAnswers, WrongCores}
 use Rattle.promises.proofs.Records.{counts-exact}
 use Rattle.promises.proofs.Host.{float-comes-back}
 use Rattle.promises.proofs.Cores.{cores}
 
 -- ---- the inputs are bytes
-unfoldable pub isBytes : List ℕ → Bool
-isBytes [] = true
-isBytes (b ∷ l) = ltb b 256 && isBytes l
+abbrev pub areBytes : List ℕ → Bool
+areBytes [] = true
+areBytes (b ∷ l) = ltb b 256 && areBytes l
 
-pub bytes-in : (l : List ℕ) → isBytes l ≡ true → Bytes l
-unfolding isBytes
-bytes-in [] h = tt
-bytes-in (b ∷ l) h = let p = both-of (ltb b 256) (isBytes l) h in (ltb-true b 256 (p .0), bytes-in l (p .1))
-
-fresh-bytes : Bytes fresh
-fresh-bytes = bytes-in fresh (unfold isBytes in refl)
-
-nine-bytes : Bytes nine
-nine-bytes = bytes-in nine (unfold isBytes in refl)
-
-four-bytes : Bytes (zeros 4)
-four-bytes = bytes-in (zeros 4) (unfold isBytes in refl)
-
-ten-bytes : Bytes (zeros 10)
-ten-bytes = bytes-in (zeros 10) (unfold isBytes in refl)
-
-first-bytes : Bytes first
-first-bytes = bytes-in first (unfold isBytes in refl)
-
-fresher-bytes : Bytes fresher
-fresher-bytes = bytes-in fresher (unfold isBytes in refl)
-
-second-bytes : Bytes second
-second-bytes = bytes-in second (unfold isBytes in refl)
-
-two-bytes : Bytes (first ++ second)
-two-bytes = bytes-in (first ++ second) (unfold isBytes in refl)
+pub literal : (l : List ℕ) → areBytes l ≡ true → Bytes l
+literal [] h = tt
+literal (b ∷ l) h = let p = both-of (ltb b 256) (areBytes l) h in (ltb-true b 256 (p .0), literal l (p .1))
 
 -- a run on 1 from the bytes of a state after reset
-begins : Begins fresh 0x01800000
+begins : Begins resetBytes 0x01800000
 unfolding isState
-begins = record { bytes = fresh-bytes; good = ours-state refl; whole = refl; proper = record { fits = lit< tt; is-proper = refl } }
+begins = record { bytes = literal resetBytes refl; good = ours-state refl; whole = refl; proper = record { fits = lit< tt; is-proper = refl } }
 
 module _ (g : Given) (C : Chosen g) (c : Core) (M : Meets g c) where
   -- the sign of 1 changed
-  chain-told : take 4 (driven c fresh (busRun 0x01800000 (λ (n : ℕ). false) (Change ∷ []))) ≡ 0x81 ∷ 0x80 ∷ 0 ∷ 0 ∷ []
+  chain-told : take 4 (driven c resetBytes (busRun 0x01800000 (λ (n : ℕ). false) (Change ∷ []))) ≡ 0x81 ∷ 0x80 ∷ 0 ∷ 0 ∷ []
   unfolding chsf
-  chain-told = cores g C c M .chain-bytes fresh 0x01800000 (λ (n : ℕ). false) (Change ∷ []) begins (tt, tt)
+  chain-told = cores g C c M .chain-bytes resetBytes 0x01800000 (λ (n : ℕ). false) (Change ∷ []) begins (tt, tt)
 
   -- 1.0 as an f32
   float-told : (c .word-to-f32 0x01800000 (zeros 4)) .out ≡ 0 ∷ 0 ∷ 0x80 ∷ 0x3f ∷ []
   unfolding sentOf hostOf takenOf
-  float-told = M .word-to-f32 0x01800000 (zeros 4) (lit< tt) four-bytes .out-is ∙ ap (λ (n : ℕ). le4 n) (float-comes-back 0x3f800000 (lit< tt) refl .bits-are)
+  float-told = M .word-to-f32 0x01800000 (zeros 4) (lit< tt) (literal (zeros 4) refl) .out-is ∙ ap (λ (n : ℕ). le4 n)
+      (float-comes-back 0x3f800000 (lit< tt) refl .bits-are)
 
 -- ---- what the definitions give
 module _ (g : Given) (C : Chosen g) (c : Core) (M : Meets g c) where
   -- a good call of the run, and of the event, on the bytes after a reset
   run-told : (input replies : List ℕ) → Bytes input → Bytes replies → length input ≤ 12288
-      → Calls (ranOf 19 (runOf (cardIn (settingsIn g) fresh) input (length replies)) replies) ((c .run fresh input replies nine) .result)
-      ((c .run fresh input replies nine) .state)
-      ((c .run fresh input replies nine) .replies) ((c .run fresh input replies nine) .report)
+      → Calls (ranOf 19 (runOf (cardIn (settingsIn g) resetBytes) input (length replies)) replies) ((c .run resetBytes input replies nine) .result)
+      ((c .run resetBytes input replies nine) .state)
+      ((c .run resetBytes input replies nine) .replies) ((c .run resetBytes input replies nine) .report)
   run-told input replies i w l =
-      subst (λ (x : Called). Calls x ((c .run fresh input replies nine) .result) ((c .run fresh input replies nine) .state) ((c .run fresh input replies nine)
-      .replies) ((c .run fresh input replies nine) .report))
-      (good (g .mode) (g .rule) fresh input replies nine refl (C .mode) (C .rule) (theirs-state (begins .good)) l) (M .run fresh input replies nine fresh-bytes
-      i w nine-bytes)
+      subst (λ (x : Called). Calls x ((c .run resetBytes input replies nine) .result) ((c .run resetBytes input replies nine) .state)
+      ((c .run resetBytes input replies nine)
+      .replies) ((c .run resetBytes input replies nine) .report))
+      (good (g .mode) (g .rule) resetBytes input replies nine refl (C .mode) (C .rule) (theirs-state (begins .good)) l)
+      (M .run resetBytes input replies nine (literal resetBytes refl)
+      i w (literal nine refl))
 
-  event-told : (kind byte : ℕ) → kind < 2 ^ 32 → byte < 256 → Signals (signalUnder (settingsIn g) fresh kind byte) ((c .event fresh kind byte) .result)
-      ((c .event fresh kind byte) .state)
+  event-told : (kind byte : ℕ) → kind < 2 ^ 32 → byte < 256 → Signals (signalUnder (settingsIn g) resetBytes kind byte)
+      ((c .event resetBytes kind byte) .result)
+      ((c .event resetBytes kind byte) .state)
   event-told kind byte k b =
-      subst (λ (x : Signal). Signals x ((c .event fresh kind byte) .result) ((c .event fresh kind byte) .state)) (event-chosen (g .mode) (g .rule) fresh kind
-      byte (C .mode) (C .rule)) (M .event fresh kind byte fresh-bytes k b)
+      subst (λ (x : Signal). Signals x ((c .event resetBytes kind byte) .result) ((c .event resetBytes kind byte) .state))
+      (event-chosen (g .mode) (g .rule) resetBytes kind
+      byte (C .mode) (C .rule)) (M .event resetBytes kind byte (literal resetBytes refl) k b)
 
-tells : (g : Given) → Chosen g → (c : Core) → Meets g c → Tells c
+tells : (g : Given) → Chosen g → (c : Core) → Meets g c → CoreAnswers c
 unfolding callOf sentOf isState runBy run turnUnder frameUnder hostOf takenOf pushOf resetOf
 tells g C c M = record {
   run-0 = run-told g C c M [] [] tt tt (lit≤ tt) .result-is;
-  run-14 = M .run fresh [] [] [] fresh-bytes tt tt tt .result-is;
+  run-14 = M .run resetBytes [] [] [] (literal resetBytes refl) tt tt tt .result-is;
   event-0 = event-told g C c M 5 0 (lit< tt) (lit< tt) .result-is;
   event-5 = event-told g C c M 0 0 (lit< tt) (lit< tt) .result-is;
-  float-0 = M .word-to-f32 0 (zeros 4) (lit< tt) four-bytes .result-is;
-  float-4 = M .word-to-f32 1 (zeros 4) (lit< tt) four-bytes .result-is;
-  word-0 = M .f32-to-word 0 (zeros 4) (lit< tt) four-bytes .result-is;
-  word-10 = M .f32-to-word 0x7f800000 (zeros 4) (lit< tt) four-bytes .result-is;
-  one-state = run-told g C c M first (zeros 10) first-bytes ten-bytes (lit≤ tt) .state-is;
-  one-replies = run-told g C c M first (zeros 10) first-bytes ten-bytes (lit≤ tt) .replies-is;
-  one-report = run-told g C c M first (zeros 10) first-bytes ten-bytes (lit≤ tt) .report-is;
-  reset-replies = run-told g C c M fresher (zeros 10) fresher-bytes ten-bytes (lit≤ tt) .replies-is;
-  two-state = run-told g C c M (first ++ second) (zeros 10) two-bytes ten-bytes (lit≤ tt) .state-is;
-  two-replies = run-told g C c M (first ++ second) (zeros 10) two-bytes ten-bytes (lit≤ tt) .replies-is;
-  two-report = run-told g C c M (first ++ second) (zeros 10) two-bytes ten-bytes (lit≤ tt) .report-is;
+  float-0 = M .word-to-f32 0 (zeros 4) (lit< tt) (literal (zeros 4) refl) .result-is;
+  float-4 = M .word-to-f32 1 (zeros 4) (lit< tt) (literal (zeros 4) refl) .result-is;
+  word-0 = M .f32-to-word 0 (zeros 4) (lit< tt) (literal (zeros 4) refl) .result-is;
+  word-10 = M .f32-to-word 0x7f800000 (zeros 4) (lit< tt) (literal (zeros 4) refl) .result-is;
+  one-state = run-told g C c M firstPush (zeros 10) (literal firstPush refl) (literal (zeros 10) refl) (lit≤ tt) .state-is;
+  one-replies = run-told g C c M firstPush (zeros 10) (literal firstPush refl) (literal (zeros 10) refl) (lit≤ tt) .replies-is;
+  one-report = run-told g C c M firstPush (zeros 10) (literal firstPush refl) (literal (zeros 10) refl) (lit≤ tt) .report-is;
+  reset-replies = run-told g C c M resetRecord (zeros 10) (literal resetRecord refl) (literal (zeros 10) refl) (lit≤ tt) .replies-is;
+  two-state = run-told g C c M (firstPush ++ secondPush) (zeros 10) (literal (firstPush ++ secondPush) refl) (literal (zeros 10) refl) (lit≤ tt) .state-is;
+  two-replies = run-told g C c M (firstPush ++ secondPush) (zeros 10) (literal (firstPush ++ secondPush) refl) (literal (zeros 10) refl) (lit≤ tt) .replies-is;
+  two-report = run-told g C c M (firstPush ++ secondPush) (zeros 10) (literal (firstPush ++ secondPush) refl) (literal (zeros 10) refl) (lit≤ tt) .report-is;
   event-state = event-told g C c M 1 0x55 (lit< tt) (lit< tt) .state-is;
   float-out = float-told g C c M;
-  word-out = M .f32-to-word 0x3f800000 (zeros 4) (lit< tt) four-bytes .out-is;
+  word-out = M .f32-to-word 0x3f800000 (zeros 4) (lit< tt) (literal (zeros 4) refl) .out-is;
   chain = chain-told g C c M;
 }
 
@@ -135,10 +115,10 @@ apart x y i e a b n = n (sym a ∙ ap (λ (k : List ℕ). getD k i 0) e ∙ b)
 
 module _ (g : Given) (C : Chosen g) where
   refuses-everything : No g RefusesEverything
-  refuses-everything c M (never-run f) = f fresh [] [] nine fresh-bytes tt tt nine-bytes (tells g C c M .run-0)
-  refuses-everything c M (never-event f) = let e = tells g C c M .event-0 in f fresh 5 0 fresh-bytes (lit< tt) (lit< tt) (omega arith)
-  refuses-everything c M (never-float f) = f 0 (zeros 4) (lit< tt) four-bytes (tells g C c M .float-0)
-  refuses-everything c M (never-word f) = f 0 (zeros 4) (lit< tt) four-bytes (tells g C c M .word-0)
+  refuses-everything c M (never-run f) = f resetBytes [] [] nine (literal resetBytes refl) tt tt (literal nine refl) (tells g C c M .run-0)
+  refuses-everything c M (never-event f) = let e = tells g C c M .event-0 in f resetBytes 5 0 (literal resetBytes refl) (lit< tt) (lit< tt) (omega arith)
+  refuses-everything c M (never-float f) = f 0 (zeros 4) (lit< tt) (literal (zeros 4) refl) (tells g C c M .float-0)
+  refuses-everything c M (never-word f) = f 0 (zeros 4) (lit< tt) (literal (zeros 4) refl) (tells g C c M .word-0)
 
   -- two numbers that are both-of n are the same
   alike : (n x y : ℕ) {a b : ℕ} → a ≡ n → b ≡ n → a ≡ x → b ≡ y → x ≡ y
@@ -146,54 +126,65 @@ module _ (g : Given) (C : Chosen g) where
 
   single-reply : No g SingleReply
   single-reply c M (same-run n f) =
-      let e = alike n 0 14 (f fresh [] [] nine fresh-bytes tt tt nine-bytes) (f fresh [] [] [] fresh-bytes tt tt tt) (tells g C c M .run-0)
+      let e = alike n 0 14 (f resetBytes [] [] nine (literal resetBytes refl) tt tt (literal nine refl))
+      (f resetBytes [] [] [] (literal resetBytes refl) tt tt tt) (tells g C c M .run-0)
       (tells g C c M .run-14) in
       omega arith
   single-reply c M (same-event n f) =
-      let e = alike n 0 1280 (f fresh 5 0 fresh-bytes (lit< tt) (lit< tt)) (f fresh 0 0 fresh-bytes (lit< tt) (lit< tt)) (tells g C c M .event-0)
+      let e = alike n 0 1280 (f resetBytes 5 0 (literal resetBytes refl) (lit< tt) (lit< tt)) (f resetBytes 0 0 (literal resetBytes refl) (lit< tt) (lit< tt))
+      (tells g C c M .event-0)
       (tells g C c M .event-5) in
       omega arith
   single-reply c M (same-float n f) =
-      let e = alike n 0 4 (f 0 (zeros 4) (lit< tt) four-bytes) (f 1 (zeros 4) (lit< tt) four-bytes) (tells g C c M .float-0) (tells g C c M .float-4) in
+      let e = alike n 0 4 (f 0 (zeros 4) (lit< tt) (literal (zeros 4) refl)) (f 1 (zeros 4) (lit< tt) (literal (zeros 4) refl)) (tells g C c M .float-0)
+      (tells g C c M .float-4) in
       omega arith
   single-reply c M (same-word n f) =
-      let e = alike n 0 10 (f 0 (zeros 4) (lit< tt) four-bytes) (f 0x7f800000 (zeros 4) (lit< tt) four-bytes) (tells g C c M .word-0) (tells g C c M .word-10)
+      let e = alike n 0 10 (f 0 (zeros 4) (lit< tt) (literal (zeros 4) refl)) (f 0x7f800000 (zeros 4) (lit< tt) (literal (zeros 4) refl))
+      (tells g C c M .word-0) (tells g C c M .word-10)
       in
       omega arith
 
   does-nothing : No g DoesNothing
-  does-nothing c M (back-state f) = apart 0x55 0 0 (sym (tells g C c M .one-state) ∙ f fresh first (zeros 10) nine fresh-bytes first-bytes ten-bytes nine-bytes)
+  does-nothing c M (back-state f) = apart 0x55 0 0 (sym (tells g C c M .one-state) ∙ f resetBytes firstPush (zeros 10) nine (literal resetBytes refl)
+      (literal firstPush refl) (literal (zeros 10) refl) (literal nine refl))
       refl refl (λ e. omega (arith, e))
-  does-nothing c M (back-replies f) = apart 3 0 0 (sym (tells g C c M .one-replies) ∙ f fresh first (zeros 10) nine fresh-bytes first-bytes ten-bytes
-      nine-bytes) refl refl (λ e. omega (arith, e))
-  does-nothing c M (back-report f) = apart 5 0 1 (sym (tells g C c M .one-report) ∙ f fresh first (zeros 10) nine fresh-bytes first-bytes ten-bytes nine-bytes)
+  does-nothing c M (back-replies f) = apart 3 0 0 (sym (tells g C c M .one-replies) ∙ f resetBytes firstPush (zeros 10) nine (literal resetBytes refl)
+      (literal firstPush refl) (literal (zeros 10) refl)
+      (literal nine refl)) refl refl (λ e. omega (arith, e))
+  does-nothing c M (back-report f) = apart 5 0 1 (sym (tells g C c M .one-report) ∙ f resetBytes firstPush (zeros 10) nine (literal resetBytes refl)
+      (literal firstPush refl) (literal (zeros 10) refl) (literal nine refl))
       refl refl (λ e. omega (arith, e))
-  does-nothing c M (back-event f) = apart 0x55 0 0 (sym (tells g C c M .event-state) ∙ f fresh 1 0x55 fresh-bytes (lit< tt) (lit< tt)) refl refl
+  does-nothing c M (back-event f) = apart 0x55 0 0 (sym (tells g C c M .event-state) ∙ f resetBytes 1 0x55 (literal resetBytes refl) (lit< tt) (lit< tt))
+      refl refl
       (λ e. omega (arith, e))
-  does-nothing c M (back-float f) = apart 0x80 0 2 (sym (tells g C c M .float-out) ∙ f 0x01800000 (zeros 4) (lit< tt) four-bytes) refl refl
+  does-nothing c M (back-float f) = apart 0x80 0 2 (sym (tells g C c M .float-out) ∙ f 0x01800000 (zeros 4) (lit< tt) (literal (zeros 4) refl)) refl refl
       (λ e. omega (arith, e))
-  does-nothing c M (back-word f) = apart 0x80 0 2 (sym (tells g C c M .word-out) ∙ f 0x3f800000 (zeros 4) (lit< tt) four-bytes) refl refl
+  does-nothing c M (back-word f) = apart 0x80 0 2 (sym (tells g C c M .word-out) ∙ f 0x3f800000 (zeros 4) (lit< tt) (literal (zeros 4) refl)) refl refl
       (λ e. omega (arith, e))
 
   -- the first record is one
-  one-record : IsRecord first
+  one-record : IsRecord firstPush
   one-record = push (0x55 ∷ []) (lit≤ tt) (lit≤ tt) refl
 
   -- and so is the one that resets
-  reset-record : IsRecord fresher
+  reset-record : IsRecord resetRecord
   reset-record = reset refl
 
   same-replies : No g SameReplies
   same-replies c M f =
-      apart 129 133 2 (sym (tells g C c M .one-replies) ∙ f fresh first fresher (zeros 10) nine one-record reset-record fresh-bytes first-bytes fresher-bytes
-      ten-bytes nine-bytes ∙ tells g C c M .reset-replies) refl refl (λ e. omega (arith, e))
+      apart 129 133 2 (sym (tells g C c M .one-replies) ∙ f resetBytes firstPush resetRecord (zeros 10) nine one-record reset-record (literal resetBytes refl)
+      (literal firstPush refl) (literal resetRecord refl)
+      (literal (zeros 10) refl) (literal nine refl) ∙ tells g C c M .reset-replies) refl refl (λ e. omega (arith, e))
 
   first-record-only : No g FirstRecordOnly
   first-record-only c M (first-state f) =
-      apart 0xaa 0x55 0 (sym (tells g C c M .two-state) ∙ f fresh first second (zeros 10) nine one-record fresh-bytes first-bytes second-bytes ten-bytes
-      nine-bytes ∙ tells g C c M .one-state) refl refl (λ e. omega (arith, e))
+      apart 0xaa 0x55 0 (sym (tells g C c M .two-state) ∙ f resetBytes firstPush secondPush (zeros 10) nine one-record (literal resetBytes refl)
+      (literal firstPush refl) (literal secondPush refl) (literal (zeros 10) refl)
+      (literal nine refl) ∙ tells g C c M .one-state) refl refl (λ e. omega (arith, e))
   first-record-only c M (first-replies f) =
-      apart 3 0 5 (sym (tells g C c M .two-replies) ∙ f fresh first second (zeros 10) nine one-record fresh-bytes first-bytes second-bytes ten-bytes nine-bytes
+      apart 3 0 5 (sym (tells g C c M .two-replies) ∙ f resetBytes firstPush secondPush (zeros 10) nine one-record (literal resetBytes refl)
+      (literal firstPush refl) (literal secondPush refl) (literal (zeros 10) refl) (literal nine refl)
       ∙ tells g C c M .one-replies) refl refl (λ e. omega (arith, e))
 
   -- both-of counts are 0 where a call is turned away
@@ -220,7 +211,7 @@ module _ (g : Given) (C : Chosen g) where
       differs (ap (λ (x : List ℕ). countAt x 1) e ∙ z .0, ap (λ (x : List ℕ). countAt x 5) e ∙ z .1)
 
   zero-chains : No g ZeroChains
-  zero-chains c M f = apart 0x81 0 0 (sym (tells g C c M .chain) ∙ f fresh 0x01800000 (λ (n : ℕ). false) Change [] begins (tt, tt)) refl refl
+  zero-chains c M f = apart 0x81 0 0 (sym (tells g C c M .chain) ∙ f resetBytes 0x01800000 (λ (n : ℕ). false) Change [] begins (tt, tt)) refl refl
       (λ e. omega (arith, e))
 
 -- ---- the statement

@@ -16,7 +16,7 @@ use Rattle.promises.specs.Records.{joined, EachTaken}
 use Rattle.promises.specs.Chains.{Step, Add, Subtract, Multiply, Divide, TakeFrom, Change, Constants, reversing}
 use Rattle.promises.specs.Chains.{wordAfter}
 use Rattle.promises.specs.Cores.{Core, Meets, described, drivenQuietly, Begins, busRun, wordLeft}
-use Rattle.promises.specs.ErrorMemory.{eventsIn}
+use Rattle.promises.specs.ErrorMemory.{eventsOfRecords}
 use Rattle.promises.specs.PrintedText.{bytes}
 
 -- what is lent for records that carry a chain on a word: the events of the records, byte by byte, are the chain's; each
@@ -28,7 +28,7 @@ pub record Carries (g : Given) (state : List ℕ) (w : ℕ) (sr : ℕ → Bool) 
   pub nine : length report ≡ 9
   pub short : length (joined rs) ≤ 12288
   pub each : EachTaken (cardIn (settingsIn g) state) rs (length replies)
-  pub events-are : eventsIn rs ≡ busRun w sr ks
+  pub events-are : eventsOfRecords rs ≡ busRun w sr ks
 
 -- a reply to each record that says 0 and hands out nothing: its length, the record's kind with 128 added, the refusal
 abbrev pub allAnswered : List (List ℕ) → List ℕ

@@ -27,17 +27,17 @@ pub data Step : Type 0 where
   Change : Step
 
 -- a command with its bit 7, sr, set or clear
-abbrev pub given : Bool → ℕ → Event
-given sr code = Command (cond sr (code + 128) code)
+abbrev pub commandEvent : Bool → ℕ → Event
+commandEvent sr code = Command (cond sr (code + 128) code)
 
 -- FADD 10, FSUB 11, FMUL 12, FDIV 13, CHSF 15, XCHF 19; the commands of a step have the bits sr 0 and sr 1
 abbrev pub eventsOf : (ℕ → Bool) → Step → List Event
-eventsOf sr (Add c) = pushesOf 4 c ++ (given (sr 0) 0x10 ∷ [])
-eventsOf sr (Subtract c) = pushesOf 4 c ++ (given (sr 0) 0x11 ∷ [])
-eventsOf sr (Multiply c) = pushesOf 4 c ++ (given (sr 0) 0x12 ∷ [])
-eventsOf sr (Divide c) = pushesOf 4 c ++ (given (sr 0) 0x13 ∷ [])
-eventsOf sr (TakeFrom c) = pushesOf 4 c ++ (given (sr 0) 0x19 ∷ given (sr 1) 0x11 ∷ [])
-eventsOf sr Change = given (sr 0) 0x15 ∷ []
+eventsOf sr (Add c) = pushesOf 4 c ++ (commandEvent (sr 0) 0x10 ∷ [])
+eventsOf sr (Subtract c) = pushesOf 4 c ++ (commandEvent (sr 0) 0x11 ∷ [])
+eventsOf sr (Multiply c) = pushesOf 4 c ++ (commandEvent (sr 0) 0x12 ∷ [])
+eventsOf sr (Divide c) = pushesOf 4 c ++ (commandEvent (sr 0) 0x13 ∷ [])
+eventsOf sr (TakeFrom c) = pushesOf 4 c ++ (commandEvent (sr 0) 0x19 ∷ commandEvent (sr 1) 0x11 ∷ [])
+eventsOf sr Change = commandEvent (sr 0) 0x15 ∷ []
 
 -- how many commands a step gives
 abbrev pub commandsIn : Step → ℕ
@@ -113,12 +113,12 @@ pub record Starts (x : Run) : Type 0 where
 abbrev pub runEvents : ℕ → (ℕ → Bool) → List Step → List Event
 runEvents w sr ks = pushesOf 4 w ++ chainOf sr ks
 
-abbrev pub eventsIn : Run → List Step → List Event
-eventsIn x ks = runEvents (x .word) (x .sr) ks
+abbrev pub eventsOfRun : Run → List Step → List Event
+eventsOfRun x ks = runEvents (x .word) (x .sr) ks
 
 -- the state at the end
 abbrev pub stateAtEnd : Settings → Run → List Step → State
-stateAtEnd on x ks = afterEvents on (x .state) (eventsIn x ks)
+stateAtEnd on x ks = afterEvents on (x .state) (eventsOfRun x ks)
 
 -- the result: the TOS at the end
 abbrev pub resultOf : Settings → Run → List Step → ℕ
@@ -126,14 +126,14 @@ resultOf on x ks = tos 4 ((stateAtEnd on x ks) .stack)
 
 -- no command of the run sets an error bit; bits that stood in the start status do not count
 abbrev pub Quiet : Settings → Run → List Step → Type 0
-Quiet on x ks = quiet on (x .state) (eventsIn x ks) ≡ true
+Quiet on x ks = quiet on (x .state) (eventsOfRun x ks) ≡ true
 
 -- ---- the statement, over the mode and the rule for float results. Chains are of any length, and a multiplier or a
 -- divisor may even be zero
 pub record Chains (on : Settings) : Type 0 where
   -- every event is answered 0, error bits or not
   pub every-answered : (x : Run) (ks : List Step) → Starts x → Constants ks
-      → answered on (x .state) (eventsIn x ks) ≡ true
+      → answered on (x .state) (eventsOfRun x ks) ≡ true
   -- the result is demand 2's word of the word and the chain alone: no stack, status, service line or sr bit enters
   pub by-word-alone : (x : Run) (ks : List Step) → Starts x → Constants ks
       → resultOf on x ks ≡ wordAfter (on .rule) (x .word) ks
@@ -203,7 +203,7 @@ pub record Examples : Type 0 where
       × (resultOf (under Am9511A) (fromFull 0x02800000) everyKind ≡ 0x83b00000)
   -- without the premise: no step reverses, the second run overflows, and the order of the values is broken
   pub overflows : (reversing tooFar ≡ 0) × Quiet (under Am9511A) (fromReset 0x01800000) tooFar
-      × (quiet (under Am9511A) resetState (eventsIn (fromReset 0x3fffffff) tooFar) ≡ false)
+      × (quiet (under Am9511A) resetState (eventsOfRun (fromReset 0x3fffffff) tooFar) ≡ false)
   pub broken : (resultOf (under Am9511A) (fromReset 0x01800000) tooFar ≡ 0x3fffffff)
       × (resultOf (under Am9511A) (fromReset 0x3fffffff) tooFar ≡ 0x7efffffe)
   pub crossed : Le 0x01800000 0x3fffffff × (Le 0x3fffffff 0x7efffffe → ⊥)

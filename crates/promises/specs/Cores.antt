@@ -106,8 +106,8 @@ NoRecall (Recall ∷ es) = ⊥
 NoRecall (Forget ∷ es) = NoRecall es
 
 -- a state that is lent with its memory, or events that do not read it
-abbrev pub Keeps : List ℕ → List Event → Type 0
-Keeps state es = (length state ≡ 21) ⊎ NoRecall es
+abbrev pub KeepsMemory : List ℕ → List Event → Type 0
+KeepsMemory state es = (length state ≡ 21) ⊎ NoRecall es
 
 -- the bytes pushed and the codes are bytes
 abbrev pub Sendable : List Event → Type 0
@@ -158,7 +158,7 @@ pub record Driven (g : Given) (c : Core) : Type 0 where
   pub states : (state : List ℕ) (es : List Event) → Bytes state → IsState state → Sendable es
       → driven c state es ≡ laidOut (length state) (afterAll (cardIn (settingsIn g) state) es)
   -- and the calls return its answers; of 19 bytes the memory is gone after each call
-  pub returns : (state : List ℕ) (es : List Event) → Bytes state → IsState state → Sendable es → Keeps state es
+  pub returns : (state : List ℕ) (es : List Event) → Bytes state → IsState state → Sendable es → KeepsMemory state es
       → returned c state es ≡ answersOf (cardIn (settingsIn g) state) es
   -- demand 3 at the event call: every call of a run returns 0, error bits or not
   pub chain-answers : (state : List ℕ) (w : ℕ) (sr : ℕ → Bool) (ks : List Step) → Begins state w → Constants ks

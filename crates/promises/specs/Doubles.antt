@@ -16,7 +16,7 @@ use Rattle.host_floats.specs.declared.entry.Outward.{Outward}
 use Rattle.host_floats.specs.declared.entry.Outward.the-variants.{Float as Floats, Refused as Stays}
 use Rattle.host_floats.specs.declared.entry.Inward.{Inward}
 use Rattle.host_floats.specs.declared.entry.Inward.the-variants.{Exact, Rounded, Refused}
-use Rattle.host_buffers.specs.declared.Entry.{Entry}
+use Rattle.host_floats.specs.declared.buffer.Entry.{Entry}
 use Rattle.promises.specs.Subjects.{Turn, wordsTurn, floatsTurn, Turns}
 use Rattle.promises.specs.Stack.{Bytes}
 use Rattle.promises.specs.RefusalNumbers.{numberOf}
@@ -60,7 +60,7 @@ OutwardExact =
     × (proper w ≡ false → outward w .refusal ≡ 4)
 
 -- 10, 15, 12 and 11 exclude each other, and 10, 12 and 11 a proper word of the value
-pub record Apart (rule : Rule) (x : Float) : Type 0 where
+pub record ClassesApartBy (rule : Rule) (x : Float) : Type 0 where
   pub endless-minus : Endless x → IsMinusZero x → ⊥
   pub endless-small : Endless x → Small x → ⊥
   pub endless-large : Endless x → LargeBy rule x → ⊥
@@ -70,7 +70,7 @@ pub record Apart (rule : Rule) (x : Float) : Type 0 where
   pub with-word : (w : ℕ) → HasWord x w → (Endless x → ⊥) × (Small x → ⊥) × (LargeBy rule x → ⊥)
 
 -- the answer r to an f64 x under a rule
-pub record Answers (rule : Rule) (x : Float) (r : Inward) : Type 0 where
+pub record InwardAnswer (rule : Rule) (x : Float) (r : Inward) : Type 0 where
   -- "the value is exact": exactly if a proper word has the value and it is not minus zero, and then with that word
   pub exact : (w : ℕ) → r ≡ Exact w ↔ (HasWord x w × (IsMinusZero x → ⊥))
   -- "or that it was brought to 24 bits by the chosen rule": exactly where the rule brings it to a word, no word has its
@@ -87,10 +87,10 @@ pub record Answers (rule : Rule) (x : Float) (r : Inward) : Type 0 where
   pub fifteen : inwardEntry r .refusal ≡ 15 ↔ IsMinusZero x
   pub twelve : inwardEntry r .refusal ≡ 12 ↔ Small x
   pub eleven : inwardEntry r .refusal ≡ 11 ↔ LargeBy rule x
-  pub apart : Apart rule x
+  pub apart : ClassesApartBy rule x
 
 abbrev pub InwardAnswered : Type 0
-InwardAnswered = (rule : Rule) (p : ℕ) → p < 2 ^ 64 → Answers rule (ofBits binary64 p) (inwardOf rule p)
+InwardAnswered = (rule : Rule) (p : ℕ) → p < 2 ^ 64 → InwardAnswer rule (ofBits binary64 p) (inwardOf rule p)
 
 -- a rule brings a float to one word at most
 abbrev pub BroughtOnce : Type 0

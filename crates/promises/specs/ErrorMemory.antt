@@ -54,9 +54,9 @@ recordEvents r =
     (cond (eqb (getD r 2 0) 7) (Recall ∷ [])
     (Forget ∷ [])))))))
 
-abbrev pub eventsIn : List (List ℕ) → List Event
-eventsIn [] = []
-eventsIn (r ∷ rs) = recordEvents r ++ eventsIn rs
+abbrev pub eventsOfRecords : List (List ℕ) → List Event
+eventsOfRecords [] = []
+eventsOfRecords (r ∷ rs) = recordEvents r ++ eventsOfRecords rs
 
 -- what the history of a card's events says
 abbrev pub rememberedAfter : Card → List Event → Memory
@@ -64,7 +64,7 @@ rememberedAfter k es = memoryOf (historyOf k es (from (k .memory)))
 
 -- what is lent for records in turn and one of kind 7 behind them: a good state, a report of nine bytes, records that
 -- are each taken, room for the reply
-pub record Lent (g : Given) (state : List ℕ) (rs : List (List ℕ)) (replies report : List ℕ) : Type 0 where
+pub record RecordsLent (g : Given) (state : List ℕ) (rs : List (List ℕ)) (replies report : List ℕ) : Type 0 where
   pub bytes : Bytes state × Bytes (joined rs) × Bytes replies × Bytes report
   pub good : IsState state
   pub nine : length report ≡ 9
@@ -79,16 +79,16 @@ pub record MemoryIsHistory (g : Given) (c : Core) : Type 0 where
   pub events : (state : List ℕ) (es : List Event) → Bytes state → IsState state → length state ≡ 21 → Sendable es
       → memoryAt (driven c state es) ≡ memoryOf (callHistory c state es (from (memoryAt state)))
   -- files on 21 bytes: the last two are what the history of the records' events says
-  pub files : (state : List ℕ) (rs : List (List ℕ)) (replies report : List ℕ) → Lent g state rs replies report
+  pub files : (state : List ℕ) (rs : List (List ℕ)) (replies report : List ℕ) → RecordsLent g state rs replies report
       → length state ≡ 21
       → memoryAt ((c .run state (joined rs) replies report) .state)
-      ≡ rememberedAfter (cardIn (settingsIn g) state) (eventsIn rs)
+      ≡ rememberedAfter (cardIn (settingsIn g) state) (eventsOfRecords rs)
   -- files on 19 or 21 bytes: a record of kind 7 behind them is answered with the two, which on 19 bytes began empty
-  pub recalled : (state : List ℕ) (rs : List (List ℕ)) (replies report : List ℕ) → Lent g state rs replies report
+  pub recalled : (state : List ℕ) (rs : List (List ℕ)) (replies report : List ℕ) → RecordsLent g state rs replies report
       → take 7 (drop (length (joined (repliesOf (cardIn (settingsIn g) state) rs (length replies))))
       ((c .run state (joined rs ++ (2 ∷ 0 ∷ 7 ∷ 0 ∷ [])) replies report) .replies))
-      ≡ 5 ∷ 0 ∷ 135 ∷ 0 ∷ 0 ∷ rememberedAfter (cardIn (settingsIn g) state) (eventsIn rs) .bits
-      ∷ rememberedAfter (cardIn (settingsIn g) state) (eventsIn rs) .code ∷ []
+      ≡ 5 ∷ 0 ∷ 135 ∷ 0 ∷ 0 ∷ rememberedAfter (cardIn (settingsIn g) state) (eventsOfRecords rs) .bits
+      ∷ rememberedAfter (cardIn (settingsIn g) state) (eventsOfRecords rs) .code ∷ []
 
 abbrev pub ErrorMemory : Type 0
 ErrorMemory = (g : Given) → Chosen g → (c : Core) → Meets g c → MemoryIsHistory g c
@@ -96,7 +96,7 @@ ErrorMemory = (g : Given) → Chosen g → (c : Core) → Meets g c → MemoryIs
 -- the run of records in turn is the run of their events, whatever stands on the card
 abbrev pub RecordsAreEvents : Type 0
 RecordsAreEvents = (k : Card) (rs : List (List ℕ)) (room : ℕ) → EachTaken k rs room
-    → runOf k (joined rs) room .state ≡ afterAll k (eventsIn rs)
+    → runOf k (joined rs) room .state ≡ afterAll k (eventsOfRecords rs)
 
 -- ---- a state of 19 bytes
 -- the same state with an empty memory

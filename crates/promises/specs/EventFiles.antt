@@ -15,7 +15,7 @@ use Rattle.promises.specs.StateBytes.{IsState}
 use Rattle.promises.specs.Given.{Given, Chosen, settingsIn}
 use Rattle.promises.specs.Records.{countAt}
 use Rattle.promises.specs.Chains.{Step, Constants, reversing, wordAfter}
-use Rattle.promises.specs.Cores.{Core, Meets, kindNumber, byteOf, Sendable, Keeps, driven, returned}
+use Rattle.promises.specs.Cores.{Core, Meets, kindNumber, byteOf, Sendable, KeepsMemory, driven, returned}
 use Rattle.promises.specs.Cores.{drivenQuietly, Begins, busRun}
 
 -- the record of an event: its length, its kind, its payload
@@ -66,10 +66,10 @@ pub record FileOfEvents (c : Called) (es : List Event) (state numbers codes repl
 
 -- what is lent for the file of some events: a good state, a report of nine bytes, room for the replies, and no more
 -- than 12,288 bytes of records
-pub record Lent (c : Core) (state : List ℕ) (es : List Event) (replies report : List ℕ) : Type 0 where
+pub record FileLent (c : Core) (state : List ℕ) (es : List Event) (replies report : List ℕ) : Type 0 where
   pub bytes : Bytes state × Bytes replies × Bytes report
   pub good : IsState state
-  pub told : Keeps state es
+  pub told : KeepsMemory state es
   pub nine : length report ≡ 9
   pub short : length (fileOf es) ≤ 12288
   pub room : length (repliesTo es (returned c state es) (codesBefore c state es)) ≤ length replies
@@ -78,7 +78,7 @@ pub record Lent (c : Core) (state : List ℕ) (es : List Event) (replies report 
 abbrev pub EventFiles : Type 0
 EventFiles =
     (g : Given) → Chosen g → (c : Core) → Meets g c → (state : List ℕ) (es : List Event) (replies report : List ℕ)
-    → Sendable es → Lent c state es replies report
+    → Sendable es → FileLent c state es replies report
     → FileOfEvents (c .run state (fileOf es) replies report) es (driven c state es) (returned c state es)
     (codesBefore c state es) replies
 
@@ -94,28 +94,28 @@ zerosFor (e ∷ es) = 0 ∷ zerosFor es
 pub record ChainFiles (g : Given) (c : Core) : Type 0 where
   -- every record is answered 0, error bits or not, and the call returns 0
   pub answers : (state : List ℕ) (w : ℕ) (sr : ℕ → Bool) (ks : List Step) (replies report : List ℕ) → Begins state w
-      → Constants ks → Lent c state (busRun w sr ks) replies report
+      → Constants ks → FileLent c state (busRun w sr ks) replies report
       → ((c .run state (chainFile w sr ks) replies report) .result ≡ 0)
       × ((c .run state (chainFile w sr ks) replies report) .replies
       ≡ repliesTo (busRun w sr ks) (zerosFor (busRun w sr ks)) (zerosFor (busRun w sr ks))
       ++ drop (length (repliesTo (busRun w sr ks) (zerosFor (busRun w sr ks)) (zerosFor (busRun w sr ks)))) replies)
   -- the word of demand 2 lies on top, high byte first, a function of the word and the chain alone
   pub bytes : (state : List ℕ) (w : ℕ) (sr : ℕ → Bool) (ks : List Step) (replies report : List ℕ) → Begins state w
-      → Constants ks → Lent c state (busRun w sr ks) replies report
+      → Constants ks → FileLent c state (busRun w sr ks) replies report
       → take 4 ((c .run state (chainFile w sr ks) replies report) .state)
       ≡ bytesOf 4 (wordAfter (settingsIn g .rule) w ks)
   -- where the events of neither file leave an error bit, an even number of reversing steps keeps the order of the
   -- values, and an odd number turns it round
   pub even : (state state' : List ℕ) (v w : ℕ) (sr sr' : ℕ → Bool) (ks : List Step)
       (replies replies' report report' : List ℕ) → Begins state v → Begins state' w → Constants ks
-      → Lent c state (busRun v sr ks) replies report → Lent c state' (busRun w sr' ks) replies' report'
+      → FileLent c state (busRun v sr ks) replies report → FileLent c state' (busRun w sr' ks) replies' report'
       → drivenQuietly c state (busRun v sr ks) ≡ true → drivenQuietly c state' (busRun w sr' ks) ≡ true
       → Le v w → reversing ks % 2 ≡ 0
       → Le (tos 4 ((c .run state (chainFile v sr ks) replies report) .state))
       (tos 4 ((c .run state' (chainFile w sr' ks) replies' report') .state))
   pub odd : (state state' : List ℕ) (v w : ℕ) (sr sr' : ℕ → Bool) (ks : List Step)
       (replies replies' report report' : List ℕ) → Begins state v → Begins state' w → Constants ks
-      → Lent c state (busRun v sr ks) replies report → Lent c state' (busRun w sr' ks) replies' report'
+      → FileLent c state (busRun v sr ks) replies report → FileLent c state' (busRun w sr' ks) replies' report'
       → drivenQuietly c state (busRun v sr ks) ≡ true → drivenQuietly c state' (busRun w sr' ks) ≡ true
       → Le v w → reversing ks % 2 ≡ 1
       → Le (tos 4 ((c .run state' (chainFile w sr' ks) replies' report') .state))

@@ -1,6 +1,6 @@
 -- What stands under a name in the definitions, written out: 01's limits and refusal numbers, Figure 8 of 001 code by
--- code, the bytes of a word, the fields of
--- a float word and of the status. Definitions and the statement only: proofs/Figures.antt proves it. Assumes nothing.
+-- code, the bytes of a word, the fields of a float word and of the status. Definitions and the statement only:
+-- proofs/Figures.antt proves it. Assumes nothing.
 use Prim.Native.Nat.{ℕ, zero, suc, _+_, _*_, _/_, _%_, _^_, _≤_, _<_}
 use mathlib.Core.Path.{_≡_}
 use mathlib.Core.Bool.{Bool, true, false, cond}
@@ -11,6 +11,7 @@ use Rattle.terms.specs.declared.Refusal.the-variants.{Done, UnknownCode, Derive
 use Rattle.terms.specs.declared.Refusal.the-variants.{CutShort, BadLength, NoRoom, InputTooLong, NotFinite, TooLarge}
 use Rattle.terms.specs.declared.Refusal.the-variants.{TooSmall, BadState, BadReport, MinusZero, BadMode, BadRule}
 use Rattle.terms.specs.declared.Refusal.the-variants.{PartEntry}
+use Rattle.terms.specs.declared.Width.{Width}
 use Rattle.terms.specs.declared.Width.the-variants.{Single, Double}
 use Rattle.codes.specs.declared.FloatOp.the-variants.{Add as FAdd, Sub as FSub, Mul as FMul, Div as FDiv}
 use Rattle.codes.specs.Command.{Nop, Add, Sub, Mul, Muu, Div, Chs, Float, Chsf, Flt, Fix, Pto}
@@ -39,30 +40,20 @@ row1 =
     ∷ Known (Pop Double) ∷ Known (Xch Double) ∷ Known Pupi ∷ Unknown
     ∷ Known (Flt Double) ∷ Known (Flt Single) ∷ Known (Fix Double) ∷ Known (Fix Single) ∷ []
 
--- 20 to 2F: DADD, DSUB, DMUL, DDIV last
-abbrev pub row2 : List Kind
-row2 = unknowns 12 ++ (Known (Add Double) ∷ Known (Sub Double) ∷ Known (Mul Double) ∷ Known (Div Double) ∷ [])
+-- 20 to 2F: DADD, DSUB, DMUL, DDIV last; 60 to 6F the same at 16 bits
+abbrev pub arithmetic : Width → List Kind
+arithmetic w = unknowns 12 ++ (Known (Add w) ∷ Known (Sub w) ∷ Known (Mul w) ∷ Known (Div w) ∷ [])
 
--- 30 to 3F: CHSD at 34, DMUU, PTOD, POPD, XCHD from 36
-abbrev pub row3 : List Kind
-row3 =
+-- 30 to 3F: CHSD at 34, DMUU, PTOD, POPD, XCHD from 36; 70 to 7F the same at 16 bits
+abbrev pub others : Width → List Kind
+others w =
     unknowns 4
-    ++ (Known (Chs Double) ∷ Unknown ∷ Known (Muu Double) ∷ Known (Pto Double) ∷ Known (Pop Double) ∷ Known (Xch Double)
-    ∷ unknowns 6)
-
--- 60 to 6F: SADD, SSUB, SMUL, SDIV last
-abbrev pub row6 : List Kind
-row6 = unknowns 12 ++ (Known (Add Single) ∷ Known (Sub Single) ∷ Known (Mul Single) ∷ Known (Div Single) ∷ [])
-
--- 70 to 7F: CHSS at 74, SMUU, PTOS, POPS, XCHS from 76
-abbrev pub row7 : List Kind
-row7 =
-    unknowns 4
-    ++ (Known (Chs Single) ∷ Unknown ∷ Known (Muu Single) ∷ Known (Pto Single) ∷ Known (Pop Single) ∷ Known (Xch Single)
-    ∷ unknowns 6)
+    ++ (Known (Chs w) ∷ Unknown ∷ Known (Muu w) ∷ Known (Pto w) ∷ Known (Pop w) ∷ Known (Xch w) ∷ unknowns 6)
 
 abbrev pub chart : List Kind
-chart = row0 ++ (row1 ++ (row2 ++ (row3 ++ (unknowns 16 ++ (unknowns 16 ++ (row6 ++ row7))))))
+chart =
+    row0 ++ (row1 ++ (arithmetic Double ++ (others Double
+    ++ (unknowns 32 ++ (arithmetic Single ++ others Single)))))
 
 -- the n codes from one on
 abbrev pub from : ℕ → ℕ → List ℕ

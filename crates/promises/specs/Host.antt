@@ -53,8 +53,8 @@ OneException = ((p : ℕ) → p < 2 ^ 32 → IsMinusZero (ofBits binary32 p) ↔
 abbrev pub Answered : ℕ → Type 0
 Answered n = (n ≡ 0) ⊎ (n ≡ 10) ⊎ (n ≡ 15) ⊎ (n ≡ 11) ⊎ (n ≡ 12)
 
-abbrev pub Apart : Float → Type 0
-Apart x =
+abbrev pub ClassesApart : Float → Type 0
+ClassesApart x =
     (Endless x → IsMinusZero x → ⊥)
     × (Endless x → Large x → ⊥)
     × (Endless x → Small x → ⊥)
@@ -71,7 +71,7 @@ RefusedExactly =
     × (number (inward p) ≡ 15 ↔ IsMinusZero (ofBits binary32 p))
     × (number (inward p) ≡ 11 ↔ Large (ofBits binary32 p))
     × (number (inward p) ≡ 12 ↔ Small (ofBits binary32 p))
-    × Apart (ofBits binary32 p)
+    × ClassesApart (ofBits binary32 p)
 
 -- A proper word made an f32 and back is the word.
 abbrev pub WordBack : Type 0

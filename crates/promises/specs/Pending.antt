@@ -18,7 +18,7 @@ use Rattle.promises.specs.Given.{Given, Chosen}
 use Rattle.promises.specs.Cores.{Core, Meets, Sendable, onBus, driven}
 
 -- an answer's number, the byte read, and the whole state after
-pub record Answers (a : Answer) (n byte : ℕ) (stack : List ℕ) (pending : Bool) (status : ℕ) (service : Bool)
+pub record AnswerIs (a : Answer) (n byte : ℕ) (stack : List ℕ) (pending : Bool) (status : ℕ) (service : Bool)
     : Type 0 where
   pub number : numberOf (a .refusal) ≡ n
   pub byte-read : a .byte ≡ byte
@@ -47,28 +47,28 @@ pub record Odd (flag : Bool) (n : ℕ) : Type 0 where
 pub record Bus (on : Settings) : Type 0 where
   -- push: the byte becomes the top, the bottom byte is lost, pending turns; status and service line stay
   pub push-leaves : (b : ℕ) (l : List ℕ) (p : Bool) (u : ℕ) (v : Bool) → u < 128
-      → Answers (answerTo on (stateWith l p u v) (Push b)) 0 0 (b ∷ take 15 l) (not p) u v
+      → AnswerIs (answerTo on (stateWith l p u v) (Push b)) 0 0 (b ∷ take 15 l) (not p) u v
   -- pop: the top byte is handed out and goes to the bottom, pending turns
   pub pop-leaves : (b : ℕ) (l : List ℕ) (p : Bool) (u : ℕ) (v : Bool) → u < 128
-      → Answers (answerTo on (stateWith (b ∷ l) p u v) Pop) 0 b (l ++ (b ∷ [])) (not p) u v
+      → AnswerIs (answerTo on (stateWith (b ∷ l) p u v) Pop) 0 b (l ++ (b ∷ [])) (not p) u v
   -- reset: stack all zero, nothing pending, status 0, service line low
   pub reset-leaves : on .mode ≡ Am9511A → (l : List ℕ) (p : Bool) (u : ℕ) (v : Bool) → u < 128
-      → Answers (answerTo on (stateWith l p u v) Reset) 0 0
+      → AnswerIs (answerTo on (stateWith l p u v) Reset) 0 0
       (0 ∷ 0 ∷ 0 ∷ 0 ∷ 0 ∷ 0 ∷ 0 ∷ 0 ∷ 0 ∷ 0 ∷ 0 ∷ 0 ∷ 0 ∷ 0 ∷ 0 ∷ 0 ∷ []) false 0 false
   -- of the older part: all bytes stay, or with half a word pending the top byte goes and the bottom two become zero
   pub older-reset-keeps : on .mode ≡ Am9511 → (l : List ℕ) (u : ℕ) (v : Bool) → u < 128
-      → Answers (answerTo on (stateWith l false u v) Reset) 0 0 l false 0 false
+      → AnswerIs (answerTo on (stateWith l false u v) Reset) 0 0 l false 0 false
   pub older-reset-realigns : on .mode ≡ Am9511 → (b : ℕ) (l : List ℕ) (u : ℕ) (v : Bool) → length l ≡ 15 → u < 128
-      → Answers (answerTo on (stateWith (b ∷ l) true u v) Reset) 0 0 (take 14 l ++ (0 ∷ 0 ∷ [])) false 0 false
+      → AnswerIs (answerTo on (stateWith (b ∷ l) true u v) Reset) 0 0 (take 14 l ++ (0 ∷ 0 ∷ [])) false 0 false
   -- acknowledge: the service line goes low, and nothing else changes
   pub acknowledge-leaves : (l : List ℕ) (p : Bool) (u : ℕ) (v : Bool) → u < 128
-      → Answers (answerTo on (stateWith l p u v) Acknowledge) 0 0 l p u false
+      → AnswerIs (answerTo on (stateWith l p u v) Acknowledge) 0 0 l p u false
   -- a status read hands out the status, and nothing changes
   pub read-leaves : (l : List ℕ) (p : Bool) (u : ℕ) (v : Bool) → u < 128
-      → Answers (answerTo on (stateWith l p u v) Status) 0 u l p u v
+      → AnswerIs (answerTo on (stateWith l p u v) Status) 0 u l p u v
   -- every event of a state whose busy bit is set: 13, no byte, and the state as it came
   pub busy-answers : (e : Event) (l : List ℕ) (p : Bool) (u : ℕ) (v : Bool) → 128 ≤ u
-      → Answers (answerTo on (stateWith l p u v) e) 13 0 l p u v
+      → AnswerIs (answerTo on (stateWith l p u v) e) 13 0 l p u v
   -- a half word is pending when pushes plus pops since reset are odd in number: over any events, refused ones among
   -- them, from a state reached by n
   pub half-pending : (s : State) (n : ℕ) (es : List Event) → IsStack (s .stack) → s .status < 128 → Sendable (onBus es)

@@ -12,27 +12,13 @@ abbrev pub written : String → List ℕ
 written no-text = []
 written (_before_ c s) = code c ∷ written s
 
--- the value of a hex digit 0 to 9 or A to F
-abbrev pub nibble : ℕ → ℕ
-nibble c = cond (leb c 57) (c - 48) (c - 55)
-
--- the bytes that hex digits stand for, two each
-abbrev pub pairs : List ℕ → List ℕ
-pairs [] = []
-pairs (a ∷ []) = []
-pairs (a ∷ b ∷ l) = (nibble a * 16 + nibble b) ∷ pairs l
-
-abbrev pub unspaced : List ℕ → List ℕ
-unspaced [] = []
-unspaced (c ∷ l) = cond (eqb c 32) (unspaced l) (c ∷ unspaced l)
-
--- bytes as they stand in a table: two hex digits each, parted by blanks
-abbrev pub bytes : String → List ℕ
-bytes text = pairs (unspaced (written text))
-
 -- the character of a digit: 0 to 9, then A to F
 abbrev pub digit : ℕ → ℕ
 digit d = cond (ltb d 10) (48 + d) (55 + d)
+
+-- the value of one, by its character
+abbrev pub nibble : ℕ → ℕ
+nibble c = cond (leb c 57) (c - 48) (c - 55)
 
 -- the digits of a number to base ten, the most significant first, and at most so many
 unfoldable pub spelled : ℕ → ℕ → List ℕ
@@ -47,3 +33,10 @@ decimal n = spelled 20 n
 unfoldable pub hexOf : ℕ → ℕ → List ℕ
 hexOf zero n = []
 hexOf (suc count) n = hexOf count (n / 16) ++ (digit (n % 16) ∷ [])
+
+-- bytes as they stand in a table: two hex digits each, parted by blanks (32)
+abbrev pub bytes : String → List ℕ
+bytes no-text = []
+bytes (_before_ a no-text) = []
+bytes (_before_ a (_before_ b s)) =
+    cond (eqb (code a) 32) (bytes (_before_ b s)) ((nibble (code a) * 16 + nibble (code b)) ∷ bytes s)

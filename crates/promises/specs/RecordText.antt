@@ -1,17 +1,17 @@
 -- Records in words: the text of every record that a library takes reads back as the bytes of that record; lines by the
 -- letter. Assumes nothing.
 use Prim.Native.Nat.{ℕ, _+_, _/_, _%_, _≤_, _<_}
+use Prim.Native.String.{String}
 use mathlib.Core.Path.{_≡_}
-use mathlib.Core.List.{List, [], _∷_}
+use mathlib.Core.List.{List, [], _∷_, map}
 use lib.ListN.{length, getD}
 use Rattle.terms.specs.declared.Rule.{Rule}
 use Rattle.terms.specs.declared.Rule.the-variants.{Cut, Nearest}
-use Rattle.record_words.specs.declared.kinds.Kind.{Kind}
-use Rattle.record_words.specs.declared.kinds.Kind.the-variants.{Push, Pop, Command, Status, Reset, Acknowledge}
-use Rattle.record_words.specs.declared.kinds.Kind.the-variants.{Recall, Forget, Open, Keep, Close, Unknown}
-use Rattle.record_words.specs.Told.{recordText}
-use Rattle.record_lines.specs.Line.{Said, Record, Empty, lineOf}
-use Rattle.promises.specs.PrintedText.{written}
+use Rattle.record_text.specs.Kinds.{Kind, Push, Pop, Command, Status, Reset, Acknowledge, Recall, Forget}
+use Rattle.record_text.specs.Kinds.{Open, Keep, Close, Unknown}
+use Rattle.record_text.specs.Told.{recordText}
+use Rattle.record_text.specs.Line.{Said, Record, Empty, saidOf}
+use Rattle.promises.specs.PrintedText.{written, bytes}
 
 -- the number of a kind: 01's, 02's of the error memory and of module sheets
 abbrev pub kindNumber : Kind → ℕ
@@ -52,21 +52,34 @@ bytesOfRecord kind payload =
 abbrev pub RecordTextReadsBack : Type 0
 RecordTextReadsBack =
     (rule : Rule) (kind : Kind) (payload : List ℕ) → HasPayload kind payload → ((i : ℕ) → getD payload i 0 < 256)
-    → lineOf rule (recordText kind payload) ≡ Record (bytesOfRecord kind payload)
+    → saidOf rule (recordText kind payload) ≡ Record (bytesOfRecord kind payload)
 
--- lines by the letter: words low byte first, a number with a point as a float word, sr as bit 7, a comment
+-- ---- lines by the letter: a rule, the text, and what it is read as
+abbrev pub LineRow : Type 0
+LineRow = Rule × String × Said
+
+-- words low byte first, a number with a point as a float word
+abbrev pub pushLines : List LineRow
+pushLines =
+    (Cut, "push 7.5 2.5", Record (bytes "0A 00 01 00 00 00 F0 03 00 00 A0 02"))
+    ∷ (Cut, "push 0.1", Record (bytes "06 00 01 00 CC CC CC 7D"))
+    ∷ (Nearest, "push 0.1", Record (bytes "06 00 01 00 CD CC CC 7D"))
+    ∷ (Cut, "push 02A00000", Record (bytes "06 00 01 00 00 00 A0 02"))
+    ∷ (Cut, "push 0003 0105", Record (bytes "06 00 01 00 03 00 05 01"))
+    ∷ (Cut, "push 03 00", Record (bytes "04 00 01 00 03 00")) ∷ []
+
+-- commands, sr as bit 7, other kinds, a comment
+abbrev pub otherLines : List LineRow
+otherLines =
+    (Cut, "FMUL", Record (bytes "03 00 03 00 12")) ∷ (Cut, "FMUL sr", Record (bytes "03 00 03 00 92"))
+    ∷ (Cut, "command 7F", Record (bytes "03 00 03 00 7F")) ∷ (Cut, "pop 4", Record (bytes "03 00 02 00 04"))
+    ∷ (Cut, "open 258", Record (bytes "06 00 00 01 02 01 00 00")) ∷ (Cut, " status # all", Record (bytes "02 00 04 00"))
+    ∷ (Cut, "# only a comment", Empty) ∷ []
+
+abbrev pub LinesRead : List LineRow → Type 0
+LinesRead table =
+    map (λ (r : LineRow). saidOf (r .0) (written (r .1))) table ≡ map (λ (r : LineRow). r .2) table
+
 pub record RecordTextRows : Type 0 where
-  pub float-words : lineOf Cut (written "push 7.5 2.5")
-      ≡ Record (10 ∷ 0 ∷ 1 ∷ 0 ∷ 0 ∷ 0 ∷ 0xf0 ∷ 3 ∷ 0 ∷ 0 ∷ 0xa0 ∷ 2 ∷ [])
-  pub cut : lineOf Cut (written "push 0.1") ≡ Record (6 ∷ 0 ∷ 1 ∷ 0 ∷ 0xcc ∷ 0xcc ∷ 0xcc ∷ 0x7d ∷ [])
-  pub nearest : lineOf Nearest (written "push 0.1") ≡ Record (6 ∷ 0 ∷ 1 ∷ 0 ∷ 0xcd ∷ 0xcc ∷ 0xcc ∷ 0x7d ∷ [])
-  pub double : lineOf Cut (written "push 02A00000") ≡ Record (6 ∷ 0 ∷ 1 ∷ 0 ∷ 0 ∷ 0 ∷ 0xa0 ∷ 2 ∷ [])
-  pub singles : lineOf Cut (written "push 0003 0105") ≡ Record (6 ∷ 0 ∷ 1 ∷ 0 ∷ 3 ∷ 0 ∷ 5 ∷ 1 ∷ [])
-  pub bytes : lineOf Cut (written "push 03 00") ≡ Record (4 ∷ 0 ∷ 1 ∷ 0 ∷ 3 ∷ 0 ∷ [])
-  pub command : lineOf Cut (written "FMUL") ≡ Record (3 ∷ 0 ∷ 3 ∷ 0 ∷ 0x12 ∷ [])
-  pub service : lineOf Cut (written "FMUL sr") ≡ Record (3 ∷ 0 ∷ 3 ∷ 0 ∷ 0x92 ∷ [])
-  pub any-code : lineOf Cut (written "command 7F") ≡ Record (3 ∷ 0 ∷ 3 ∷ 0 ∷ 0x7f ∷ [])
-  pub pop : lineOf Cut (written "pop 4") ≡ Record (3 ∷ 0 ∷ 2 ∷ 0 ∷ 4 ∷ [])
-  pub opens : lineOf Cut (written "open 258") ≡ Record (6 ∷ 0 ∷ 0 ∷ 1 ∷ 2 ∷ 1 ∷ 0 ∷ 0 ∷ [])
-  pub comment : lineOf Cut (written " status # all") ≡ Record (2 ∷ 0 ∷ 4 ∷ 0 ∷ [])
-  pub nothing : lineOf Cut (written "# only a comment") ≡ Empty
+  pub pushes : LinesRead pushLines
+  pub others : LinesRead otherLines

@@ -57,22 +57,22 @@ keptAfter m code a = cond (accepted a) (remembered m code (a .state .status)) m
 
 -- ---- a history of statuses
 -- an accepted command: its code and the status that it left
-pub record Told : Type 0 where
+pub record AcceptedCommand : Type 0 where
   pub code : ℕ
   pub status : ℕ
 
 -- the memory that stood at first, and the commands accepted since, the oldest first
 pub record History : Type 0 where
   pub start : Memory
-  pub since : List Told
+  pub since : List AcceptedCommand
 
 -- the bits of the start "joined by or" with bits 4 to 1 of the status that each left
-abbrev pub joinedBits : ℕ → List Told → ℕ
+abbrev pub joinedBits : ℕ → List AcceptedCommand → ℕ
 joinedBits bits [] = bits
 joinedBits bits (t ∷ ts) = joinedBits (bitOr bits (errorsOf (t .status))) ts
 
 -- the code of the first that left any, sr removed, else 0
-abbrev pub firstOf : List Told → ℕ
+abbrev pub firstOf : List AcceptedCommand → ℕ
 firstOf [] = 0
 firstOf (t ∷ ts) = cond (eqb (errorsOf (t .status)) 0) (firstOf ts) (t .code % 128)
 

@@ -1,10 +1,10 @@
 -- Request 1 of document 02, SQRT: what the command leaves, the root in whole numbers, the order that it keeps, and a
--- table of roots through the
--- whole step. Definitions and the statements only: proofs/Roots.antt proves them. Assumes nothing.
+-- table of roots through the whole step. Definitions and the statements only: proofs/Roots.antt proves them. Assumes
+-- nothing.
 use Prim.Native.Nat.{ℕ, _^_, _<_}
 use mathlib.Core.Path.{_≡_}
 use mathlib.Core.Bool.{true, false}
-use mathlib.Core.List.{List, [], _∷_, _++_, map}
+use mathlib.Core.List.{List, [], _∷_, _++_}
 use lib.IntN.{ℤ, pos, _*ℤ_}
 use Rattle.terms.specs.declared.Refusal.the-variants.{Improper}
 use Rattle.terms.specs.declared.Width.the-variants.{Double}
@@ -19,7 +19,7 @@ use Rattle.promises.specs.FloatWords.{negative, proper, value, FloatWord
 use Rattle.promises.specs.FloatResults.{clean, RootPair, ExactlyRoot}
 use Rattle.promises.specs.BusEvents.{pushesOf}
 use Rattle.promises.specs.Commands.{words, word, statusBy, Leaves, Refuses}
-use Rattle.promises.specs.Bench.{BenchRow, one, turnedAway, shown, expected}
+use Rattle.promises.specs.Bench.{BenchRow, leaves, one, turnedAway, RowsHold}
 
 -- ---- the command
 pub record RootRows (rule : Rule) : Type 0 where
@@ -68,43 +68,38 @@ RootOrder =
     (rule : Rule) (a b : ℕ) → FloatWord a → FloatWord b → negative a ≡ false → negative b ≡ false → Le a b
     → Le ((sqrt rule a) .word) ((sqrt rule b) .word)
 
--- ---- roots of 0, 1, 2, 4, 9, 1/4, the least and the largest word; the words beside 1 and 2; D cleared, and kept for
--- -1; refusals 3 and 4
+-- ---- A on zeros: its root, and the status
+abbrev pub root : ℕ → ℕ → ℕ → BenchRow
+root a r status = one 0x01 Double a Double r status
+
+-- A on three other words; the word on top and the one at the bottom after
+abbrev pub onThree : ℕ → ℕ → ℕ → ℕ → BenchRow
+onThree a r bottom status =
+    leaves (pushesOf 4 0x44444444 ++ (pushesOf 4 0x33333333 ++ (pushesOf 4 0x22222222 ++ pushesOf 4 a))) 0x01
+    (bytesOf 4 r ++ (bytesOf 4 0x22222222 ++ (bytesOf 4 0x33333333 ++ bytesOf 4 bottom))) status
+
+-- a word that is not proper, refused
+abbrev pub improperRoot : BenchRow
+improperRoot = record {
+  events = pushesOf 4 0x80000000;
+  code = 0x81;
+  refusal = 4;
+  stack = bytesOf 4 0x80000000 ++ zeros 12;
+  status = 0x00;
+}
+
+-- roots of 0, 1, 2, 4, 9, 1/4, the least and the largest word; the words beside 1 and 2; D cleared, and kept for -1;
+-- refusals 3 and 4
 abbrev pub rootTable : List BenchRow
 rootTable =
-    one 0x01 Double 0x00000000 Double 0x00000000 0x20
-    ∷ one 0x01 Double 0x01800000 Double 0x01800000 0x00
-    ∷ one 0x01 Double 0x02800000 Double 0x01b504f3 0x00
-    ∷ one 0x81 Double 0x03800000 Double 0x02800000 0x00
-    ∷ one 0x01 Double 0x04900000 Double 0x02c00000 0x00
-    ∷ one 0x01 Double 0x7f800000 Double 0x00800000 0x00
-    ∷ one 0x01 Double 0x40800000 Double 0x60b504f3 0x00
-    ∷ one 0x01 Double 0x3fffffff Double 0x20b504f2 0x00
-    ∷ one 0x01 Double 0x00ffffff Double 0x00ffffff 0x00
-    ∷ one 0x01 Double 0x01ffffff Double 0x01b504f2 0x00
-    ∷ record {
-      events = pushesOf 4 0x44444444 ++ (pushesOf 4 0x33333333 ++ (pushesOf 4 0x22222222 ++ pushesOf 4 0x03800000));
-      code = 0x01;
-      refusal = 0;
-      stack = bytesOf 4 0x02800000 ++ (bytesOf 4 0x22222222 ++ (bytesOf 4 0x33333333 ++ zeros 4));
-      status = 0x00;
-    }
-    ∷ record {
-      events = pushesOf 4 0x44444444 ++ (pushesOf 4 0x33333333 ++ (pushesOf 4 0x22222222 ++ pushesOf 4 0x81800000));
-      code = 0x01;
-      refusal = 0;
-      stack = bytesOf 4 0x81800000 ++ (bytesOf 4 0x22222222 ++ (bytesOf 4 0x33333333 ++ bytesOf 4 0x44444444));
-      status = 0x48;
-    }
-    ∷ turnedAway 0x01 (0x55 ∷ []) 3
-    ∷ record {
-      events = pushesOf 4 0x80000000;
-      code = 0x81;
-      refusal = 4;
-      stack = bytesOf 4 0x80000000 ++ zeros 12;
-      status = 0x00;
-    }
-    ∷ []
+    root 0x00000000 0x00000000 0x20 ∷ root 0x01800000 0x01800000 0x00 ∷ root 0x02800000 0x01b504f3 0x00
+    ∷ one 0x81 Double 0x03800000 Double 0x02800000 0x00 ∷ root 0x04900000 0x02c00000 0x00
+    ∷ root 0x7f800000 0x00800000 0x00 ∷ root 0x40800000 0x60b504f3 0x00 ∷ root 0x3fffffff 0x20b504f2 0x00
+    ∷ root 0x00ffffff 0x00ffffff 0x00 ∷ root 0x01ffffff 0x01b504f2 0x00 ∷ onThree 0x03800000 0x02800000 0 0x00
+    ∷ onThree 0x81800000 0x81800000 0x44444444 0x48
+    ∷ turnedAway 0x01 (0x55
+    ∷ []) 3
+    ∷ improperRoot ∷ []
 
 abbrev pub RootBench : Type 0
-RootBench = map shown rootTable ≡ map expected rootTable
+RootBench = RowsHold Cut rootTable

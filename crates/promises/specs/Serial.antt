@@ -1,12 +1,13 @@
 -- Request 10, the chip's own way of working: a second engine that works a bit at a time gives the chip's answers, how
--- many steps it makes, and what
--- ./steps tells of them. Definitions and statements only: proofs/Serial.antt proves them. Assumes nothing.
+-- many steps it makes, and what ./steps tells of them. Definitions and statements only: proofs/Serial.antt proves them.
+-- Assumes nothing.
 use Prim.Native.Nat.{ℕ, _+_, _≤_}
+use Prim.Native.String.{String}
 use mathlib.Core.Path.{_≡_}
 use mathlib.Core.Logic.{_⊎_}
 use mathlib.Core.Bool.{false, _&&_, cond}
-use Prim.Native.String.{String}
 use mathlib.Core.List.{List, [], _∷_, _++_, map}
+use lib.Dec.{eqb}
 use lib.ListN.{replicate}
 use Rattle.terms.specs.declared.Refusal.the-variants.{Improper}
 use Rattle.terms.specs.declared.Rule.{Rule}
@@ -32,7 +33,7 @@ use Rattle.step_text.specs.Steps.{workingsOf}
 use Rattle.step_text.specs.Asked.{operationAt, toldOf}
 use Rattle.promises.specs.Stack.{bitsOf}
 use Rattle.promises.specs.FloatWords.{proper}
-use Rattle.promises.specs.SerialWork.{numberIn, stepsIn, widthOf, Operands, taskOf, Made}
+use Rattle.promises.specs.SerialWork.{numberIn, stepsIn, widthOf, Operands, taskOf, StepsMade}
 use Rattle.promises.specs.SerialWork.{linesAfter, answerLine, Asks}
 use Rattle.promises.specs.PrintedText.{written}
 use Rattle.promises.specs.Figures.{from}
@@ -65,9 +66,9 @@ commandFor Fdiv = Float FDiv
 -- what the chip does with that command where B and A lie on top, whatever lies below, is what an answer says: its word
 -- over C.. and 0, status by the
 -- word and its error, no carry; or its refusal, the state as before
-abbrev pub Does : Rule → Operation → ℕ → ℕ → Answer → Type 0
-Does rule op b a (Word r error steps) = Two rule (widthOf op) (commandFor op) b a r error false 0
-Does rule op b a (Refused refusal) = (cs : List ℕ)
+abbrev pub ChipGives : Rule → Operation → ℕ → ℕ → Answer → Type 0
+ChipGives rule op b a (Word r error steps) = Two rule (widthOf op) (commandFor op) b a r error false 0
+ChipGives rule op b a (Refused refusal) = (cs : List ℕ)
     → Refuses rule (commandFor op) (word (widthOf op) a (word (widthOf op) b cs)) refusal
 
 -- the number of an answer: 0, or 4 for an operand that is not proper
@@ -80,7 +81,8 @@ pub record SameEngine : Type 0 where
   pub answers : (op : Operation) (rule : Rule) (b a : ℕ) → Operands op b a
       → answerOf op rule b a ≡ firstAnswer op rule b a (stepsIn (answerOf op rule b a))
   -- and the chip does what the answer says
-  pub in-chip : (op : Operation) (rule : Rule) (b a : ℕ) → Operands op b a → Does rule op b a (answerOf op rule b a)
+  pub in-chip : (op : Operation) (rule : Rule) (b a : ℕ) → Operands op b a
+      → ChipGives rule op b a (answerOf op rule b a)
   pub numbers : (op : Operation) (rule : Rule) (b a : ℕ) → Operands op b a → ZeroOrFour (answerOf op rule b a)
 
 -- ---- the work
@@ -100,7 +102,7 @@ pub record Work : Type 0 where
   -- none where a row names the operands or one is refused; else fewer than so many exactly where no bits remain, of the
   -- multiplier or of the dividend
   pub fewer : (op : Operation) (rule : Rule) (b a : ℕ) → Operands op b a
-      → Made (taskOf op b a) (stepsIn (answerOf op rule b a))
+      → StepsMade (taskOf op b a) (stepsIn (answerOf op rule b a))
 
 -- ---- what ./steps tells
 
@@ -118,12 +120,39 @@ steps code b a = toldOf 4 (written code) (written b) (written a) []
 abbrev pub stepsNearest : String → String → String → List ℕ
 stepsNearest code b a = toldOf 5 (written code) (written b) (written a) (written "--nearest")
 
--- a line, and more; the last one alone
-abbrev pub line : String → List ℕ → List ℕ
-line text more = written text ++ (10 ∷ more)
+-- lines, parted by strokes
+abbrev pub textLines : String → List ℕ
+textLines text = map (λ (c : ℕ). cond (eqb c 47) 10 c) (written text) ++ (10 ∷ [])
 
-abbrev pub last : String → List ℕ
-last text = line text []
+-- a call with CODE, B and A, and the lines that it prints
+pub record PrintedRow : Type 0 where
+  pub code : String
+  pub b : String
+  pub a : String
+  pub printed : List ℕ
+
+abbrev pub prints : String → String → String → String → PrintedRow
+prints code b a text = record { code = code; b = b; a = a; printed = textLines text }
+
+-- each code by its text, B before A: 5 x 3, the upper half of -9 x 4, -16384 / 2; the same at 32 bits; -2.5 x 0, 4 /
+-- -2; B and A not proper; another code, digits too few or too many, no digit
+abbrev pub printedTable : List PrintedRow
+printedTable =
+    prints "6E" "0005" "0003" "1 1 0000000000000005/2 0 000000000000000F/word 000F error 0 status 00"
+    ∷ prints "76" "FFF7" "0004"
+    "1 2 0000000000000000/2 1 0000000000000000/3 0 0000000000000024/word FFFF error 0 status 40"
+    ∷ prints "6F" "C000" "0002"
+    "1 15 0000000000004000/2 14 0000000000004000/3 13 0000000000000000/word E000 error 0 status 40"
+    ∷ prints "2E" "FFFFFFFB" "00000003" "1 1 0000000000000005/2 0 000000000000000F/word FFFFFFF1 error 0 status 40"
+    ∷ prints "36" "7654321F" "00000005"
+    "1 2 000000007654321F/2 1 000000007654321F/3 0 000000024FA4FA9B/word 00000002 error 0 status 00"
+    ∷ prints "2F" "C0000000" "00000002"
+    "1 31 0000000040000000/2 30 0000000040000000/3 29 0000000000000000/word E0000000 error 0 status 40"
+    ∷ prints "12" "81A00000" "00000000" "word 00000000 error 0 status 20"
+    ∷ prints "13" "03800000" "82800000" "1 25 0000000000000000/word 82800000 error 0 status 40"
+    ∷ prints "12" "01400000" "01800000" "refused 4" ∷ prints "13" "01800000" "80000000" "refused 4"
+    ∷ prints "6C" "0005" "0003" "usage" ∷ prints "6E" "005" "0003" "usage"
+    ∷ prints "6E" "0005" "00000003" "usage" ∷ prints "6E" "0005" "000G" "usage" ∷ []
 
 pub record StepsText : Type 0 where
   -- its codes are the eight, each the chip's own command
@@ -139,44 +168,18 @@ pub record StepsText : Type 0 where
       → toldOf words code b a option ≡ workingsOf op rule x y
   pub not-told : (words : ℕ) (code b a option : List ℕ)
       → ((op : Operation) (rule : Rule) (x y : ℕ) → Asks words code b a option op rule x y → ⊥)
-      → toldOf words code b a option ≡ last "usage"
-  -- each code by its text, B before A: 5 x 3, the upper half of -9 x 4, -16384 / 2; the same at 32 bits; -2.5 x 0, 4 /
-  -- -2; B and A not proper
-  pub smul : steps "6E" "0005" "0003"
-      ≡ line "1 1 0000000000000005" (line "2 0 000000000000000F" (last "word 000F error 0 status 00"))
-  pub smuu : steps "76" "FFF7" "0004"
-      ≡ line "1 2 0000000000000000" (line "2 1 0000000000000000"
-      (line "3 0 0000000000000024" (last "word FFFF error 0 status 40")))
-  pub sdiv : steps "6F" "C000" "0002"
-      ≡ line "1 15 0000000000004000"
-      (line "2 14 0000000000004000" (line "3 13 0000000000000000" (last "word E000 error 0 status 40")))
-  pub dmul : steps "2E" "FFFFFFFB" "00000003"
-      ≡ line "1 1 0000000000000005" (line "2 0 000000000000000F" (last "word FFFFFFF1 error 0 status 40"))
-  pub dmuu : steps "36" "7654321F" "00000005"
-      ≡ line "1 2 000000007654321F" (line "2 1 000000007654321F"
-      (line "3 0 000000024FA4FA9B" (last "word 00000002 error 0 status 00")))
-  pub ddiv : steps "2F" "C0000000" "00000002"
-      ≡ line "1 31 0000000040000000"
-      (line "2 30 0000000040000000" (line "3 29 0000000000000000" (last "word E0000000 error 0 status 40")))
-  pub fmul : steps "12" "81A00000" "00000000"
-      ≡ last "word 00000000 error 0 status 20"
-  pub fdiv : steps "13" "03800000" "82800000"
-      ≡ line "1 25 0000000000000000" (last "word 82800000 error 0 status 40")
-  pub refused : steps "12" "01400000" "01800000"
-      ≡ last "refused 4"
-  pub refused-a : steps "13" "01800000" "80000000"
-      ≡ last "refused 4"
+      → toldOf words code b a option ≡ textLines "usage"
+  pub rows : map (λ (r : PrintedRow). steps (r .code) (r .b) (r .a)) printedTable
+      ≡ map (λ (r : PrintedRow). r .printed) printedTable
   -- `--nearest` last is the other rule; hex digits may be in lower case
   pub third : steps "13" "01800000" "02C00000" ≡ workingsOf Fdiv Cut 0x01800000 0x02C00000
   pub third-nearest : stepsNearest "13" "01800000" "02c00000" ≡ workingsOf Fdiv Nearest 0x01800000 0x02C00000
   pub product-nearest : stepsNearest "12" "01800001" "01C00000" ≡ workingsOf Fmul Nearest 0x01800001 0x01C00000
   pub third-words : (answerOf Fdiv Cut 0x01800000 0x02C00000 ≡ Word 0x7FAAAAAA 0 26)
       × (answerOf Fdiv Nearest 0x01800000 0x02C00000 ≡ Word 0x7FAAAAAB 0 26)
-  -- "Anything else": another code, digits too few or too many, no digit, another option, an argument too many
-  pub usage : (steps "6C" "0005" "0003" ≡ last "usage") × (steps "6E" "005" "0003" ≡ last "usage")
-      × (steps "6E" "0005" "00000003" ≡ last "usage") × (steps "6E" "0005" "000G" ≡ last "usage")
-      × (toldOf 5 (written "6E") (written "0005") (written "0003") (written "--cut") ≡ last "usage")
-      × (toldOf 6 (written "6E") (written "0005") (written "0003") (written "--nearest") ≡ last "usage")
+  -- "Anything else": another option, an argument too many
+  pub usage : (toldOf 5 (written "6E") (written "0005") (written "0003") (written "--cut") ≡ textLines "usage")
+      × (toldOf 6 (written "6E") (written "0005") (written "0003") (written "--nearest") ≡ textLines "usage")
 
 -- ---- examples: the operation, B and A under a rule; the word, its error, the number of steps
 pub record StepsRow : Type 0 where
@@ -191,32 +194,20 @@ row op rule b a r error steps = record { operation = op; rule = rule; b = b; a =
 
 abbrev pub stepsTable : List StepsRow
 stepsTable =
-    row (Mul Single) Cut 0x0005 0x0003 0x000F 0 2
-    ∷ row (Mul Single) Cut 0x0003 0x0000 0x0000 0 0
-    ∷ row (Mul Single) Cut 0x0100 0x0100 0x0000 1 9
-    ∷ row (Mul Single) Cut 0x7FFF 0xFFFF 0x8001 0 1
-    ∷ row (Mul Single) Cut 0x8000 0x0000 0x8000 1 0
-    ∷ row (Muu Single) Cut 0xFFFF 0x7FFF 0xFFFF 0 15
-    ∷ row (Muu Double) Cut 0x7FFFFFFF 0x7FFFFFFF 0x3FFFFFFF 0 31
-    ∷ row (Div Single) Cut 0xFFF9 0x0002 0xFFFD 0 16
-    ∷ row (Div Single) Cut 0x0008 0x0002 0x0004 0 14
-    ∷ row (Div Single) Cut 0x0000 0x0002 0x0000 0 0
-    ∷ row (Div Single) Cut 0x0007 0x0000 0x0007 8 0
-    ∷ row (Div Single) Cut 0x8000 0x0000 0x8000 8 0
+    row (Mul Single) Cut 0x0005 0x0003 0x000F 0 2 ∷ row (Mul Single) Cut 0x0003 0x0000 0x0000 0 0
+    ∷ row (Mul Single) Cut 0x0100 0x0100 0x0000 1 9 ∷ row (Mul Single) Cut 0x7FFF 0xFFFF 0x8001 0 1
+    ∷ row (Mul Single) Cut 0x8000 0x0000 0x8000 1 0 ∷ row (Muu Single) Cut 0xFFFF 0x7FFF 0xFFFF 0 15
+    ∷ row (Muu Double) Cut 0x7FFFFFFF 0x7FFFFFFF 0x3FFFFFFF 0 31 ∷ row (Div Single) Cut 0xFFF9 0x0002 0xFFFD 0 16
+    ∷ row (Div Single) Cut 0x0008 0x0002 0x0004 0 14 ∷ row (Div Single) Cut 0x0000 0x0002 0x0000 0 0
+    ∷ row (Div Single) Cut 0x0007 0x0000 0x0007 8 0 ∷ row (Div Single) Cut 0x8000 0x0000 0x8000 8 0
     ∷ row (Div Double) Cut 0x80000000 0x00000002 0x80000000 1 0
-    ∷ row (Div Double) Cut 0x7FFFFFFF 0x00000002 0x3FFFFFFF 0 32
-    ∷ row Fmul Cut 0x3FFFFFFF 0x3FFFFFFF 0x7EFFFFFE 1 24
-    ∷ row Fmul Cut 0x40800000 0x40800000 0x7F800000 2 24
-    ∷ row Fmul Cut 0x81800000 0x00000000 0x00000000 0 0
-    ∷ row Fmul Cut 0x00000000 0x81800000 0x00000000 0 24
-    ∷ row Fdiv Cut 0x01800000 0x02C00000 0x7FAAAAAA 0 26
-    ∷ row Fdiv Nearest 0x01800000 0x02C00000 0x7FAAAAAB 0 26
-    ∷ row Fdiv Cut 0x03800000 0x82800000 0x82800000 0 1
-    ∷ row Fdiv Cut 0x00000000 0x81800000 0x00000000 0 0
-    ∷ row Fdiv Cut 0x01800000 0x00000000 0x01800000 8 0
+    ∷ row (Div Double) Cut 0x7FFFFFFF 0x00000002 0x3FFFFFFF 0 32 ∷ row Fmul Cut 0x3FFFFFFF 0x3FFFFFFF 0x7EFFFFFE 1 24
+    ∷ row Fmul Cut 0x40800000 0x40800000 0x7F800000 2 24 ∷ row Fmul Cut 0x81800000 0x00000000 0x00000000 0 0
+    ∷ row Fmul Cut 0x00000000 0x81800000 0x00000000 0 24 ∷ row Fdiv Cut 0x01800000 0x02C00000 0x7FAAAAAA 0 26
+    ∷ row Fdiv Nearest 0x01800000 0x02C00000 0x7FAAAAAB 0 26 ∷ row Fdiv Cut 0x03800000 0x82800000 0x82800000 0 1
+    ∷ row Fdiv Cut 0x00000000 0x81800000 0x00000000 0 0 ∷ row Fdiv Cut 0x01800000 0x00000000 0x01800000 8 0
     ∷ record { operation = Fmul; rule = Nearest; b = 0x01400000; a = 0x01800000; answer = Refused Improper }
-    ∷ record { operation = Fdiv; rule = Cut; b = 0x01800000; a = 0x80000000; answer = Refused Improper }
-    ∷ []
+    ∷ record { operation = Fdiv; rule = Cut; b = 0x01800000; a = 0x80000000; answer = Refused Improper } ∷ []
 
 abbrev pub StepsBench : Type 0
 StepsBench = map (λ (r : StepsRow). answerOf (r .operation) (r .rule) (r .b) (r .a)) stepsTable

@@ -81,7 +81,7 @@ remains (Multiply x y n) k = y / 2 ^ k
 remains (Divide v d n) k = v % (d * 2 ^ (n - k))
 
 -- so many steps are made: at most the task's number, and fewer exactly where "no bits remain"
-pub record Made (task : Task) (steps : ℕ) : Type 0 where
+pub record StepsMade (task : Task) (steps : ℕ) : Type 0 where
   pub at-most : steps ≤ mostOf task
   pub fewer : (k : ℕ) → k < mostOf task → (steps ≤ k) ↔ (remains task k ≡ 0)
 

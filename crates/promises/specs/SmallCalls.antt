@@ -72,7 +72,7 @@ EventCall = (g : Given) → Chosen g → EventCallUnder g
 
 -- ---- a conversion, outward and inward
 
-pub record Converts (reply : Reply) : Type 0 where
+pub record ConversionCall (reply : Reply) : Type 0 where
   -- a slice that is not four bytes: 8 before all else, and it is unwritten
   pub other-length : (out : List ℕ) → (length out ≡ 4 → ⊥) → sentOf reply out ≡ record { result = 8; out = out }
   -- else the refusal of the word or of the f32, and the slice is unwritten
@@ -87,5 +87,5 @@ pub record Converts (reply : Reply) : Type 0 where
       }
 
 pub record ConversionCalls : Type 0 where
-  pub word-to-f32 : (word : ℕ) → Converts (outward word)
-  pub f32-to-word : (bits : ℕ) → Converts (inward bits)
+  pub word-to-f32 : (word : ℕ) → ConversionCall (outward word)
+  pub f32-to-word : (bits : ℕ) → ConversionCall (inward bits)

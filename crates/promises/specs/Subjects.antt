@@ -11,7 +11,7 @@ pub use Rattle.pundaliket.specs.Calls.{Sent, Sends, sentOf}
 pub use Rattle.host_floats.specs.declared.Reply.{Reply}
 pub use Rattle.host_floats.specs.Host.{hostOf, hostReply, takenOf, takenReply}
 pub use Rattle.pundaliket.specs.FormulaCall.{Wrote, Writes, formulaCall}
-pub use Rattle.host_buffers.specs.Buffers.{Turn, Turns, wordsTurn, floatsTurn}
+pub use Rattle.host_floats.specs.Buffers.{Turn, Turns, wordsTurn, floatsTurn}
 -- ---- the run of a file of records, on a card: under the limit of so many bytes to a record, and under today's
 pub use Rattle.record_runs.specs.Run.{Outcome, runUnder, runOf}
 -- ---- a card, which is the settings of a call, a chip and its error memory; an event of it

@@ -17,7 +17,7 @@ use Rattle.promises.specs.Stack.{Bytes, IsStack}
 use Rattle.promises.specs.BusEvents.{under, afterEvents, answered, AtRest, afterPops}
 use Rattle.promises.specs.StateBytes.{IsState}
 use Rattle.promises.specs.Given.{Given, Chosen}
-use Rattle.promises.specs.Chains.{given}
+use Rattle.promises.specs.Chains.{commandEvent}
 use Rattle.promises.specs.Cores.{Core, Meets, onBus, driven, returned, allZero}
 
 -- ---- the six commands
@@ -76,7 +76,7 @@ fourPopf = replicate 4 POPF
 -- its commands in turn, given by code; sr gives each its bit 7, counted from 0
 abbrev pub shuffled : (ℕ → Bool) → List Shuffle → List Event
 shuffled sr [] = []
-shuffled sr (k ∷ ks) = given (sr 0) (codeOf k) ∷ shuffled (λ (n : ℕ). sr (suc n)) ks
+shuffled sr (k ∷ ks) = commandEvent (sr 0) (codeOf k) ∷ shuffled (λ (n : ℕ). sr (suc n)) ks
 
 -- at the chip, from any state that 13 does not turn away, with nothing pending: every command is answered 0, all 16
 -- bytes are as at first, and nothing is

@@ -1,7 +1,6 @@
 -- The order's own fear, a word joined from two units: by which bytes a word goes in and comes out. Definitions and the
--- statement only:
--- proofs/WholeWords.antt proves it. Assumes nothing.
-use Prim.Native.Nat.{ℕ, zero, suc, _-_, _%_, _<_}
+-- statement only: proofs/WholeWords.antt proves it. Assumes nothing.
+use Prim.Native.Nat.{ℕ, zero, suc, _-_, _%_, _^_, _<_}
 use mathlib.Core.Path.{_≡_}
 use mathlib.Core.Bool.{Bool, true, false, not}
 use mathlib.Core.List.{List, [], _∷_, _++_}
@@ -14,7 +13,7 @@ use Rattle.codes.specs.Command.{Command}
 use Rattle.codes.specs.Command.{Known}
 use Rattle.codes.specs.Codes.{decoded}
 use Rattle.promises.specs.Subjects.{Settings, State, ChipEvent as Event, Push, Pop, pushOf, popOf, commandUnder}
-use Rattle.promises.specs.Stack.{sizeOf, IsStack, bytesOf, lowFirst, topByte, pushed, popped}
+use Rattle.promises.specs.Stack.{sizeOf, bitsOf, IsStack, bytesOf, lowFirst, topByte, pushed, popped}
 use Rattle.promises.specs.BusEvents.{busy, moved, done, refused, under, afterEvents, afterPushes, bytesPopped}
 use Rattle.promises.specs.BusEvents.{resultBytes}
 
@@ -81,14 +80,10 @@ abbrev pub cells : Width → ℕ
 cells Single = 8
 cells Double = 4
 
-abbrev pub limit : Width → ℕ
-limit Single = 65536
-limit Double = 4294967296
-
 pub record Read (w : Width) (l : List ℕ) : Type 0 where
   pub words : List ℕ
   pub number : length words ≡ cells w
-  pub each : EachBelow (limit w) words
+  pub each : EachBelow (2 ^ bitsOf w) words
   pub laid : l ≡ wordsOf w words
 
 abbrev pub StackOfWords : Type 0

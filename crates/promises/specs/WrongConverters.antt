@@ -14,7 +14,7 @@ pub record Converter : Type 0 where
   pub f64-to-words : ℕ → List ℕ → List ℕ → Turn
 
 -- they keep the two contracts
-pub record Converts (c : Converter) : Type 0 where
+pub record KeepsContracts (c : Converter) : Type 0 where
   pub words : (words out : List ℕ) → Bytes words → Bytes out
       → Turns (wordsTurn words out) (c .words-to-f64 words out .result) (c .words-to-f64 words out .number)
       (c .words-to-f64 words out .out)
@@ -48,4 +48,4 @@ pub data WrongConverter (c : Converter) : Type 0 where
       → c .f64-to-words rule (p ++ q) out .out ≡ c .f64-to-words rule p out .out) → WrongConverter c
 
 abbrev pub NoWrongConverter : Type 0
-NoWrongConverter = (c : Converter) → Converts c → WrongConverter c → ⊥
+NoWrongConverter = (c : Converter) → KeepsContracts c → WrongConverter c → ⊥

@@ -107,54 +107,57 @@ ZeroChains c =
 
 -- ---- the inputs that tell
 -- the 19 bytes of a state after reset, a report's nine bytes, and a file of two records that push 55 and AA
-abbrev pub fresh : List ℕ
-fresh = zeros 19
+abbrev pub resetBytes : List ℕ
+resetBytes = zeros 19
 
 abbrev pub nine : List ℕ
 nine = zeros 9
 
-abbrev pub first : List ℕ
-first = 3 ∷ 0 ∷ 1 ∷ 0 ∷ 0x55 ∷ []
+abbrev pub firstPush : List ℕ
+firstPush = 3 ∷ 0 ∷ 1 ∷ 0 ∷ 0x55 ∷ []
 
-abbrev pub second : List ℕ
-second = 3 ∷ 0 ∷ 1 ∷ 0 ∷ 0xaa ∷ []
+abbrev pub secondPush : List ℕ
+secondPush = 3 ∷ 0 ∷ 1 ∷ 0 ∷ 0xaa ∷ []
 
 -- a record that resets
-abbrev pub fresher : List ℕ
-fresher = 2 ∷ 0 ∷ 5 ∷ 0 ∷ []
+abbrev pub resetRecord : List ℕ
+resetRecord = 2 ∷ 0 ∷ 5 ∷ 0 ∷ []
 
 -- what every core that meets the promises does with them
-pub record Tells (c : Core) : Type 0 where
+pub record CoreAnswers (c : Core) : Type 0 where
   -- (a), (b): each call answers 0 to one input and another number to another
-  pub run-0 : (c .run fresh [] [] nine) .result ≡ 0
-  pub run-14 : (c .run fresh [] [] []) .result ≡ 14
-  pub event-0 : (c .event fresh 5 0) .result ≡ 0
-  pub event-5 : (c .event fresh 0 0) .result ≡ 1280
+  pub run-0 : (c .run resetBytes [] [] nine) .result ≡ 0
+  pub run-14 : (c .run resetBytes [] [] []) .result ≡ 14
+  pub event-0 : (c .event resetBytes 5 0) .result ≡ 0
+  pub event-5 : (c .event resetBytes 0 0) .result ≡ 1280
   pub float-0 : (c .word-to-f32 0 (zeros 4)) .result ≡ 0
   pub float-4 : (c .word-to-f32 1 (zeros 4)) .result ≡ 4
   pub word-0 : (c .f32-to-word 0 (zeros 4)) .result ≡ 0
   pub word-10 : (c .f32-to-word 0x7f800000 (zeros 4)) .result ≡ 10
   -- (c), (d), (e): one record, and two
-  pub one-state : (c .run fresh first (zeros 10) nine) .state ≡ 0x55 ∷ zeros 15 ++ (1 ∷ 0 ∷ 0 ∷ [])
-  pub one-replies : (c .run fresh first (zeros 10) nine) .replies ≡ 3 ∷ 0 ∷ 129 ∷ 0 ∷ 0 ∷ zeros 5
-  pub one-report : (c .run fresh first (zeros 10) nine) .report ≡ 0 ∷ 5 ∷ 0 ∷ 0 ∷ 0 ∷ 5 ∷ 0 ∷ 0 ∷ 0 ∷ []
-  pub reset-replies : (c .run fresh fresher (zeros 10) nine) .replies ≡ 3 ∷ 0 ∷ 133 ∷ 0 ∷ 0 ∷ zeros 5
-  pub two-state : (c .run fresh (first ++ second) (zeros 10) nine) .state ≡ 0xaa ∷ 0x55 ∷ zeros 14 ++ (0 ∷ 0 ∷ 0 ∷ [])
-  pub two-replies : (c .run fresh (first ++ second) (zeros 10) nine) .replies
+  pub one-state : (c .run resetBytes firstPush (zeros 10) nine) .state ≡ 0x55 ∷ zeros 15 ++ (1 ∷ 0 ∷ 0 ∷ [])
+  pub one-replies : (c .run resetBytes firstPush (zeros 10) nine) .replies ≡ 3 ∷ 0 ∷ 129 ∷ 0 ∷ 0 ∷ zeros 5
+  pub one-report : (c .run resetBytes firstPush (zeros 10) nine) .report ≡ 0 ∷ 5 ∷ 0 ∷ 0 ∷ 0 ∷ 5 ∷ 0 ∷ 0 ∷ 0 ∷ []
+  pub reset-replies : (c .run resetBytes resetRecord (zeros 10) nine) .replies ≡ 3 ∷ 0 ∷ 133 ∷ 0 ∷ 0 ∷ zeros 5
+  pub two-state : (c .run resetBytes (firstPush ++ secondPush) (zeros 10) nine) .state
+      ≡ 0xaa ∷ 0x55 ∷ zeros 14 ++ (0 ∷ 0 ∷ 0 ∷ [])
+  pub two-replies : (c .run resetBytes (firstPush ++ secondPush) (zeros 10) nine) .replies
       ≡ 3 ∷ 0 ∷ 129 ∷ 0 ∷ 0 ∷ 3 ∷ 0 ∷ 129 ∷ 0 ∷ 0 ∷ []
-  pub two-report : (c .run fresh (first ++ second) (zeros 10) nine) .report ≡ 0 ∷ 10 ∷ 0 ∷ 0 ∷ 0 ∷ 10 ∷ 0 ∷ 0 ∷ 0 ∷ []
-  pub event-state : (c .event fresh 1 0x55) .state ≡ 0x55 ∷ zeros 15 ++ (1 ∷ 0 ∷ 0 ∷ [])
+  pub two-report : (c .run resetBytes (firstPush ++ secondPush) (zeros 10) nine) .report
+      ≡ 0 ∷ 10 ∷ 0 ∷ 0 ∷ 0 ∷ 10 ∷ 0 ∷ 0 ∷ 0 ∷ []
+  pub event-state : (c .event resetBytes 1 0x55) .state ≡ 0x55 ∷ zeros 15 ++ (1 ∷ 0 ∷ 0 ∷ [])
   pub float-out : (c .word-to-f32 0x01800000 (zeros 4)) .out ≡ 0 ∷ 0 ∷ 0x80 ∷ 0x3f ∷ []
   pub word-out : (c .f32-to-word 0x3f800000 (zeros 4)) .out ≡ 0 ∷ 0 ∷ 0x80 ∷ 1 ∷ []
   -- (f): the sign of 1 changed is -1
-  pub chain : take 4 (driven c fresh (busRun 0x01800000 (λ (n : ℕ). false) (Change ∷ []))) ≡ 0x81 ∷ 0x80 ∷ 0 ∷ 0 ∷ []
+  pub chain : take 4 (driven c resetBytes (busRun 0x01800000 (λ (n : ℕ). false) (Change ∷ [])))
+      ≡ 0x81 ∷ 0x80 ∷ 0 ∷ 0 ∷ []
 
 -- ---- the statement, under any numbers that are not turned away
 pub record WrongCoresUnder (g : Given) : Type 0 where
   -- the promises can be met
   pub met : Meets g (described g)
   -- every core that meets them does this with the inputs that tell
-  pub tells : (c : Core) → Meets g c → Tells c
+  pub tells : (c : Core) → Meets g c → CoreAnswers c
   -- so that none of these does
   pub refuses-everything : No g RefusesEverything
   pub single-reply : No g SingleReply

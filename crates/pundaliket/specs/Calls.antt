@@ -5,7 +5,7 @@ use mathlib.Core.Bool.{cond}
 use mathlib.Core.List.{List}
 use lib.Dec.{eqb}
 use lib.ListN.{length}
-use Rattle.little.specs.Little.{wordBytes, le4}
+use Rattle.numbers.specs.Little.{wordBytes, le4}
 use Rattle.terms.specs.declared.Refusal.the-variants.{NoRoom}
 use Rattle.terms.specs.Refusal.{numberOf}
 use Rattle.host_floats.specs.declared.Reply.{Reply}

@@ -1,6 +1,7 @@
 -- What holds of both answers of a test, each with what the test says, holds of the test's answer; a test that the code turns round. Assumes nothing.
 use mathlib.Core.Path.{_≡_, refl, sym}
-use mathlib.Core.Bool.{Bool, true, false, not, cond, false≢true}
+use mathlib.Core.Logic.{_⊎_, inl, inr}
+use mathlib.Core.Bool.{Bool, true, false, not, _&&_, _||_, cond, false≢true}
 use Prim.Native.Nat.{ℕ, _≤_, _<_}
 use lib.Dec.{ltb, eqb}
 use borrow.Author.Tests.{ltb-true, ltb-false, eqb-true, eqb-false}
@@ -28,3 +29,20 @@ failed false y e n = sym e
 pub passed : (x y : Bool) → x ≡ y → not x ≡ false → y ≡ true
 passed true y e n = sym e
 passed false y e n = absurd (false≢true (sym n))
+
+-- two tests that the code joins by `&` or `|`
+pub both : (x y : Bool) → x && y ≡ true → (x ≡ true) × (y ≡ true)
+both true y e = (refl, e)
+both false y e = absurd (false≢true e)
+
+pub not-both : (x y : Bool) → x && y ≡ false → (x ≡ false) ⊎ (y ≡ false)
+not-both true y e = inr e
+not-both false y e = inl refl
+
+pub either : (x y : Bool) → x || y ≡ true → (x ≡ true) ⊎ (y ≡ true)
+either true y e = inl refl
+either false y e = inr e
+
+pub neither : (x y : Bool) → x || y ≡ false → (x ≡ false) × (y ≡ false)
+neither true y e = absurd (false≢true (sym e))
+neither false y e = (refl, e)

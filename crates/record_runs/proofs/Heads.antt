@@ -14,12 +14,13 @@ use Rattle.terms.specs.Limits.{leastLength}
 use Rattle.record_files.proofs.Tests.{either-lt, either-eq}
 use Rattle.record_runs.specs.Record.{Event}
 use Rattle.record_runs.specs.Record.{Push, Pop, Command, Status, Reset, Acknowledge, Recall, Forget}
-use Rattle.record_runs.specs.declared.head.EventKind.{EventKind}
+use Rattle.terms.specs.declared.EventKind.{EventKind}
+use Rattle.terms.specs.Kind.{kindNamed}
 use Rattle.record_runs.specs.declared.head.Frame.{Frame}
 use Rattle.record_runs.specs.declared.head.Frame.the-variants.{Framed, Broken}
 use Rattle.record_runs.specs.Record.{Head}
 use Rattle.record_runs.specs.Record.{Whole, Stop}
-use Rattle.record_runs.specs.Record.{wordAt, kindOf, payloadOf, answeredOf, exactly, kindNamed, rowBy, rowUnder, frameUnder, headIn, headUnder, Carried}
+use Rattle.record_runs.specs.Record.{wordAt, kindOf, payloadOf, answeredOf, exactly, rowBy, rowUnder, frameUnder, headIn, headUnder, Carried}
 use Rattle.record_runs.specs.Record.{Holds}
 
 module _ (most : ℕ) (l : List ℕ) where

@@ -8,7 +8,7 @@ use Rattle.terms.specs.Limits.{mostPayload, mostInput}
 use Rattle.record_files.specs.Run.{Turned, idle}
 use Rattle.record_files.proofs.Tests.{either-lt}
 use Rattle.record_runs.specs.declared.step.Place.{Place}
-use Rattle.record_runs.specs.Pass.{mostReplies, countedIn, further, Stands}
+use Rattle.record_runs.specs.Held.{mostReplies, countedIn, further, Stands}
 
 -- no byte more
 pub at-rest : (p : Place) → p ≡ further p 0 0

@@ -1,14 +1,16 @@
 -- A record step beside its definition: one that stops leaves all as it was, one that works leaves the reply at the front of the room. Assumes nothing.
 use mathlib.Core.Path.{_≡_, refl, sym, ap, subst, _∙_}
 use mathlib.Core.List.{List, [], _∷_, _++_, append-assoc}
+use mathlib.Core.Logic.{⊎-elim}
+use mathlib.Core.Bool.{Bool, true, false, _&&_, false≢true}
 use Prim.Native.Nat.{ℕ, zero, suc, _+_, _≤_, _<_, zero-le}
 use native.Mathlib.Omega.{arith}
-use borrow.Author.Tests.{lt-ltb, le-ltb, lt-leb, eq-eqb, ne-eqb}
-use lib.Dec.{lit<}
+use borrow.Author.Tests.{lt-ltb, le-ltb, lt-leb, leb-true, leb-false, eq-eqb, ne-eqb}
+use lib.Dec.{leb, eqb, lit<}
 use lib.ListN.{length, take, drop, getD, length-drop}
 use lib.Seq.{length-take-le, drop-drop, drop-at, sets, sets-eq, getD-take, getD-drop}
 use Rattle.terms.specs.declared.Refusal.{Refusal}
-use Rattle.terms.specs.declared.Refusal.the-variants.{NoRoom, BadLength}
+use Rattle.terms.specs.declared.Refusal.the-variants.{Done, NoRoom, BadLength}
 use Rattle.terms.specs.Refusal.{numberOf}
 use Rattle.terms.specs.Limits.{mostPayload}
 use Rattle.terms.specs.Settings.{Settings}
@@ -21,17 +23,19 @@ use Rattle.error_memory.specs.declared.Card.{Card as Held}
 use Rattle.error_memory.specs.Memory.{Card, CardAnswer, emptyMemory, remembered, keptBy}
 use Rattle.error_memory.specs.Held.{cardUnder}
 use Rattle.record_files.specs.Run.{Turns}
-use Rattle.record_runs.specs.declared.head.EventKind.{EventKind}
-use Rattle.record_runs.specs.declared.head.EventKind.the-variants.{Push as PushKind, Pop as PopKind, Command as CommandKind, Status as StatusKind}
-use Rattle.record_runs.specs.declared.head.EventKind.the-variants.{Reset as ResetKind, Acknowledge as AcknowledgeKind, Recall as RecallKind}
-use Rattle.record_runs.specs.declared.head.EventKind.the-variants.{Forget as ForgetKind, Unknown as UnknownKind}
+use Rattle.record_files.proofs.Tests.{either-lt, both, not-both}
+use Rattle.terms.specs.declared.EventKind.{EventKind}
+use Rattle.terms.specs.declared.EventKind.the-variants.{Push as PushKind, Pop as PopKind, Command as CommandKind, Status as StatusKind}
+use Rattle.terms.specs.declared.EventKind.the-variants.{Reset as ResetKind, Acknowledge as AcknowledgeKind, Recall as RecallKind}
+use Rattle.terms.specs.declared.EventKind.the-variants.{Forget as ForgetKind, Unknown as UnknownKind}
+use Rattle.terms.specs.Kind.{kindNamed}
 use Rattle.record_runs.specs.declared.head.Frame.the-variants.{Framed, Broken}
 use Rattle.record_runs.specs.declared.step.Pass.{Pass}
 use Rattle.record_runs.specs.declared.step.Place.{Place}
 use Rattle.record_runs.specs.Record.{Event, Push, Pop, Command, Status, Reset, Acknowledge, Recall, Forget, Head, Whole, Stop}
-use Rattle.record_runs.specs.Record.{wordAt, le2, exactly, kindNamed, rowBy, kindOf, payloadOf, answeredOf, frameUnder, headIn}
+use Rattle.record_runs.specs.Record.{wordAt, le2, exactly, popRow, rowBy, kindOf, payloadOf, answeredOf, frameUnder, headIn}
 use Rattle.record_runs.specs.Record.{answerOf, dataOf, replyOf, stopped, turnBy, turnUnder, turnOf}
-use Rattle.record_runs.specs.Pass.{further, unchanged, finished, Passed, Passes, Leaves}
+use Rattle.record_runs.specs.Held.{Stands, readyAt, further, unchanged, finished, Passed, Passes, Leaves}
 use Rattle.record_runs.proofs.Heads.{frame-stops}
 use Rattle.record_runs.proofs.Blocks.{length-popped}
 use Rattle.record_runs.proofs.Places.{at-rest}
@@ -55,6 +59,28 @@ closed kind r n bytes room h =
     ap (λ (i : ℕ). le2 (3 + n) ++ (le2 (kind + 128) ++ (r ∷ (bytes ++ drop i room)))) k
     ∙ ap (λ (i : ℕ). le2 (3 + i) ++ (le2 (kind + 128) ++ (r ∷ (bytes ++ drop (length (replyOf kind r bytes)) room)))) (sym h)
 
+-- the count of a pop, and one that is none
+pub a-count : (count : ℕ) → leb 1 count && leb count mostPayload ≡ true → (1 ≤ count) × (count ≤ mostPayload)
+a-count count e = let k = both (leb 1 count) (leb count mostPayload) e in (leb-true 1 count (k .0), leb-true count mostPayload (k .1))
+
+pub pop-counts : (most n count : ℕ) → n ≡ 1 → 1 ≤ count → count ≤ most → popRow most n count ≡ Whole (Pop count)
+pop-counts most n count one some few = rw (eq-eqb n 1 one, le-ltb count 1 some, le-ltb most count few)
+
+no-count : (n count : ℕ) → n ≡ 1 → leb 1 count && leb count mostPayload ≡ false → popRow mostPayload n count ≡ Stop BadLength
+no-count n count one e =
+    ⊎-elim (λ x. rw (eq-eqb n 1 one, lt-ltb count 1 (leb-false 1 count x)))
+    (λ y. let h = leb-false count mostPayload y in rw (eq-eqb n 1 one, le-ltb count 1 (omega arith), lt-ltb mostPayload count h))
+    (not-both (leb 1 count) (leb count mostPayload) e)
+
+-- a record that is not held up: its payload is right, and its reply has room
+pub cleared : (right : Bool) (p : Place) (m : ℕ) {room : ℕ} {q : Refusal} → Stands p room → (right ≡ true → m ≤ 5 + mostPayload) → q ≡ readyAt right p m
+    → numberOf q ≡ 0 → (right ≡ true) × (m ≤ room)
+cleared false p m s few eq z = let y : ⊥ = omega (arith, sym (ap numberOf eq) ∙ z) in absurd y
+cleared true p m {q = q} s few eq z =
+    let fits : p .written + m ≤ p .most = either-lt (λ (x : Refusal). q ≡ x → p .written + m ≤ p .most) (p .most) (p .written + m) NoRoom Done
+    (λ less is. let y : ⊥ = omega (arith, sym (ap numberOf is) ∙ z) in absurd y) (λ h is. h) eq in
+    (refl, s .some m (few refl) fits)
+
 module _ (on : Settings) (p : Place) (c : Held) (file room : List ℕ) where
   -- a record that stops
   pub stays : (q : Refusal) {r : Pass} → r ≡ unchanged q c p → 0 < numberOf q → Passed on p (stopped q (cardUnder on c)) r file room room
@@ -72,19 +98,38 @@ module _ (on : Settings) (p : Place) (c : Held) (file room : List ℕ) where
     },
   )
 
-  pub no-room : (e : Event) {r : Pass} → r ≡ unchanged NoRoom c p → length room < 5 + answeredOf e
+  no-room : (e : Event) {r : Pass} → r ≡ unchanged NoRoom c p → length room < 5 + answeredOf e
       → Passed on p (turnBy (cardUnder on c) file (length room) (Whole e)) r file room room
   no-room e er h = rw (lt-ltb (length room) (5 + answeredOf e) h) (stays NoRoom er (lit< tt))
 
-  -- a payload that has not as many bytes as it must have, or as many
-  pub other-size : (wanted n : ℕ) (e : Event) {r : Pass} → (n ≡ wanted → ⊥) → r ≡ unchanged BadLength c p
-      → Passed on p (turnBy (cardUnder on c) file (length room) (exactly wanted n e)) r file room room
-  other-size wanted n e h er = rw (ne-eqb n wanted h) (stays BadLength er (lit< tt))
+  -- a record that is held up: its payload is not right, or its reply has no room
+  pub held-up : (right : Bool) (e : Event) (h : Head) → (right ≡ true → h ≡ Whole e) → (right ≡ false → h ≡ Stop BadLength) → Stands p (length room)
+      → answeredOf e ≤ mostPayload → {q : Refusal} {r : Pass} → q ≡ readyAt right p (5 + answeredOf e) → (numberOf q ≡ 0 → ⊥) → r ≡ unchanged q c p
+      → Passed on p (turnBy (cardUnder on c) file (length room) h) r file room room
+  held-up false e h is-whole is-bad s few eq some er = rw (is-bad refl) (stays BadLength (er ∙ ap (λ (x : Refusal). unchanged x c p) eq) (lit< tt))
+  held-up true e h is-whole is-bad s few {q} {r} eq some er =
+      rw (is-whole refl)
+      (either-lt (λ (x : Refusal). q ≡ x → Passed on p (turnBy (cardUnder on c) file (length room) (Whole e)) r file room room) (p .most)
+      (p .written + (5 + answeredOf e)) NoRoom Done
+      (λ less is. no-room e (er ∙ ap (λ (x : Refusal). unchanged x c p) is) (s .none (5 + answeredOf e) (omega arith) less))
+      (λ fits is. absurd (some (ap numberOf is))) eq)
 
-  pub that-size : (wanted n : ℕ) (e : Event) (r : Pass) {left : List ℕ} → n ≡ wanted
-      → Passed on p (turnBy (cardUnder on c) file (length room) (Whole e)) r file room left
-      → Passed on p (turnBy (cardUnder on c) file (length room) (exactly wanted n e)) r file room left
-  that-size wanted n e r h w = rw (eq-eqb n wanted h) w
+  -- a pop: a count out of range is no payload
+  pub pop-held-up : (n count : ℕ) → n ≡ 1 → Stands p (length room) → {q : Refusal} {r : Pass}
+      → q ≡ readyAt (leb 1 count && leb count mostPayload) p (5 + count) → (numberOf q ≡ 0 → ⊥) → r ≡ unchanged q c p
+      → Passed on p (turnBy (cardUnder on c) file (length room) (popRow mostPayload n count)) r file room room
+  pop-held-up n count one s {q} {r} eq some er = by (leb 1 count && leb count mostPayload) refl
+    where
+      by : (right : Bool) → leb 1 count && leb count mostPayload ≡ right
+          → Passed on p (turnBy (cardUnder on c) file (length room) (popRow mostPayload n count)) r file room room
+      by true is =
+          let k = a-count count is in
+          held-up true (Pop count) (popRow mostPayload n count) (λ z. pop-counts mostPayload n count one (k .0) (k .1))
+          (λ z. absurd (false≢true (sym z))) s (k .1)
+          (eq ∙ ap (λ (x : Bool). readyAt x p (5 + count)) is) some er
+      by false is =
+          rw (no-count n count one is)
+          (stays BadLength (er ∙ ap (λ (x : Refusal). unchanged x c p) (eq ∙ ap (λ (x : Bool). readyAt x p (5 + count)) is)) (lit< tt))
 
   -- a record that is worked: the answer found to be its event's, the data behind the reply's first five bytes
   pub took : (e : Event) (a : CardAnswer) (s : State) (m : Memory) {r : Pass} {refusal : ℕ} {bytes left : List ℕ}
@@ -119,9 +164,13 @@ module _ (on : Settings) (p : Place) (c : Held) (file room : List ℕ) where
 
   -- a record of an event that asks no payload and answers no data
   module _ (after : Held) {kind : ℕ} (e : Event) (h : Leaves (cardUnder on c) (cardUnder on after) kind e) where
-    pub bare-no-room : {r : Pass} → r ≡ unchanged NoRoom c p → length room < 5 → Passed on p (turnBy (cardUnder on c) file (length room) (Whole e)) r file room
-        room
-    bare-no-room er less = no-room e er (omega (arith, h .no-data .0))
+    pub bare-held-up : (n : ℕ) → Stands p (length room)
+        → {q : Refusal} {r : Pass} → q ≡ readyAt (eqb n 0) p 5 → (numberOf q ≡ 0 → ⊥) → r ≡ unchanged q c p
+        → Passed on p (turnBy (cardUnder on c) file (length room) (exactly 0 n e)) r file room room
+    bare-held-up n s eq some er =
+        let none = h .no-data .0 in
+        held-up (eqb n 0) e (exactly 0 n e) (λ z. rw z) (λ z. rw z) s (omega (arith, none))
+        (eq ∙ ap (λ (i : ℕ). readyAt (eqb n 0) p (5 + i)) (sym none)) some er
 
     pub bare : {r : Pass} {left : List ℕ} → r ≡ finished (after .chip) (after .memory) (further p 4 5) → left ≡ le2 3 ++ (le2 kind ++ (0 ∷ drop 5 room))
         → 4 ≤ length file → 5 ≤ length room → Passed on p (turnBy (cardUnder on c) file (length room) (Whole e)) r file room left

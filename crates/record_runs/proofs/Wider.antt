@@ -15,13 +15,14 @@ use Rattle.record_files.proofs.Append.{onward}
 use Rattle.record_files.proofs.Alike.{runs-alike, alike-from}
 use Rattle.record_runs.specs.declared.head.Frame.{Frame}
 use Rattle.record_runs.specs.declared.head.Frame.the-variants.{Framed, Broken}
-use Rattle.record_runs.specs.declared.head.EventKind.{EventKind}
-use Rattle.record_runs.specs.declared.head.EventKind.the-variants.{Push as PushKind, Pop as PopKind, Command as CommandKind, Status as StatusKind}
-use Rattle.record_runs.specs.declared.head.EventKind.the-variants.{Reset as ResetKind, Acknowledge as AcknowledgeKind, Recall as RecallKind}
-use Rattle.record_runs.specs.declared.head.EventKind.the-variants.{Forget as ForgetKind, Unknown as UnknownKind}
+use Rattle.terms.specs.declared.EventKind.{EventKind}
+use Rattle.terms.specs.declared.EventKind.the-variants.{Push as PushKind, Pop as PopKind, Command as CommandKind, Status as StatusKind}
+use Rattle.terms.specs.declared.EventKind.the-variants.{Reset as ResetKind, Acknowledge as AcknowledgeKind, Recall as RecallKind}
+use Rattle.terms.specs.declared.EventKind.the-variants.{Forget as ForgetKind, Unknown as UnknownKind}
+use Rattle.terms.specs.Kind.{kindNamed}
 use Rattle.record_runs.specs.Record.{Head}
 use Rattle.record_runs.specs.Record.{Stop}
-use Rattle.record_runs.specs.Record.{wordAt, kindNamed, popRow, rowBy, frameUnder, headIn, headUnder, turnBy, turnUnder}
+use Rattle.record_runs.specs.Record.{wordAt, popRow, rowBy, frameUnder, headIn, headUnder, turnBy, turnUnder}
 use Rattle.record_runs.specs.Run.{runUnder}
 use Rattle.record_runs.proofs.Heads.{short, low, high, cut, whole}
 use Rattle.record_runs.proofs.Prefix.{lawful-under}

@@ -5,7 +5,7 @@ use mathlib.Core.List.{List, [], _∷_, _++_}
 use mathlib.Core.Bool.{cond}
 use lib.Dec.{ltb, eqb}
 use lib.ListN.{length, take, drop, getD}
-pub use Rattle.little.specs.Little.{wordAt, le2}
+pub use Rattle.numbers.specs.Little.{wordAt, le2}
 use Rattle.terms.specs.declared.Refusal.{Refusal}
 use Rattle.terms.specs.declared.Refusal.the-variants.{Done, NoSuchKind, CutShort, BadLength, NoRoom}
 use Rattle.terms.specs.Refusal.{numberOf}
@@ -19,10 +19,11 @@ use Rattle.chip.specs.InTurn.{bytesPopped}
 use Rattle.error_memory.specs.Event.{Chip, Recall as RecallEvent, Forget as ForgetEvent}
 use Rattle.error_memory.specs.Memory.{Card, CardAnswer, around, eventIn}
 use Rattle.record_files.specs.Run as files
-use Rattle.record_runs.specs.declared.head.EventKind.{EventKind}
-use Rattle.record_runs.specs.declared.head.EventKind.the-variants.{Push as PushKind, Pop as PopKind, Command as CommandKind, Status as StatusKind}
-use Rattle.record_runs.specs.declared.head.EventKind.the-variants.{Reset as ResetKind, Acknowledge as AcknowledgeKind, Recall as RecallKind}
-use Rattle.record_runs.specs.declared.head.EventKind.the-variants.{Forget as ForgetKind, Unknown as UnknownKind}
+use Rattle.terms.specs.declared.EventKind.{EventKind}
+use Rattle.terms.specs.declared.EventKind.the-variants.{Push as PushKind, Pop as PopKind, Command as CommandKind, Status as StatusKind}
+use Rattle.terms.specs.declared.EventKind.the-variants.{Reset as ResetKind, Acknowledge as AcknowledgeKind, Recall as RecallKind}
+use Rattle.terms.specs.declared.EventKind.the-variants.{Forget as ForgetKind, Unknown as UnknownKind}
+use Rattle.terms.specs.Kind.{kindNamed}
 use Rattle.record_runs.specs.declared.head.Frame.{Frame}
 use Rattle.record_runs.specs.declared.head.Frame.the-variants.{Framed, Broken}
 
@@ -91,19 +92,6 @@ popRow most n count =
     cond (eqb n 1)
     (cond (ltb count 1) (Stop BadLength) (cond (ltb most count) (Stop BadLength) (Whole (Pop count))))
     (Stop BadLength)
-
--- the kind of a number
-abbrev pub kindNamed : ℕ → EventKind
-kindNamed n =
-    cond (eqb n 1) PushKind
-    (cond (eqb n 2) PopKind
-    (cond (eqb n 3) CommandKind
-    (cond (eqb n 4) StatusKind
-    (cond (eqb n 5) ResetKind
-    (cond (eqb n 6) AcknowledgeKind
-    (cond (eqb n 7) RecallKind
-    (cond (eqb n 8) ForgetKind
-    UnknownKind)))))))
 
 -- what a record of a kind asks: the most bytes that one pushes or pops, the bytes of the payload, and the first of them
 abbrev pub rowBy : ℕ → EventKind → ℕ → ℕ → Head

@@ -1,7 +1,6 @@
 // The run of a file: every record in turn, by the record step, with the card in locals of the loop.
 use crate::step::Pass;
 use crate::step::Place;
-use crate::step::pass_record;
 use chip::State;
 use error_memory::Card;
 use terms::Mode;
@@ -13,7 +12,7 @@ ghost use Rattle.terms.specs.Limits.{mostInput};
 ghost use Rattle.chip.specs.Step.{given};
 ghost use Rattle.error_memory.specs.Held.{cardUnder};
 ghost use Rattle.record_runs.specs.Run.{runOf};
-ghost use Rattle.record_runs.specs.Pass.{countedIn, start, Ran};
+ghost use Rattle.record_runs.specs.Held.{countedIn, start, Ran};
 
 // More room than the replies of any file take: 245 bytes for each byte of an input.
 const MOST_REPLIES: usize = 3_010_560;
@@ -54,7 +53,10 @@ pub fn run_all(start: Card, mode: Mode, rule: Rule, input: &[u8], replies: &mut 
     while place.taken < place.size {
         let rest = &input[place.taken as usize..];
         let room = &mut replies[place.written as usize..];
-        let t = pass_record(card, mode, rule, rest, room, place);
+        let t = crate::step::pass_record(card, mode, rule, rest, room, place);
+        if t.refusal != 0 {
+            return t;
+        }
         let stack = t.card.chip.stack;
         let memory = t.card.memory;
         card = Card {
@@ -67,13 +69,6 @@ pub fn run_all(start: Card, mode: Mode, rule: Rule, input: &[u8], replies: &mut 
             memory,
         };
         place = t.place;
-        if t.refusal != 0 {
-            return Pass {
-                card,
-                refusal: t.refusal,
-                place,
-            };
-        }
     }
     Pass {
         card,

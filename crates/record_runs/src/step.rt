@@ -1,16 +1,13 @@
 // The record step: what becomes of the record at the front of a file. A worker for each kind, which is handed the
 // payload; a record is worked on only once its payload is right and its reply has room, and its reply is written once,
 // in place. The card is not busy: a busy state is turned away at the door.
-use crate::head::EventKind;
 use crate::head::Frame;
-use crate::head::kind_of;
-use crate::head::read_frame;
-use crate::head::word;
 use chip::State;
 use error_memory::Card;
 use error_memory::Memory;
 use error_memory::empty;
 use error_memory::remember;
+use terms::EventKind;
 use terms::Mode;
 use terms::Refusal;
 use terms::Rule;
@@ -23,11 +20,8 @@ ghost use Rattle.terms.specs.Limits.{mostPayload, mostInput};
 ghost use Rattle.chip.specs.Step.{given};
 ghost use Rattle.error_memory.specs.Held.{cardUnder};
 ghost use Rattle.record_runs.specs.Record.{le2, turnOf};
-ghost use Rattle.record_runs.specs.Pass.{mostReplies, unchanged, further, finished, Begins, Stands};
-ghost use Rattle.record_runs.specs.Pass.{Passed, Passes, PassesByRule, PassesAll, PassesBare};
-
-// The most bytes that one record pops.
-const MOST_PAYLOAD: u32 = terms::MOST_PAYLOAD as u32;
+ghost use Rattle.record_runs.specs.Held.{mostReplies, readyAt, unchanged, further, finished, Begins, Stands};
+ghost use Rattle.record_runs.specs.Held.{Passed, Passes, PassesByRule, PassesAll, PassesBare};
 
 // Where a run stands: the bytes of records taken, of as many as the file has, and the bytes of replies written, of as
 // many as have room. Numbers of 32 bits, which a processor of 32 bits keeps in one register each.
@@ -86,6 +80,20 @@ pub fn finish(chip: State, memory: Memory, place: Place, n: u32, m: u32) -> Pass
     }
 }
 
+// Whether a record is done: 7 where its payload is not right, then 8 where a reply of m bytes has no room.
+fn ready(right: bool, place: Place, m: u32) -> Refusal
+    requires { ⌜ (place .written ≤ mostReplies) × (m ≤ 300) ⌝ }
+    ensures { λ r. ⌜ r ≡ readyAt right place m ⌝ }
+{
+    if !right {
+        return Refusal::BadLength;
+    }
+    if place.most < place.written + m {
+        return Refusal::NoRoom;
+    }
+    Refusal::Done
+}
+
 // The bytes of the payload pushed.
 fn pass_push(card: Card, payload: &[u8], room: &mut [u8], place: Place) -> Pass
     requires { ⌜ (card .chip .status < 128) × (length (now payload) ≤ mostPayload) ×
@@ -93,11 +101,9 @@ fn pass_push(card: Card, payload: &[u8], room: &mut [u8], place: Place) -> Pass
     ensures { λ r. ⌜ PassesAll place card EventKind.Push (now (payload .entry)) r (now (room .entry))
         (now (room .exit)) ⌝ }
 {
-    if payload.len() < 1 {
-        return stop(Refusal::BadLength, card, place);
-    }
-    if place.most < place.written + 5 {
-        return stop(Refusal::NoRoom, card, place);
+    let why = ready(1 <= payload.len(), place, 5);
+    if number(why) != 0 {
+        return stop(why, card, place);
     }
     let chip = card.chip;
     let memory = card.memory;
@@ -116,14 +122,9 @@ fn pass_pop(card: Card, payload: &[u8], room: &mut [u8], place: Place) -> Pass
         return stop(Refusal::BadLength, card, place);
     }
     let n = payload[0] as u32;
-    if n < 1 {
-        return stop(Refusal::BadLength, card, place);
-    }
-    if MOST_PAYLOAD < n {
-        return stop(Refusal::BadLength, card, place);
-    }
-    if place.most < place.written + 5 + n {
-        return stop(Refusal::NoRoom, card, place);
+    let why = ready((1 <= n) & (n as usize <= terms::MOST_PAYLOAD), place, 5 + n);
+    if number(why) != 0 {
+        return stop(why, card, place);
     }
     let chip = card.chip;
     let memory = card.memory;
@@ -138,11 +139,9 @@ fn pass_command(card: Card, rule: Rule, payload: &[u8], room: &mut [u8], place: 
     ensures { λ r. ⌜ PassesByRule rule place card EventKind.Command (now (payload .entry)) r (now (room .entry))
         (now (room .exit)) ⌝ }
 {
-    if payload.len() != 1 {
-        return stop(Refusal::BadLength, card, place);
-    }
-    if place.most < place.written + 5 {
-        return stop(Refusal::NoRoom, card, place);
+    let why = ready(payload.len() == 1, place, 5);
+    if number(why) != 0 {
+        return stop(why, card, place);
     }
     let code = payload[0];
     let chip = card.chip;
@@ -164,20 +163,15 @@ fn pass_status(card: Card, payload: &[u8], room: &mut [u8], place: Place) -> Pas
     ensures { λ r. ⌜ PassesAll place card EventKind.Status (now (payload .entry)) r (now (room .entry))
         (now (room .exit)) ⌝ }
 {
-    if payload.len() != 0 {
-        return stop(Refusal::BadLength, card, place);
-    }
-    if place.most < place.written + 6 {
-        return stop(Refusal::NoRoom, card, place);
+    let why = ready(payload.len() == 0, place, 6);
+    if number(why) != 0 {
+        return stop(why, card, place);
     }
     let chip = card.chip;
     let memory = card.memory;
-    let a = chip.read();
-    let why = a.refusal;
-    let after = a.state;
-    room[5] = a.byte;
-    open_reply(room, 1, 132, number(why));
-    finish(after, memory, place, 4, 6)
+    room[5] = chip.status;
+    open_reply(room, 1, 132, 0);
+    finish(chip, memory, place, 4, 6)
 }
 
 // The error memory, its bits and its code to the reply.
@@ -186,11 +180,9 @@ fn pass_recall(card: Card, payload: &[u8], room: &mut [u8], place: Place) -> Pas
     ensures { λ r. ⌜ PassesAll place card EventKind.Recall (now (payload .entry)) r (now (room .entry))
         (now (room .exit)) ⌝ }
 {
-    if payload.len() != 0 {
-        return stop(Refusal::BadLength, card, place);
-    }
-    if place.most < place.written + 7 {
-        return stop(Refusal::NoRoom, card, place);
+    let why = ready(payload.len() == 0, place, 7);
+    if number(why) != 0 {
+        return stop(why, card, place);
     }
     let chip = card.chip;
     let memory = card.memory;
@@ -213,11 +205,9 @@ fn pass_bare(
     ensures { λ r. ⌜ PassesBare place card after kind (now (payload .entry)) r (now (room .entry))
         (now (room .exit)) ⌝ }
 {
-    if payload.len() != 0 {
-        return stop(Refusal::BadLength, card, place);
-    }
-    if place.most < place.written + 5 {
-        return stop(Refusal::NoRoom, card, place);
+    let why = ready(payload.len() == 0, place, 5);
+    if number(why) != 0 {
+        return stop(why, card, place);
     }
     open_reply(room, 0, kind, 0);
     let chip = after.chip;
@@ -249,11 +239,8 @@ fn pass_kind(
         EventKind::Status => pass_status(card, payload, room, place),
         EventKind::Reset => {
             let chip = chip.reset(mode).state;
-            let after = Card {
-                chip,
-                memory: empty(),
-            };
-            pass_bare(card, after, 133, payload, room, place)
+            let memory = empty();
+            pass_bare(card, Card { chip, memory }, 133, payload, room, place)
         }
         EventKind::Acknowledge => {
             let chip = chip.acknowledge().state;
@@ -261,11 +248,8 @@ fn pass_kind(
         }
         EventKind::Recall => pass_recall(card, payload, room, place),
         EventKind::Forget => {
-            let after = Card {
-                chip,
-                memory: empty(),
-            };
-            pass_bare(card, after, 136, payload, room, place)
+            let memory = empty();
+            pass_bare(card, Card { chip, memory }, 136, payload, room, place)
         }
         EventKind::Unknown => stop(Refusal::NoSuchKind, card, place),
     }
@@ -285,10 +269,10 @@ pub fn pass_record(
         (turnOf (cardUnder (given mode rule) card) (now (rest .entry)) (length (now (room .entry)))) r
         (now (rest .entry)) (now (room .entry)) (now (room .exit)) ⌝ }
 {
-    match read_frame(rest, place.taken, place.size) {
+    match crate::head::read_frame(rest, place.taken, place.size) {
         Frame::Framed(n) => {
             let end = 4 + n as usize;
-            let kind = kind_of(word(rest[2], rest[3]) as u32);
+            let kind = terms::kind_of(numbers::two(rest[2], rest[3]) as u32);
             pass_kind(card, mode, rule, kind, &rest[4..end], room, place)
         }
         Frame::Broken(refusal) => stop(refusal, card, place),

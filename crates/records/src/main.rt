@@ -1,20 +1,24 @@
 // The program behind ./records: `records RULE text` reads lines of text from standard input and writes the records that
 // they say; `records RULE read` reads a record file and writes a line for each record. The last line is `end`; or
-// `wrong`,
-// the number of the line, the place in it and the number of the fault; or `stopped`, the bytes before the record that
-// has
-// no words and the refusal. What stands before a last line that is not `end` is no answer.
+// `wrong`, the number of the line, the place in it and the number of the fault; or `stopped`, the bytes before the
+// record that has no words and the refusal. What stands before a last line that is not `end` is no answer.
 use libc::STDIN_FILENO;
 use libc::STDOUT_FILENO;
-use record_lines::line::Line;
-use record_lines::line::RECORD_ROOM;
-use record_lines::line::read_line;
-use record_lines::values::Fault;
+use listing::ends::line_end;
+use listing::ends::trimmed;
+use listing::options::rule_named;
+use numbers::two;
 use record_runs::head::Frame;
 use record_runs::head::read_frame;
-use record_runs::head::word;
-use record_words::kinds::kind_of;
-use record_words::told::add_told;
+use record_text::kinds::Form;
+use record_text::kinds::form_of;
+use record_text::kinds::kind_of;
+use record_text::line::Line;
+use record_text::line::RECORD_ROOM;
+use record_text::line::read_line;
+use record_text::record::TEXT_ROOM;
+use record_text::record::tell_record;
+use record_text::values::fault_number;
 use terms::Refusal;
 use terms::Rule;
 ghost use mathlib.Core.Path.{_≡_};
@@ -28,39 +32,8 @@ const MOST_INPUT: usize = 12288;
 
 const STOPPED: usize = 20000;
 
-// Room for the text of any record.
-const TEXT_ROOM: usize = 768;
-
 // The number of the fault of a file that is too long.
 const TOO_LONG: u8 = 15;
-
-// The rule that the first argument names: the cut, or `nearest`.
-fn rule_named(name: &[u8]) -> Rule {
-    if check::same(name, b"nearest") {
-        return Rule::Nearest;
-    }
-    Rule::Cut
-}
-
-// The number by which ./records knows a fault.
-fn fault_number(fault: Fault) -> u8 {
-    match fault {
-        Fault::NoName => 1,
-        Fault::Missing => 2,
-        Fault::NoDigit => 3,
-        Fault::NoPoint => 4,
-        Fault::ManyDigits => 5,
-        Fault::ManyPlaces => 6,
-        Fault::NoEnd => 7,
-        Fault::TooLarge => 8,
-        Fault::TooSmall => 9,
-        Fault::ManyBytes => 10,
-        Fault::NoNumber => 11,
-        Fault::OutOfRange => 12,
-        Fault::NoCode => 13,
-        Fault::Behind => 14,
-    }
-}
 
 // Writes a blank and a number.
 fn write_field(n: u64) {
@@ -83,35 +56,6 @@ fn write_stopped(at: usize, refusal: u8) {
     write_field(at as u64);
     write_field(refusal as u64);
     io::write_all(STDOUT_FILENO, b"\n");
-}
-
-// Where the line ends that begins at a place.
-fn line_end(text: &[u8], at: usize) -> usize
-    requires { ⌜ at ≤ length (now text) ⌝ }
-    ensures { λ r. ⌜ (at ≤ r) × (r ≤ length (now (text .entry))) ⌝ }
-{
-    let mut end = at;
-    while end < text.len() {
-        if text[end] == b'\n' {
-            return end;
-        }
-        end += 1;
-    }
-    end
-}
-
-// The end of a line without a carriage return.
-fn trimmed(text: &[u8], at: usize, end: usize) -> usize
-    requires { ⌜ (at ≤ end) × (end ≤ length (now text)) ⌝ }
-    ensures { λ r. ⌜ (at ≤ r) × (r ≤ length (now (text .entry))) ⌝ }
-{
-    if end <= at {
-        return end;
-    }
-    if text[end - 1] == b'\r' {
-        return end - 1;
-    }
-    end
 }
 
 // Writes the record of a line, and answers how many bytes there are with it.
@@ -156,46 +100,15 @@ fn write_records(rule: Rule, text: &[u8]) {
 }
 
 // The refusal of a record that has no words: 5 where there is no such kind, else 7.
-fn refusal_of(kind: u16) -> u8 {
-    if kind == 0 {
-        return 5;
+fn refusal_of(number: u16) -> u8 {
+    let form = form_of(kind_of(number));
+    match form {
+        Form::Bytes => 7,
+        Form::Number => 7,
+        Form::Code => 7,
+        Form::Alone => 7,
+        Form::Unknown => 5,
     }
-    if kind < 9 {
-        return 7;
-    }
-    if kind < 256 {
-        return 5;
-    }
-    if kind < 259 {
-        return 7;
-    }
-    5
-}
-
-// Whether a line says a record.
-fn says(line: &[u8], bytes: &[u8]) -> bool {
-    let mut back = [0u8; RECORD_ROOM];
-    let said = read_line(Rule::Cut, line, &mut back);
-    match said {
-        Line::Record(m) => check::same(bytes, &back[..m]),
-        Line::Empty => false,
-        Line::Wrong(_, _) => false,
-    }
-}
-
-// Writes the line of a record, if that line says the record.
-fn write_text(bytes: &[u8]) -> bool
-    requires { ⌜ (4 ≤ length (now bytes)) × (length (now bytes) ≤ 244) ⌝ }
-{
-    let kind = kind_of(word(bytes[2], bytes[3]));
-    let mut text = [0u8; TEXT_ROOM];
-    let n = add_told(&mut text, 0, kind, &bytes[4..]);
-    if says(&text[..n], bytes) {
-        io::write_all(STDOUT_FILENO, &text[..n]);
-        io::write_all(STDOUT_FILENO, b"\n");
-        return true;
-    }
-    false
 }
 
 // Writes the line of the record from one place to another, and answers the other one; where it has none it writes why,
@@ -204,11 +117,15 @@ fn write_framed(input: &[u8], at: usize, end: usize) -> usize
     requires { ⌜ (at + 4 ≤ end) × (end ≤ at + 244) × (end ≤ length (now input)) ⌝ }
     ensures { λ r. ⌜ (r ≡ 20000) ⊎ (r ≡ end) ⌝ }
 {
-    if write_text(&input[at..end]) {
-        return end;
+    let mut text = [0u8; TEXT_ROOM];
+    let n = tell_record(&input[at..end], &mut text);
+    if n == 0 {
+        write_stopped(at, refusal_of(two(input[at + 2], input[at + 3])));
+        return STOPPED;
     }
-    write_stopped(at, refusal_of(word(input[at + 2], input[at + 3])));
-    STOPPED
+    io::write_all(STDOUT_FILENO, &text[..n]);
+    io::write_all(STDOUT_FILENO, b"\n");
+    end
 }
 
 // Writes the line of the record at a place, and answers where the next one begins; where it has none it writes why, and

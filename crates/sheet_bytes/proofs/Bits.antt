@@ -1,7 +1,10 @@
 -- Which slots are kept, bit by bit: a slot's bit set, and the others as they were. Assumes nothing.
-use mathlib.Core.Path.{_≡_, refl, sym, subst}
-use Prim.Native.Nat.{ℕ, _+_, _/_, _%_, _^_, _<_}
+use mathlib.Core.Path.{_≡_, refl, sym, subst, _∙_}
+use Prim.Native.Nat.{ℕ, _+_, _*_, _/_, _%_, _^_, _<_}
+use native.Mathlib.Nat.{one-mul}
 use native.Mathlib.Omega.{arith}
+use lib.Dec.{lit<}
+use lib.Pow.{pow-pos, shl-exact}
 use Rattle.record_files.proofs.Tests.{either-eq}
 use Rattle.sheet_bytes.specs.Ledger.{withBit}
 
@@ -15,6 +18,22 @@ below4 P a b c d k h =
     either-eq (λ (n : ℕ). P k) k 1 0 0 (λ e. subst P (sym e) b) (λ y.
     either-eq (λ (n : ℕ). P k) k 2 0 0 (λ e. subst P (sym e) c) (λ z.
     let e : 3 ≡ k = omega arith in subst P e d)))
+
+-- ---- a slot's weight within a byte
+
+pub weight : (k : ℕ) → k < 4 → 1 * 2 ^ k % 2 ^ 8 ≡ 2 ^ k
+weight k h = shl-exact 1 k 8 (lit< tt) (omega arith) ∙ one-mul (2 ^ k)
+
+pub some-weight : (k : ℕ) → k < 4 → 0 < 1 * 2 ^ k % 2 ^ 8
+some-weight k h = subst (λ (w : ℕ). 0 < w) (sym (weight k h)) (pow-pos k)
+
+-- a bit that is not set has room
+pub has-room : (n k w : ℕ) → n < 256 → k < 4 → w ≡ 1 * 2 ^ k % 2 ^ 8 → n / w % 2 ≡ 0 → n + w < 256
+has-room n k w h l e =
+    subst (λ (x : ℕ). n / x % 2 ≡ 0 → n + x < 256) (sym (weight k l) ∙ sym e)
+    (below4 (λ j. n / 2 ^ j % 2 ≡ 0 → n + 2 ^ j < 256) (λ z. omega arith) (λ z. omega arith) (λ z. omega arith) (λ z. omega arith) k l)
+
+-- ---- the other slots
 
 pub bits : (n j : ℕ) → n < 16 → j < 4 → Bits j n (withBit j n)
 bits n j h =

@@ -4,7 +4,7 @@ use mathlib.Core.Bool.{Bool, true, false}
 use mathlib.Core.List.{List}
 use Prim.Native.Nat.{ℕ, _≤_, _<_}
 use borrow.Author.Tests.{lt-ltb, le-ltb}
-use Rattle.little.specs.Little.{le4}
+use Rattle.numbers.specs.Little.{le4}
 use Rattle.sheet_bytes.specs.declared.Refusal.{Refusal}
 use Rattle.sheet_bytes.specs.declared.Refusal.the-variants.{Done, StillOpen, NoneOpen, NoSuchSlot, HalfPending, SlotEmpty, ListFull}
 use Rattle.sheet_bytes.specs.Ledger.{mostSheets, isOpen, keptBits, closedIn, opened, keptIn, closed}

@@ -59,8 +59,8 @@ two-parts a b l m ha hb e f =
     (ap (λ (k : List ℕ). k ++ b) (ap (take 4) la ∙ take-at a (drop 4 (replicate 20 0)) 4 ha))
 
 -- a serial in the bytes of an open sheet
-pub fresh : (serial m : List ℕ) → length serial ≡ 4 → m ≡ laidAt (set (replicate 22 0) 0 1) 1 serial → m ≡ 1 ∷ (serial ++ replicate 17 0)
-fresh serial m h e = e ∙ rw (h, take-all 4 serial (omega arith))
+pub opened-bytes : (serial m : List ℕ) → length serial ≡ 4 → m ≡ laidAt (set (replicate 22 0) 0 1) 1 serial → m ≡ 1 ∷ (serial ++ replicate 17 0)
+opened-bytes serial m h e = e ∙ rw (h, take-all 4 serial (omega arith))
 
 module _ (l : List ℕ) (h : length l ≡ sheetsBytes) where
   pub length-serial : length (openSerial l) ≡ 4

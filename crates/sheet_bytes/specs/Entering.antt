@@ -4,7 +4,7 @@ use mathlib.Core.Bool.{Bool, cond}
 use mathlib.Core.List.{List}
 use lib.Dec.{eqb, ltb}
 use lib.ListN.{getD}
-use Rattle.little.specs.Little.{le4}
+use Rattle.numbers.specs.Little.{le4}
 use Rattle.sheet_bytes.specs.declared.Refusal.{Refusal}
 use Rattle.sheet_bytes.specs.declared.Refusal.the-variants.{Done, StillOpen, NoneOpen, NoSuchSlot, HalfPending, SlotEmpty, ListFull}
 use Rattle.sheet_bytes.specs.Ledger.{mostSheets, closedIn, isOpen, keptBits, opened, keptIn, closed}

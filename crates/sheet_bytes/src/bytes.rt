@@ -1,12 +1,10 @@
 // The `sheets` slice: the one place where its layout is known.
-use little::put_word;
+use numbers::put_word;
 ghost use mathlib.Core.Path.{_≡_};
 ghost use mathlib.Core.List.{_++_};
-ghost use Prim.Native.Nat.{_+_, _*_, _/_, _%_, _≤_, _<_};
-ghost use mathlib.Core.Bool.{cond};
-ghost use lib.Dec.{eqb};
+ghost use Prim.Native.Nat.{_+_, _≤_, _<_};
 ghost use lib.ListN.{length};
-ghost use Rattle.little.specs.Little.{le4};
+ghost use Rattle.numbers.specs.Little.{le4};
 ghost use Rattle.sheet_bytes.specs.Ledger.{sheetsBytes, mostSheets, isSheets, isOpen, closedIn, laidAt, dropped};
 ghost use Rattle.sheet_bytes.specs.Ledger.{opened, keptIn, closed, withBit, openSerial, openWords};
 
@@ -83,28 +81,16 @@ pub fn open(sheets: &mut [u8], serial: &[u8])
     lay(sheets, OPEN_AT, &fresh);
 }
 
-// A number with the bit of a weight set.
-fn joined(weight: u8, n: u8) -> u8
-    requires { ⌜ (0 < weight) × (n / weight % 2 ≡ 0 → n + weight < 256) ⌝ }
-    ensures { λ r. ⌜ r ≡ cond (eqb (n / weight % 2) 0) (n + weight) n ⌝ }
-{
-    if n / weight % 2 == 0 {
-        return n + weight;
-    }
-    n
-}
-
 // A number with the bit of a slot set.
 fn with_bit(slot: u8, n: u8) -> u8
     requires { ⌜ slot < 4 ⌝ }
     ensures { λ r. ⌜ r ≡ withBit slot n ⌝ }
 {
-    match slot {
-        0 => joined(1, n),
-        1 => joined(2, n),
-        2 => joined(4, n),
-        _ => joined(8, n),
+    let weight = 1u8 << slot;
+    if n / weight % 2 == 0 {
+        return n + weight;
     }
+    n
 }
 
 // A word kept in a slot.

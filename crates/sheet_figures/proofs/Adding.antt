@@ -10,9 +10,9 @@ use native.Mathlib.Nat.{not-suc-le-zero, le-of-suc-le-suc, pow-suc, mul-le-mul-r
 use native.Mathlib.Numerals.{add-one}
 use lib.Dec.{lit<, eqb}
 use lib.ListN.{length, getD, set, take}
-use lib.Pow.{pow-add}
+use lib.Pow.{pow-add, shl-exact}
 use lib.Seq.{take-all, getD-set-same, getD-set-other}
-use Rattle.whole.proofs.Differences.{either}
+use Rattle.numbers.proofs.Differences.{either}
 use Rattle.float.specs.Word.{size88, proper}
 use Rattle.sheet_figures.specs.Limbs.{le, sumLimit, up, down}
 
@@ -76,12 +76,14 @@ power b =
     let e : b % 8 + 8 * (b / 8) ≡ b = omega arith in
     ap (λ (n : ℕ). 2 ^ (b % 8) * n) (bytes-power (b / 8)) ∙ sym (pow-add 2 (b % 8) (8 * (b / 8))) ∙ ap (λ (n : ℕ). 2 ^ n) e
 
-pub placed : (w r : ℕ) → r ≡ 2 ^ ((w / 16777216 + 64) % 128 % 8)
-    → w % 16777216 * r * 256 ^ ((w / 16777216 + 64) % 128 / 8) ≡ size88 w
+pub placed : (w : ℕ)
+    → w % 16777216 * 2 ^ ((w / 16777216 + 64) % 128 % 8) % 2 ^ 32 * 256 ^ ((w / 16777216 + 64) % 128 / 8) ≡ size88 w
 unfolding size88
-placed w r e =
+placed w =
     let b : ℕ = (w / 16777216 + 64) % 128 in
-    ap (λ (n : ℕ). w % 16777216 * n * 256 ^ (b / 8)) e ∙ mul-assoc (w % 16777216) (2 ^ (b % 8)) (256 ^ (b / 8)) ∙ ap (λ (n : ℕ). w % 16777216 * n) (power b)
+    let m : w % 16777216 < 2 ^ 24 = omega arith in
+    ap (λ (n : ℕ). n * 256 ^ (b / 8)) (shl-exact 24 (b % 8) 32 m (omega arith)) ∙ mul-assoc (w % 16777216) (2 ^ (b % 8)) (256 ^ (b / 8))
+    ∙ ap (λ (n : ℕ). w % 16777216 * n) (power b)
 
 -- ---- a difference
 

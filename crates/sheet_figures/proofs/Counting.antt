@@ -7,7 +7,7 @@ use native.Mathlib.Omega.{arith}
 use lib.Dec.{eqb, leb, eqb·suc-zero}
 use lib.ListN.{length}
 use borrow.Author.Tests.{eqb-true, eqb-false, eq-eqb, ne-eqb, le-leb}
-use Rattle.sheet_figures.specs.Figures.{count, once, many, serials, fresh, again, EachOnce, CountedFromTheFront, FourLines}
+use Rattle.sheet_figures.specs.Figures.{count, once, many, serials, newFrom, repeatedFrom, EachOnce, CountedFromTheFront, FourLines}
 use Rattle.sheet_figures.proofs.Orders.{length-perm, once-perm, more, more-perm}
 
 -- one number more before a list
@@ -109,22 +109,22 @@ moved : (t : Bool) (n k : ℕ) → cond t (suc n) n + k ≡ n + (cond t 1 0 + k)
 moved true n k = omega arith
 moved false n k = omega arith
 
-different-round : (l before : List ℕ) → fresh before l + length (once before) ≡ length (once (reverseAux l before))
+different-round : (l before : List ℕ) → newFrom before l + length (once before) ≡ length (once (reverseAux l before))
 different-round [] before = let x : (n : ℕ) → 0 + n ≡ n = λ n. omega arith in x (length (once before))
 different-round (x ∷ l) before =
-    moved (eqb (count x before) 0) (fresh (x ∷ before) l) (length (once before))
-    ∙ ap (λ (k : ℕ). fresh (x ∷ before) l + k) (first (eqb (count x before) 0))
+    moved (eqb (count x before) 0) (newFrom (x ∷ before) l) (length (once before))
+    ∙ ap (λ (k : ℕ). newFrom (x ∷ before) l + k) (first (eqb (count x before) 0))
     ∙ different-round l (x ∷ before)
   where
     first : (t : Bool) → cond t 1 0 + length (once before) ≡ length (cond t (x ∷ once before) (once before))
     first true = omega arith
     first false = omega arith
 
-repeated-round : (l before : List ℕ) → again before l + more before ≡ more (reverseAux l before)
+repeated-round : (l before : List ℕ) → repeatedFrom before l + more before ≡ more (reverseAux l before)
 repeated-round [] before = let x : (n : ℕ) → 0 + n ≡ n = λ n. omega arith in x (more before)
 repeated-round (x ∷ l) before =
-    moved (eqb (count x before) 1) (again (x ∷ before) l) (more before)
-    ∙ ap (λ (k : ℕ). again (x ∷ before) l + k) (sym (more-step x before))
+    moved (eqb (count x before) 1) (repeatedFrom (x ∷ before) l) (more before)
+    ∙ ap (λ (k : ℕ). repeatedFrom (x ∷ before) l + k) (sym (more-step x before))
     ∙ repeated-round l (x ∷ before)
 
 pub counted-from-the-front : CountedFromTheFront
@@ -132,8 +132,8 @@ counted-from-the-front l =
     let s : List ℕ = serials l in
     let x : (n : ℕ) → n ≡ n + 0 = λ n. omega arith in
     record {
-      different-is = sym (x (fresh [] s) ∙ different-round s [] ∙ length-perm (once-perm (Permᴰ·reverse s)));
-      repeated-is = sym (x (again [] s) ∙ repeated-round s [] ∙ more-perm (Permᴰ·reverse s));
+      different-is = sym (x (newFrom [] s) ∙ different-round s [] ∙ length-perm (once-perm (Permᴰ·reverse s)));
+      repeated-is = sym (x (repeatedFrom [] s) ∙ repeated-round s [] ∙ more-perm (Permᴰ·reverse s));
     }
 
 pub four-lines : FourLines

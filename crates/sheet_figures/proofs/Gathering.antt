@@ -7,7 +7,7 @@ use native.Mathlib.Omega.{arith}
 use native.Mathlib.Nat.{lt-of-le-of-lt}
 use lib.ListN.{getD, drop}
 use lib.IntN.{subℕ, natAbs}
-use Rattle.whole.proofs.Differences.{either, sub-lt, sub-ge}
+use Rattle.numbers.proofs.Differences.{either, sub-lt, sub-ge}
 use Rattle.sheet_bytes.specs.Ledger.{linesOf, closedIn}
 use Rattle.sheet_figures.specs.Limbs.{up, down, ups, downs, sumLimit}
 use Rattle.sheet_figures.specs.Figures.{wordOn, words, sum88}

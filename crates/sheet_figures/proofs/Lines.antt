@@ -9,7 +9,7 @@ use borrow.Author.Tests.{ltb-false, eqb-true}
 use lib.Dec.{eqb, ltb}
 use lib.ListN.{length, getD, take, drop}
 use lib.Seq.{getD-take, getD-drop, drop-drop}
-use Rattle.little.specs.Little.{fourAt}
+use Rattle.numbers.specs.Little.{fourAt}
 use Rattle.sheet_bytes.specs.Ledger.{sheetsBytes, mostSheets, openAt, keptAt, isSheets, lines, linesOf, closedIn}
 use Rattle.sheet_figures.specs.Figures.{serialOn, wordOn}
 

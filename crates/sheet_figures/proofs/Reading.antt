@@ -11,7 +11,7 @@ use lib.Dec.{le→leb, ltb→lt}
 use lib.ListN.{length, length-append}
 use lib.IntN.{ℤ, pos, negsuc, natAbs}
 use lib.Signed.{_≤ℤ_, _<ℤ_, leZ-yes}
-use Rattle.whole.proofs.Differences.{either}
+use Rattle.numbers.proofs.Differences.{either}
 use Rattle.sheet_figures.specs.Digits.{hexDigit, hexDigits, digitValue, isHex, allHex, readFrom, plus, minus, signOf, TextIsTheSum}
 
 -- ---- one digit

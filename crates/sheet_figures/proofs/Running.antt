@@ -41,8 +41,8 @@ last-tested false test x l = none (cond (test x) 1 0) (many test l)
 
 -- ---- on by one line, and at the end
 
-on : (p a k b t : ℕ) → a ≡ k + b → p + a ≡ t → p + k + b ≡ t
-on p a k b t e h = omega arith
+carried-on : (p a k b t : ℕ) → a ≡ k + b → p + a ≡ t → p + k + b ≡ t
+carried-on p a k b t e h = omega arith
 
 pub counted-all : (f : List (List ℕ) → ℕ) (s : List ℕ) (p i t : ℕ) → f [] ≡ 0 → closedIn s ≤ i → p + f (drop i (linesOf s)) ≡ t → p ≡ t
 counted-all f s p i t z h e =
@@ -59,7 +59,7 @@ module _ (s : List ℕ) (p i t k : ℕ) (more : i < closedIn s) where
       → p + count x (serials (drop i (linesOf s))) ≡ t → p + k + count x (serials (drop (i + 1) (linesOf s))) ≡ t
   count-on x w a b =
       let n : ℕ = count x (serials (drop (i + 1) (linesOf s))) in
-      on p (count x (serials (drop i (linesOf s)))) k n t
+      carried-on p (count x (serials (drop i (linesOf s)))) k n t
       (ap (λ (l : List (List ℕ)). count x (serials l)) (ahead-is s i more) ∙ counted (eqb x (serialOn (getD (linesOf s) i []))) n
       ∙ ap (λ (j : ℕ). j + n) (ap (λ (v : ℕ). cond (eqb x v) 1 0) (sym a) ∙ sym b))
 
@@ -68,7 +68,7 @@ module _ (s : List ℕ) (p i t k : ℕ) (more : i < closedIn s) where
       → p + different (drop i (linesOf s)) ≡ t → p + k + different (drop (i + 1) (linesOf s)) ≡ t
   different-on x c a b d =
       let ahead : List (List ℕ) = drop (i + 1) (linesOf s) in
-      on p (different (drop i (linesOf s))) k (different ahead) t
+      carried-on p (different (drop i (linesOf s))) k (different ahead) t
       (ap different (ahead-is s i more)
       ∙ ap (λ (v : ℕ). length (once (v ∷ serials ahead))) (sym a)
       ∙ last-counted (eqb (count x (serials ahead)) 0) x (once (serials ahead))
@@ -81,7 +81,7 @@ module _ (s : List ℕ) (p i t k : ℕ) (more : i < closedIn s) where
       → p + many test (once (serials (drop i (linesOf s)))) ≡ t → p + k * j + many test (once (serials (drop (i + 1) (linesOf s)))) ≡ t
   tested-on test x c j a b d e =
       let ahead : List (List ℕ) = drop (i + 1) (linesOf s) in
-      on p (many test (once (serials (drop i (linesOf s))))) (k * j) (many test (once (serials ahead))) t
+      carried-on p (many test (once (serials (drop i (linesOf s))))) (k * j) (many test (once (serials ahead))) t
       (ap (λ (l : List (List ℕ)). many test (once (serials l))) (ahead-is s i more)
       ∙ ap (λ (v : ℕ). many test (once (v ∷ serials ahead))) (sym a)
       ∙ last-tested (eqb (count x (serials ahead)) 0) test x (once (serials ahead))
@@ -92,7 +92,7 @@ module _ (s : List ℕ) (p i t k : ℕ) (more : i < closedIn s) where
       → p + improper (drop i (linesOf s)) ≡ t → p + k + improper (drop (i + 1) (linesOf s)) ≡ t
   improper-on w b a d e =
       let n : ℕ = improper (drop (i + 1) (linesOf s)) in
-      on p (improper (drop i (linesOf s))) k n t
+      carried-on p (improper (drop i (linesOf s))) k n t
       (ap improper (ahead-is s i more)
       ∙ counted (not (proper (wordOn (getD (linesOf s) i [])))) n
       ∙ ap (λ (j : ℕ). j + n) (ap (λ (v : ℕ). cond (not (proper v)) 1 0) (sym a) ∙ ap (λ (v : Bool). cond (not v) 1 0) (sym d) ∙ sym e))

@@ -10,8 +10,8 @@ use lib.ListN.{length}
 use lib.Pow.{pow-mono}
 use lib.IntN.{ℤ, pos, subℕ, _+ℤ_, natAbs}
 use Rattle.float.specs.Word.{negative, biased, mantissa, proper, size88, value}
-use Rattle.whole.specs.Signed.{withSign}
-use Rattle.whole.proofs.Differences.{sum-differences, neg-pos, pos-is, size-difference}
+use Rattle.numbers.specs.Signed.{withSign}
+use Rattle.numbers.proofs.Differences.{sum-differences, neg-pos, pos-is, size-difference}
 use Rattle.sheet_figures.specs.Limbs.{up, down, ups, downs, sumLimit}
 use Rattle.sheet_figures.specs.Figures.{total, words, worth, worths, sum88, AlwaysFits}
 

@@ -6,7 +6,7 @@ use mathlib.Core.List.{List, [], _∷_, _++_, List·Permᴰ}
 use lib.Dec.{eqb, leb}
 use lib.ListN.{length, replicate}
 use lib.IntN.{ℤ, pos, _+ℤ_, natAbs}
-use Rattle.little.specs.Little.{fourAt, le4}
+use Rattle.numbers.specs.Little.{fourAt, le4}
 use Rattle.float.specs.Word.{proper, value}
 
 -- ---- a sheet is a line of 20 bytes
@@ -101,17 +101,17 @@ abbrev pub EachOnce : Type 0
 EachOnce = (x : ℕ) (l : List ℕ) → count x (once l) ≡ cond (eqb (count x l) 0) 0 1
 
 -- the serials counted from the front: one is new where it does not stand before, repeated where it stands once before
-abbrev pub fresh : List ℕ → List ℕ → ℕ
-fresh before [] = 0
-fresh before (x ∷ l) = cond (eqb (count x before) 0) (suc (fresh (x ∷ before) l)) (fresh (x ∷ before) l)
+abbrev pub newFrom : List ℕ → List ℕ → ℕ
+newFrom before [] = 0
+newFrom before (x ∷ l) = cond (eqb (count x before) 0) (suc (newFrom (x ∷ before) l)) (newFrom (x ∷ before) l)
 
-abbrev pub again : List ℕ → List ℕ → ℕ
-again before [] = 0
-again before (x ∷ l) = cond (eqb (count x before) 1) (suc (again (x ∷ before) l)) (again (x ∷ before) l)
+abbrev pub repeatedFrom : List ℕ → List ℕ → ℕ
+repeatedFrom before [] = 0
+repeatedFrom before (x ∷ l) = cond (eqb (count x before) 1) (suc (repeatedFrom (x ∷ before) l)) (repeatedFrom (x ∷ before) l)
 
 pub record Counted (l : List (List ℕ)) : Type 0 where
-  pub different-is : different l ≡ fresh [] (serials l)
-  pub repeated-is : repeated l ≡ again [] (serials l)
+  pub different-is : different l ≡ newFrom [] (serials l)
+  pub repeated-is : repeated l ≡ repeatedFrom [] (serials l)
 
 abbrev pub CountedFromTheFront : Type 0
 CountedFromTheFront = (l : List (List ℕ)) → Counted l
@@ -119,12 +119,12 @@ CountedFromTheFront = (l : List (List ℕ)) → Counted l
 -- ---- an example
 
 -- a line of a serial and a word in slot 0, the other slots zero
-abbrev pub lineOf : ℕ → ℕ → List ℕ
-lineOf serial word = le4 serial ++ (le4 word ++ replicate 12 0)
+abbrev pub lineWith : ℕ → ℕ → List ℕ
+lineWith serial word = le4 serial ++ (le4 word ++ replicate 12 0)
 
 -- lines with the serials 5, 5, 5, 7: four lines, two serials, one of them repeated
 abbrev pub fourLines : List (List ℕ)
-fourLines = lineOf 5 0 ∷ lineOf 5 0 ∷ lineOf 5 0 ∷ lineOf 7 0 ∷ []
+fourLines = lineWith 5 0 ∷ lineWith 5 0 ∷ lineWith 5 0 ∷ lineWith 7 0 ∷ []
 
 pub record FourLines : Type 0 where
   pub four : length fourLines ≡ 4

@@ -9,7 +9,7 @@ use Rattle.terms.specs.declared.Refusal.{Refusal}
 use Rattle.terms.specs.declared.Refusal.the-variants.{Done, NoRoom, BadState}
 use Rattle.terms.specs.Refusal.{numberOf}
 use Rattle.sheet_bytes.specs.Ledger.{isSheets, closedIn, linesOf}
-use Rattle.sheet_figures.specs.Figures.{different, repeated, improper, sum88, lineOf}
+use Rattle.sheet_figures.specs.Figures.{different, repeated, improper, sum88, lineWith}
 use Rattle.sheet_figures.specs.Digits.{plus, minus, sumText, Reads}
 
 -- lines, different serials, serials on more than one line, improper words, a byte each; then the sum
@@ -49,13 +49,13 @@ FiguresDetermined =
     (sheets out : List ℕ) (r q : ℕ) (o p : List ℕ) → Tells (figuresOf sheets out) r o → Tells (figuresOf sheets out) q p → (r ≡ q) × (o ≡ p)
 
 -- 8 for another length of `out`, whatever the sheets; then 13 for bytes that do not stand for sheets; neither writes; else 0, and all 53 bytes are written
-pub record Answers (call : List ℕ → List ℕ → Told) : Type 0 where
+pub record CallAnswers (call : List ℕ → List ℕ → Told) : Type 0 where
   pub no-room : (sheets out : List ℕ) → (length out ≡ 53 → ⊥) → call sheets out ≡ record { result = 8; out = out }
   pub no-sheets : (sheets out : List ℕ) → length out ≡ 53 → isSheets sheets ≡ false → call sheets out ≡ record { result = 13; out = out }
   pub told : (sheets out : List ℕ) → length out ≡ 53 → isSheets sheets ≡ true → call sheets out ≡ record { result = 0; out = written (linesOf sheets) }
 
 abbrev pub FiguresAnswered : Type 0
-FiguresAnswered = Answers figuresOf
+FiguresAnswered = CallAnswers figuresOf
 
 -- the same sheets in any order: the same bytes
 abbrev pub AnyOrderWritten : Type 0
@@ -94,6 +94,6 @@ notProper = 2 ^ 24 + 2 ^ 22
 
 -- 1 and -1 cancel, and what is not proper is counted and not added; -1 is 2 ^ 88 below zero; twice the greatest has six digits F
 pub record Examples : Type 0 where
-  pub cancelled : written (lineOf 5 one ∷ lineOf 5 minusOne ∷ lineOf 5 notProper ∷ lineOf 7 0 ∷ []) ≡ 4 ∷ 2 ∷ 1 ∷ 1 ∷ plus ∷ replicate 48 48
-  pub below : written (lineOf 5 minusOne ∷ []) ≡ 1 ∷ 1 ∷ 0 ∷ 0 ∷ minus ∷ (replicate 25 48 ++ (49 ∷ replicate 22 48))
-  pub above : written (lineOf 5 greatest ∷ lineOf 6 greatest ∷ []) ≡ 2 ∷ 2 ∷ 0 ∷ 0 ∷ plus ∷ (replicate 10 48 ++ (replicate 6 70 ++ replicate 32 48))
+  pub cancelled : written (lineWith 5 one ∷ lineWith 5 minusOne ∷ lineWith 5 notProper ∷ lineWith 7 0 ∷ []) ≡ 4 ∷ 2 ∷ 1 ∷ 1 ∷ plus ∷ replicate 48 48
+  pub below : written (lineWith 5 minusOne ∷ []) ≡ 1 ∷ 1 ∷ 0 ∷ 0 ∷ minus ∷ (replicate 25 48 ++ (49 ∷ replicate 22 48))
+  pub above : written (lineWith 5 greatest ∷ lineWith 6 greatest ∷ []) ≡ 2 ∷ 2 ∷ 0 ∷ 0 ∷ plus ∷ (replicate 10 48 ++ (replicate 6 70 ++ replicate 32 48))

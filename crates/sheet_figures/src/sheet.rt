@@ -1,5 +1,5 @@
 // What a line of the list says: a serial and the word of slot 0.
-use little::four_at;
+use numbers::four_at;
 use sheet_bytes::bytes::PLACE_BYTES;
 ghost use mathlib.Core.Path.{_≡_};
 ghost use mathlib.Core.List.{[]};

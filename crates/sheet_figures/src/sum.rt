@@ -36,35 +36,6 @@ fn add_at(sum: [u8; 24], at: usize, x: u32) -> [u8; 24]
     acc
 }
 
-// 2 to a power under 8.
-fn weight(n: u32) -> u32
-    requires { ⌜ n < 8 ⌝ }
-    ensures { λ r. ⌜ (r ≡ 2 ^ n) × (r ≤ 128) ⌝ }
-{
-    if n < 1 {
-        return 1;
-    }
-    if n < 2 {
-        return 2;
-    }
-    if n < 3 {
-        return 4;
-    }
-    if n < 4 {
-        return 8;
-    }
-    if n < 5 {
-        return 16;
-    }
-    if n < 6 {
-        return 32;
-    }
-    if n < 7 {
-        return 64;
-    }
-    128
-}
-
 // The magnitude of a word, times 2 ^ 88, added.
 fn add_size(sum: [u8; 24], word: u32) -> [u8; 24]
     requires { ⌜ le sum + size88 word < sumLimit ⌝ }
@@ -72,7 +43,7 @@ fn add_size(sum: [u8; 24], word: u32) -> [u8; 24]
 {
     let biased = (word / 0x100_0000 + 64) % 128;
     let mantissa = word % 0x100_0000;
-    add_at(sum, (biased / 8) as usize, mantissa * weight(biased % 8))
+    add_at(sum, (biased / 8) as usize, mantissa << (biased % 8))
 }
 
 // One sum less another, and 1 where it was the smaller.

@@ -10,7 +10,7 @@ use lib.Dec.{eqb, lit<, lit≤}
 use lib.ListN.{length, getD, set, take, drop, replicate, length-set}
 use lib.Seq.{getD-take, getD-set-same, getD-set-other, drop-drop, take-add}
 use borrow.Author.Tests.{ne-eqb}
-use Rattle.little.specs.Little.{wordAt, le4}
+use Rattle.numbers.specs.Little.{wordAt, le4}
 use Rattle.record_files.proofs.Tests.{either-lt, either-eq}
 use Rattle.sheet_bytes.specs.Ledger.{closedIn, isOpen, keptBits, bytesAt, laidAt, withBit, dropped, opened, keptIn, closed, lines, linesOf}
 use Rattle.sheet_bytes.proofs.Ledgers.{length-laid, length-line}

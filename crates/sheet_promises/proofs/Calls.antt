@@ -11,7 +11,7 @@ use lib.Seq.{take-append-seam, drop-append-seam, length-take-le, getD-drop}
 use borrow.Author.Tests.{ne-eqb, leb-true}
 use Rattle.terms.specs.Settings.{modeOf, ruleOf}
 use Rattle.chip.specs.Step.{given}
-use Rattle.little.specs.Little.{wordAt}
+use Rattle.numbers.specs.Little.{wordAt}
 use Rattle.stack.proofs.Words.{bytes-take}
 use Rattle.record_files.proofs.Tests.{either-lt, either-eq}
 use Rattle.record_files.proofs.Through.{tally}
@@ -36,10 +36,10 @@ use Rattle.sheet_promises.specs.SheetsCall.{SheetsAllowed, SheetsDetermi
 use Rattle.sheet_promises.specs.SheetsCall.{SheetsKept}
 use Rattle.sheet_promises.specs.PowerCut.{PowerCut}
 use Rattle.sheet_promises.specs.StruckOut.{StruckOut}
-use Rattle.sheet_promises.specs.OwnWords.{Job, answerTo, sheetsAfter, historyOver, Lent, AllLent, Every, Owned, OwnWords}
+use Rattle.sheet_promises.specs.OwnWords.{Job, answerTo, sheetsAfter, historyOver, JobLent, AllLent, Every, Owned, OwnWords}
 use Rattle.sheet_promises.proofs.Measures.{bytes-are, state-is, sheets-is, closed-sheets}
 use Rattle.sheet_promises.proofs.Turns.{four-exact}
-use Rattle.sheet_promises.proofs.CardHistory.{Told, Struck}
+use Rattle.sheet_promises.proofs.CardHistory.{AnsweredAndListed, Struck}
 use Rattle.sheet_promises.proofs.Split.{no-bytes}
 use Rattle.sheet_promises.proofs.Standing.{at-start}
 use Rattle.sheet_promises.proofs.Agreeing.{Agrees}
@@ -215,7 +215,8 @@ power-cut mode rule state sheets input replies report B I n o z k most =
     let e : runOf h input (length replies) .refusal ≡ 0 = rw whole at z in
     let u = runOf h (take k input) (length replies) in
     let back = read-back (u .written) replies (u .refusal) (u .taken) (few-bytes h (take k input) (length replies) i) in
-    let t : Told c (length replies) (take k input) (u .written) (u .state .sheets) = cut-told c sheets input (length replies) (p .sheets-good) n o e k most in
+    let t : AnsweredAndListed c (length replies) (take k input) (u .written) (u .state .sheets) = cut-told c sheets input (length replies) (p .sheets-good)
+    n o e k most in
     let past = file-history mode rule (p .mode-good) (p .rule-good) state (bytes-are state B) (p .state-good) (length replies) (take k input)
     (recordsOf (u .written)) [] (bytes-take k input (bytes-are input I)) i in
     rw part record {
@@ -275,7 +276,7 @@ struck-out mode rule state sheets input replies report z =
 -- ---- calls one after another
 
 -- a call goes on from the history of those before it
-module _ (j : Job) (t : Lent j) (sheets : List ℕ) (es : List Entry) (ag : Agrees es sheets) (q : Every Whole es) where
+module _ (j : Job) (t : JobLent j) (sheets : List ℕ) (es : List Entry) (ag : Agrees es sheets) (q : Every Whole es) where
   abbrev After : Called → Type 0
   After c =
       Agrees (historyFrom (j .mode) (j .rule) (j .state) (length (j .replies)) [] (recordsOf (j .input)) (recordsOf (repliesIn (c .replies) (c .report))) es)

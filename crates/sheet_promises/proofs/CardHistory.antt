@@ -4,7 +4,7 @@ use mathlib.Core.Path.{_≡_}
 use mathlib.Core.List.{List, [], _∷_, _++_}
 use Prim.Native.Nat.{ℕ}
 use lib.ListN.{length, getD}
-use Rattle.little.specs.Little.{le4}
+use Rattle.numbers.specs.Little.{le4}
 use Rattle.error_memory.specs.Memory.{Card}
 use Rattle.record_runs.specs.Run.{Outcome, runOf as coreRun}
 use Rattle.sheets.specs.Step.{topOf}
@@ -26,7 +26,7 @@ cardHistory c room before (r ∷ rs) (q ∷ qs) es =
     cardHistory c room (before ++ (r ∷ [])) rs qs (entryOn (cardAfter c room before) r (getD q 4 0) ∷ es)
 
 -- every whole record is answered, and the list is that of the closings
-pub record Told (c : Card) (room : ℕ) (file written sheets : List ℕ) : Type 0 where
+pub record AnsweredAndListed (c : Card) (room : ℕ) (file written sheets : List ℕ) : Type 0 where
   pub all-answered : length (recordsOf written) ≡ length (recordsOf file)
   pub list-is : linesOf sheets ≡ sheetsIn (cardHistory c room [] (recordsOf file) (recordsOf written) [])
 

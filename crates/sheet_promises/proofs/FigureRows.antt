@@ -8,4 +8,4 @@ use Rattle.sheet_promises.specs.FigureRows.{FigureRows}
 
 pub figure-rows : FigureRows
 unfolding figuresOf isSheets sum88 value size88
-figure-rows = (refl, (refl, (refl, (refl, (refl, (refl, (refl, (refl, (refl, (refl, (refl, (refl, tt))))))))))))
+figure-rows = refl

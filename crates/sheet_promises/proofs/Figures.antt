@@ -6,7 +6,7 @@ use Prim.Native.Nat.{ℕ, zero, suc, _+_, _*_, _/_, _%_}
 use lib.Dec.{eqb, leb}
 use lib.ListN.{length, drop, replicate}
 use lib.IntN.{ℤ, pos, negsuc, negℤ, _+ℤ_, natAbs}
-use Rattle.whole.specs.Signed.{withSign}
+use Rattle.numbers.specs.Signed.{withSign}
 use Rattle.float.specs.Word as float
 use Rattle.sheet_bytes.specs.Ledger as ledger
 use Rattle.sheet_figures.specs.Figures as crate-figures

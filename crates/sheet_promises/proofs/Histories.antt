@@ -7,7 +7,7 @@ use native.Mathlib.Omega.{arith}
 use native.Mathlib.Nat.{le-refl}
 use lib.ListN.{length, getD, take, drop, length-append, length-drop, length-replicate}
 use lib.Seq.{length-take-le}
-use Rattle.little.specs.Little.{wordAt}
+use Rattle.numbers.specs.Little.{wordAt}
 use Rattle.stack.specs.Stack.{Bytes as StackBytes}
 use Rattle.stack.proofs.Words.{bytes-append, bytes-take, bytes-drop}
 use Rattle.error_memory.specs.Memory.{Card}

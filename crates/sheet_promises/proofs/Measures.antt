@@ -7,7 +7,7 @@ use lib.ListN.{length, set, take, drop, replicate, length-append, length-drop, l
 use lib.Seq.{take-append-le, take-append-add, drop-append-le, length-take-le, set-split, take-take}
 use Rattle.record_files.proofs.Through.{drop-take}
 use Rattle.stack.specs.Stack.{tos, Bytes as StackBytes}
-use Rattle.little.specs.Little.{le4}
+use Rattle.numbers.specs.Little.{le4}
 use Rattle.state_bytes.specs.Bytes.{isState as storedState}
 use Rattle.sheet_bytes.specs.Ledger as ledger
 use Rattle.sheet_bytes.proofs.Laid.{parts}

@@ -1,31 +1,29 @@
 -- 02, ask 11: a keep that was answered 0 had nothing pending, and a slot. Every run on the slice goes on from the history of those before it. Assumes nothing.
-use mathlib.Core.Path.{_≡_, refl, sym, subst, _∙_}
+use mathlib.Core.Path.{_≡_, refl, sym, _∙_}
 use mathlib.Core.Bool.{Bool, true, false, false≢true}
-use mathlib.Core.List.{List, [], _∷_, _++_}
+use mathlib.Core.List.{List}
 use Prim.Native.Nat.{ℕ, _+_, _-_, _≤_, _<_}
 use native.Mathlib.Omega.{arith}
 use lib.Dec.{lit<}
-use lib.ListN.{length, getD, take, drop}
+use lib.ListN.{getD, take, drop}
 use lib.Seq.{getD-take, getD-drop}
 use borrow.Author.Tests.{lt-ltb, le-ltb, ne-eqb, eqb-true}
-use Rattle.little.specs.Little.{wordAt}
-use Rattle.record_files.specs.Run.{Turned, Outcome}
+use Rattle.numbers.specs.Little.{wordAt}
+use Rattle.record_files.specs.Run.{Turned}
 use Rattle.record_files.proofs.Tests.{either-lt, either-eq}
-use Rattle.record_files.proofs.Through.{through}
 use Rattle.error_memory.specs.Memory.{Card}
 use Rattle.record_runs.specs.Record.{turnOf}
 use Rattle.sheet_bytes.specs.Ledger.{isOpen}
 use Rattle.sheet_bytes.specs.Entering.{Entered, numberOf, payloadFor, keepOf}
-use Rattle.sheets.specs.Step.{Held, topOf, entryOf, coreBy, lineOf, runOf}
-use Rattle.sheets.proofs.Lines.{Owns, done, taken, core-took, lawful}
+use Rattle.sheets.specs.Step.{Held, topOf, entryOf, coreBy, runOf}
+use Rattle.sheets.proofs.Lines.{Owns, done, taken, core-took}
 use Rattle.sheet_promises.specs.Records.{recordsOf}
 use Rattle.sheet_promises.specs.History.{Entry, keeps}
 use Rattle.sheet_promises.proofs.CardHistory.{entryOn, cardHistory}
 use Rattle.sheet_promises.specs.OwnWords.{Every}
 use Rattle.sheet_promises.proofs.Turns.{word-front}
-use Rattle.sheet_promises.proofs.Split.{no-bytes}
 use Rattle.sheet_promises.proofs.Standing.{Stands}
-use Rattle.sheet_promises.proofs.Telling.{tells, its-records, its-replies, no-replies}
+use Rattle.sheet_promises.proofs.Telling.{along}
 
 -- ---- a keep that was answered 0 had nothing pending, and a slot
 
@@ -64,23 +62,23 @@ module _ (c : Card) (bytes sheets : List ℕ) (k : wordAt bytes 2 ≡ 257) where
           (λ h. kept-so o h (c .chip .pending) refl)
 
 -- of every record that is taken
-abbrev Tells : Held → List ℕ → Turned Held → Type 0
-Tells h l t = Whole (entryOn (h .card) (take (t .size) l) (getD (t .reply) 4 0))
+abbrev TakenWhole : Held → List ℕ → Turned Held → Type 0
+TakenWhole h l t = Whole (entryOn (h .card) (take (t .size) l) (getD (t .reply) 4 0))
 
-own-whole : (h : Held) (l : List ℕ) → Owns l → Tells h l (done h l)
+own-whole : (h : Held) (l : List ℕ) → Owns l → TakenWhole h l (done h l)
 own-whole h l o =
-    either-eq (λ (n : ℕ). Tells h l (done h l)) (wordAt l 2) 257 0 0 keeping
+    either-eq (λ (n : ℕ). TakenWhole h l (done h l)) (wordAt l 2) 257 0 0 keeping
     (λ n. not-keep (entryOn (h .card) (take (4 + payloadFor (wordAt l 2)) l)
     (numberOf (entryOf h (wordAt l 2) (take (payloadFor (wordAt l 2)) (drop 4 l)) .refusal)))
     (λ y. n (sym (word-front (4 + payloadFor (wordAt l 2)) l 2 (omega arith)) ∙ y)))
   where
-    keeping : wordAt l 2 ≡ 257 → Tells h l (done h l)
+    keeping : wordAt l 2 ≡ 257 → TakenWhole h l (done h l)
     keeping k =
         let g : getD (take 1 (drop 4 l)) 0 0 ≡ getD (take 5 l) 4 0 = getD-take 1 (drop 4 l) 0 0 (lit< tt) ∙ getD-drop 4 l 0 0
         ∙ sym (getD-take 5 l 4 0 (lit< tt)) in
         rw (k, g) (keep-whole (h .card) (take 5 l) (h .sheets) (word-front 5 l 2 (lit< tt) ∙ k))
 
-core-whole : (h : Held) (l : List ℕ) (room : ℕ) → turnOf (h .card) l room .refusal ≡ 0 → Tells h l (coreBy h (wordAt l 2) (turnOf (h .card) l room))
+core-whole : (h : Held) (l : List ℕ) (room : ℕ) → turnOf (h .card) l room .refusal ≡ 0 → TakenWhole h l (coreBy h (wordAt l 2) (turnOf (h .card) l room))
 core-whole h l room z =
     let t = turnOf (h .card) l room in
     let c = core-took (h .card) l room z in
@@ -90,22 +88,8 @@ core-whole h l room z =
 
 -- ---- and so of a run
 
-abbrev pub Keeping : Held → List ℕ → ℕ → Outcome Held → Type 0
-Keeping h l room o =
-    (c : Card) (all : ℕ) (before : List (List ℕ)) (es : List Entry) → Stands c all before (h .card) room → Every Whole es
-    → Every Whole (cardHistory c all before (recordsOf l) (recordsOf (o .written)) es)
-
-pub keeping : (h : Held) (l : List ℕ) (room : ℕ) → Keeping h l room (runOf h l room)
+pub keeping : (h : Held) (l : List ℕ) (room : ℕ) (c : Card) (all : ℕ) (before : List (List ℕ)) (es : List Entry) → Stands c all before (h .card) room
+    → Every Whole es → Every Whole (cardHistory c all before (recordsOf l) (recordsOf (runOf h l room .written)) es)
 keeping =
-    through lawful Keeping
-    (λ h room c all before es s q. rw no-bytes q)
-    (λ h l room p z c all before es s q. rw (no-bytes, no-replies c all before (recordsOf l) es) q)
-    (λ h l room p z ih c all before es s q.
-    let t = lineOf h l room in
-    let o = runOf (t .state) (drop (t .size) l) (room - length (t .reply)) in
-    let r : List ℕ = take (t .size) l in
-    let w : Tells h l t = taken (Tells h l) h l room (λ o q g. own-whole h l o) (λ y. core-whole h l room y) z in
-    rw (its-records h l room z (o .written), its-replies h l room z (o .written))
-    (subst (λ (k : Card). Every Whole (cardHistory c all (before ++ (r ∷ [])) (recordsOf (drop (t .size) l)) (recordsOf (o .written))
-    (entryOn k r (getD (t .reply) 4 0) ∷ es))) (sym (s .card-is))
-    (ih c all (before ++ (r ∷ [])) (entryOn (h .card) r (getD (t .reply) 4 0) ∷ es) (tells h l room p z .stands c all before s) (w, q))))
+    along (λ es s. Every Whole es)
+    (λ h l room p z es q. (taken (TakenWhole h l) h l room (λ o q g. own-whole h l o) (λ y. core-whole h l room y) z, q))

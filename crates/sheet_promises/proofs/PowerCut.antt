@@ -6,7 +6,7 @@ use Prim.Native.Nat.{ℕ, suc, _+_, _-_, _≤_, _<_}
 use native.Mathlib.Omega.{arith}
 use lib.Dec.{lit≤}
 use lib.ListN.{length, getD, take, drop}
-use Rattle.little.specs.Little.{wordAt}
+use Rattle.numbers.specs.Little.{wordAt}
 use Rattle.terms.specs.declared.Refusal.the-variants.{BadLength}
 use Rattle.terms.specs.Limits.{mostPayload}
 use Rattle.record_files.specs.Run.{Turned, Outcome}
@@ -19,17 +19,18 @@ use Rattle.record_runs.specs.Record.{Push, Pop, Command, Status, Reset, Acknowl
 use Rattle.record_runs.specs.declared.head.Frame.{Frame}
 use Rattle.record_runs.specs.Record.{Head}
 use Rattle.record_runs.specs.Record.{Whole, Stop}
-use Rattle.record_runs.specs.declared.head.EventKind.{EventKind}
-use Rattle.record_runs.specs.declared.head.EventKind.the-variants.{Push as PushKind, Pop as PopKind, Command as CommandKind, Status as StatusKind}
-use Rattle.record_runs.specs.declared.head.EventKind.the-variants.{Reset as ResetKind, Acknowledge as AcknowledgeKind, Recall as RecallKind}
-use Rattle.record_runs.specs.declared.head.EventKind.the-variants.{Forget as ForgetKind, Unknown as UnknownKind}
-use Rattle.record_runs.specs.Record.{exactly, kindNamed, rowBy, rowUnder, headIn, headUnder, headNumber, frameUnder, answeredOf, turnBy, turnUnder, turnOf}
+use Rattle.terms.specs.declared.EventKind.{EventKind}
+use Rattle.terms.specs.declared.EventKind.the-variants.{Push as PushKind, Pop as PopKind, Command as CommandKind, Status as StatusKind}
+use Rattle.terms.specs.declared.EventKind.the-variants.{Reset as ResetKind, Acknowledge as AcknowledgeKind, Recall as RecallKind}
+use Rattle.terms.specs.declared.EventKind.the-variants.{Forget as ForgetKind, Unknown as UnknownKind}
+use Rattle.terms.specs.Kind.{kindNamed}
+use Rattle.record_runs.specs.Record.{exactly, rowBy, rowUnder, headIn, headUnder, headNumber, frameUnder, answeredOf, turnBy, turnUnder, turnOf}
 use Rattle.sheet_bytes.specs.Ledger.{isSheets, closedIn, isOpen}
 use Rattle.sheet_bytes.proofs.Ledgers.{is-long}
 use Rattle.sheets.specs.Step.{Held, held, lineOf, runOf}
 use Rattle.sheets.proofs.Lines.{ways, lawful}
 use Rattle.sheet_promises.specs.Records.{recordsOf}
-use Rattle.sheet_promises.proofs.CardHistory.{Told}
+use Rattle.sheet_promises.proofs.CardHistory.{AnsweredAndListed}
 use Rattle.sheet_promises.proofs.Split.{none-of, no-bytes}
 use Rattle.sheet_promises.proofs.Standing.{at-start}
 use Rattle.sheet_promises.proofs.Agreeing.{Agrees}
@@ -97,12 +98,12 @@ six-line h l room =
 
 -- ---- every whole record has its reply
 
-abbrev Answers : Held → List ℕ → ℕ → Outcome Held → Type 0
-Answers h l room o = ((o .refusal ≡ 0 → ⊥) → o .refusal ≡ 6) → length (recordsOf (o .written)) ≡ length (recordsOf l)
+abbrev AllAnswered : Held → List ℕ → ℕ → Outcome Held → Type 0
+AllAnswered h l room o = ((o .refusal ≡ 0 → ⊥) → o .refusal ≡ 6) → length (recordsOf (o .written)) ≡ length (recordsOf l)
 
-pub answers : (h : Held) (l : List ℕ) (room : ℕ) → Answers h l room (runOf h l room)
+pub answers : (h : Held) (l : List ℕ) (room : ℕ) → AllAnswered h l room (runOf h l room)
 answers =
-    through lawful Answers
+    through lawful AllAnswered
     (λ h room e. refl)
     (λ h l room p z e. sym (ap length (none-of l (six-line h l room (e z))) ∙ rw no-bytes))
     (λ h l room p z ih e.
@@ -124,7 +125,7 @@ empty sheets g n o = record {
 -- a file that would have ended with 0, cut after any byte and run from the same card in the same room, on an empty list with no sheet open
 pub power-cut : (c : Card) (sheets l : List ℕ) (room : ℕ) → isSheets sheets ≡ true → closedIn sheets ≡ 0 → isOpen sheets ≡ false
     → runOf (held c sheets) l room .refusal ≡ 0 → (k : ℕ) → k ≤ length l
-    → Told c room (take k l) (runOf (held c sheets) (take k l) room .written) (runOf (held c sheets) (take k l) room .state .sheets)
+    → AnsweredAndListed c room (take k l) (runOf (held c sheets) (take k l) room .written) (runOf (held c sheets) (take k l) room .state .sheets)
 power-cut c sheets l room g n o e k most =
     let d = cut-anywhere lawful (held c sheets) l room e k most in
     let i = d .1 in

@@ -7,7 +7,7 @@ use lib.ListN.{length, getD, take, drop, length-drop, length-append, List·getD-
 use lib.Seq.{take-append-seam, drop-append-seam}
 use borrow.Author.Tests.{lt-ltb, le-ltb}
 use Rattle.sheet_promises.specs.Records.{split, recordsOf}
-use Rattle.little.specs.Little.{wordAt}
+use Rattle.numbers.specs.Little.{wordAt}
 use Rattle.record_files.proofs.Tests.{either-lt}
 
 -- more steps than bytes make no difference

@@ -6,7 +6,7 @@ use mathlib.Core.List.{List, [], _∷_, _++_, append-assoc, append-nil}
 use Prim.Native.Nat.{ℕ, _+_, _-_, _≤_, _<_}
 use native.Mathlib.Omega.{arith}
 use lib.ListN.{length, take, length-append}
-use Rattle.little.specs.Little.{wordAt}
+use Rattle.numbers.specs.Little.{wordAt}
 use Rattle.record_files.specs.Run.{Turned, Outcome, after, took}
 use Rattle.record_files.proofs.Append.{nothing, alone, appended}
 use Rattle.error_memory.specs.Memory.{Card}

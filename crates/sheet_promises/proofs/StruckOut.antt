@@ -9,7 +9,7 @@ use lib.Dec.{ltb}
 use lib.ListN.{length, take, drop, length-append}
 use lib.Seq.{take-at, drop-at, length-take-le}
 use borrow.Author.Tests.{lt-ltb, le-ltb}
-use Rattle.little.specs.Little.{wordAt}
+use Rattle.numbers.specs.Little.{wordAt}
 use Rattle.record_files.specs.Run.{Turned, Outcome, after}
 use Rattle.record_files.proofs.Through.{through}
 use Rattle.record_files.proofs.Append.{nothing, first-taken}

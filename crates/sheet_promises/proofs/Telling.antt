@@ -8,7 +8,7 @@ use lib.Dec.{lit<, lit≤}
 use lib.ListN.{length, getD, take, drop, length-drop}
 use lib.Seq.{getD-take, getD-drop, take-take, length-take-le}
 use borrow.Author.Tests.{lt-ltb, le-ltb, eq-eqb, ne-eqb}
-use Rattle.little.specs.Little.{wordAt}
+use Rattle.numbers.specs.Little.{wordAt}
 use Rattle.record_files.specs.Run.{Turned, Outcome}
 use Rattle.record_files.proofs.Tests.{either-lt, either-eq}
 use Rattle.record_files.proofs.Through.{through, drop-take}
@@ -83,7 +83,7 @@ module _ (c : Card) (bytes : List ℕ) (es : List Entry) (sheets : List ℕ) (ag
 -- ---- a record that is taken
 
 -- what it leaves: the core stands behind it, and the sheets agree with it
-pub record Tells (h : Held) (l : List ℕ) (room : ℕ) (t : Turned Held) : Type 0 where
+pub record TakenRecord (h : Held) (l : List ℕ) (room : ℕ) (t : Turned Held) : Type 0 where
   pub stands : (c : Card) (all : ℕ) (before : List (List ℕ)) → Stands c all before (h .card) room
       → Stands c all (before ++ (take (t .size) l ∷ [])) (t .state .card) (room - length (t .reply))
   pub agrees : (es : List Entry) → Agrees es (h .sheets) → Agrees (entryOn (h .card) (take (t .size) l) (getD (t .reply) 4 0) ∷ es) (t .state .sheets)
@@ -92,7 +92,7 @@ abbrev Goal : Held → List ℕ → List Entry → Type 0
 Goal h l es =
     So (h .card) (take (4 + payloadFor (wordAt l 2)) l) es (entryOf h (wordAt l 2) (take (payloadFor (wordAt l 2)) (drop 4 l)))
 
-own-tells : (h : Held) (l : List ℕ) (room : ℕ) → Owns l → wordAt l 0 ≡ 2 + payloadFor (wordAt l 2) → Tells h l room (done h l)
+own-tells : (h : Held) (l : List ℕ) (room : ℕ) → Owns l → wordAt l 0 ≡ 2 + payloadFor (wordAt l 2) → TakenRecord h l room (done h l)
 own-tells h l room o q = record {
   stands = λ c all before s.
       let k = word-front (4 + payloadFor (wordAt l 2)) l 2 (omega arith) in
@@ -123,7 +123,7 @@ own-tells h l room o q = record {
     closing es ag k = rw k (close-tells (h .card) (take 4 l) es (h .sheets) ag (word-front 4 l 2 (lit< tt) ∙ k))
 
 core-tells : (h : Held) (l : List ℕ) (room : ℕ) → turnOf (h .card) l room .refusal ≡ 0 → 0 < length l
-    → Tells h l room (coreBy h (wordAt l 2) (turnOf (h .card) l room))
+    → TakenRecord h l room (coreBy h (wordAt l 2) (turnOf (h .card) l room))
 core-tells h l room z p =
     let t = turnOf (h .card) l room in
     let c = core-took (h .card) l room z in
@@ -141,8 +141,8 @@ core-tells h l room z p =
           (λ y. quiet-dropped e es (h .sheets) q ag) (λ y. quiet e es (h .sheets) q ag));
     }
 
-pub tells : (h : Held) (l : List ℕ) (room : ℕ) → 0 < length l → lineOf h l room .refusal ≡ 0 → Tells h l room (lineOf h l room)
-tells h l room p = taken (Tells h l room) h l room (λ o q g. own-tells h l room o q) (λ z. core-tells h l room z p)
+pub tells : (h : Held) (l : List ℕ) (room : ℕ) → 0 < length l → lineOf h l room .refusal ≡ 0 → TakenRecord h l room (lineOf h l room)
+tells h l room p = taken (TakenRecord h l room) h l room (λ o q g. own-tells h l room o q) (λ z. core-tells h l room z p)
 
 -- ---- a run
 
@@ -164,23 +164,29 @@ module _ (h : Held) (l : List ℕ) (room : ℕ) (z : lineOf h l room .refusal �
       record-then (lineOf h l room .reply) w
       (taken (λ t. length (t .reply) ≡ 2 + wordAt (t .reply) 0) h l room (λ o q g. refl) (λ y. core-took (h .card) l room y .reply-framed) z)
 
--- over any history that went before, of a file whose first records the core has behind it
-abbrev Follows : Held → List ℕ → ℕ → Outcome Held → Type 0
-Follows h l room o =
-    (c : Card) (all : ℕ) (before : List (List ℕ)) (es : List Entry) → Stands c all before (h .card) room → Agrees es (h .sheets)
-    → Agrees (cardHistory c all before (recordsOf l) (recordsOf (o .written)) es) (o .state .sheets)
+-- over any history that went before, of a file whose first records the core has behind it: what goes on over every record that is taken goes on over a run
+module _ (P : List Entry → List ℕ → Type 0)
+    (goes-on : (h : Held) (l : List ℕ) (room : ℕ) → 0 < length l → lineOf h l room .refusal ≡ 0 → (es : List Entry) → P es (h .sheets)
+    → P (entryOn (h .card) (take (lineOf h l room .size) l) (getD (lineOf h l room .reply) 4 0) ∷ es) (lineOf h l room .state .sheets)) where
+  abbrev Along : Held → List ℕ → ℕ → Outcome Held → Type 0
+  Along h l room o =
+      (c : Card) (all : ℕ) (before : List (List ℕ)) (es : List Entry) → Stands c all before (h .card) room → P es (h .sheets)
+      → P (cardHistory c all before (recordsOf l) (recordsOf (o .written)) es) (o .state .sheets)
 
-pub follows : (h : Held) (l : List ℕ) (room : ℕ) → Follows h l room (runOf h l room)
-follows =
-    through lawful Follows
-    (λ h room c all before es s ag. rw no-bytes ag)
-    (λ h l room p z c all before es s ag. rw (no-bytes, no-replies c all before (recordsOf l) es) ag)
-    (λ h l room p z ih c all before es s ag.
-    let t = lineOf h l room in
-    let o = runOf (t .state) (drop (t .size) l) (room - length (t .reply)) in
-    let tell = tells h l room p z in
-    let r : List ℕ = take (t .size) l in
-    rw (its-records h l room z (o .written), its-replies h l room z (o .written))
-    (subst (λ (k : Card). Agrees (cardHistory c all (before ++ (r ∷ [])) (recordsOf (drop (t .size) l)) (recordsOf (o .written))
-    (entryOn k r (getD (t .reply) 4 0) ∷ es)) (o .state .sheets)) (sym (s .card-is))
-    (ih c all (before ++ (r ∷ [])) (entryOn (h .card) r (getD (t .reply) 4 0) ∷ es) (tell .stands c all before s) (tell .agrees es ag))))
+  pub along : (h : Held) (l : List ℕ) (room : ℕ) → Along h l room (runOf h l room)
+  along =
+      through lawful Along
+      (λ h room c all before es s q. rw no-bytes q)
+      (λ h l room p z c all before es s q. rw (no-bytes, no-replies c all before (recordsOf l) es) q)
+      (λ h l room p z ih c all before es s q.
+      let t = lineOf h l room in
+      let o = runOf (t .state) (drop (t .size) l) (room - length (t .reply)) in
+      let r : List ℕ = take (t .size) l in
+      rw (its-records h l room z (o .written), its-replies h l room z (o .written))
+      (subst (λ (k : Card). P (cardHistory c all (before ++ (r ∷ [])) (recordsOf (drop (t .size) l)) (recordsOf (o .written))
+      (entryOn k r (getD (t .reply) 4 0) ∷ es)) (o .state .sheets)) (sym (s .card-is))
+      (ih c all (before ++ (r ∷ [])) (entryOn (h .card) r (getD (t .reply) 4 0) ∷ es) (tells h l room p z .stands c all before s) (goes-on h l room p z es q))))
+
+pub follows : (h : Held) (l : List ℕ) (room : ℕ) (c : Card) (all : ℕ) (before : List (List ℕ)) (es : List Entry) → Stands c all before (h .card) room
+    → Agrees es (h .sheets) → Agrees (cardHistory c all before (recordsOf l) (recordsOf (runOf h l room .written)) es) (runOf h l room .state .sheets)
+follows = along Agrees (λ h l room p z es ag. tells h l room p z .agrees es ag)

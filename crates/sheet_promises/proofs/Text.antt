@@ -8,7 +8,7 @@ use lib.Dec.{ltb}
 use lib.ListN.{length, getD, take, drop, length-append, length-drop, List·getD-append}
 use lib.Seq.{take-at, drop-at, drop-append-le}
 use borrow.Author.Tests.{le-leb}
-use Rattle.little.specs.Little.{wordAt}
+use Rattle.numbers.specs.Little.{wordAt}
 use Rattle.terms.specs.Limits.{mostPayload}
 use Rattle.terms.specs.Settings.{modeOf, ruleOf}
 use Rattle.chip.specs.Step.{given}

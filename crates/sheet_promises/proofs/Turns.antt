@@ -13,7 +13,7 @@ use borrow.Author.Tests.{lt-ltb, le-ltb, ltb-true, ltb-false, eq-eqb, ne-eqb}
 use Rattle.terms.specs.declared.Refusal.the-variants.{NoRoom}
 use Rattle.terms.specs.Limits.{mostPayload}
 use Rattle.terms.specs.Settings.{Settings}
-use Rattle.little.specs.Little.{wordAt, le4}
+use Rattle.numbers.specs.Little.{wordAt, le4}
 use Rattle.stack.specs.Stack.{tos}
 use Rattle.stack.proofs.Words.{byte-at}
 use Rattle.error_memory.specs.Memory.{Card}
@@ -22,13 +22,14 @@ use Rattle.record_files.specs.Run.{Turned, Outcome, idle}
 use Rattle.record_files.proofs.Append.{alone, first-stops}
 use Rattle.record_files.proofs.Tests.{either-lt, either-eq}
 use Rattle.record_files.proofs.Through.{Tally, tally}
-use Rattle.record_runs.specs.declared.head.EventKind.{EventKind}
-use Rattle.record_runs.specs.declared.head.EventKind.the-variants.{Push as PushKind, Pop as PopKind, Command as CommandKind, Status as StatusKind}
-use Rattle.record_runs.specs.declared.head.EventKind.the-variants.{Reset as ResetKind, Acknowledge as AcknowledgeKind, Recall as RecallKind}
-use Rattle.record_runs.specs.declared.head.EventKind.the-variants.{Forget as ForgetKind, Unknown as UnknownKind}
+use Rattle.terms.specs.declared.EventKind.{EventKind}
+use Rattle.terms.specs.declared.EventKind.the-variants.{Push as PushKind, Pop as PopKind, Command as CommandKind, Status as StatusKind}
+use Rattle.terms.specs.declared.EventKind.the-variants.{Reset as ResetKind, Acknowledge as AcknowledgeKind, Recall as RecallKind}
+use Rattle.terms.specs.declared.EventKind.the-variants.{Forget as ForgetKind, Unknown as UnknownKind}
+use Rattle.terms.specs.Kind.{kindNamed}
 use Rattle.record_runs.specs.Record.{Head}
 use Rattle.record_runs.specs.Record.{Whole, Stop}
-use Rattle.record_runs.specs.Record.{payloadOf as payloadIn, answeredOf, answerOf, worked, kindNamed, rowBy, rowUnder, headUnder, turnBy, turnUnder, turnOf}
+use Rattle.record_runs.specs.Record.{payloadOf as payloadIn, answeredOf, answerOf, worked, rowBy, rowUnder, headUnder, turnBy, turnUnder, turnOf}
 use Rattle.record_runs.specs.Record.{stopped as stoppedAt}
 use Rattle.record_runs.specs.Run.{runOf as coreRun}
 use Rattle.record_runs.proofs.Heads.{short, low, high, cut, whole}
@@ -92,20 +93,25 @@ frame-stops c l room =
 
 -- ---- a record of the core, alone
 
+-- what holds of each kind holds of all
+of-each : (P : EventKind → Type 0) → P PushKind → P PopKind → P CommandKind → P StatusKind → P ResetKind → P AcknowledgeKind → P RecallKind → P ForgetKind
+    → P UnknownKind → (k : EventKind) → P k
+of-each P a b c d e f g h i PushKind = a
+of-each P a b c d e f g h i PopKind = b
+of-each P a b c d e f g h i CommandKind = c
+of-each P a b c d e f g h i StatusKind = d
+of-each P a b c d e f g h i ResetKind = e
+of-each P a b c d e f g h i AcknowledgeKind = f
+of-each P a b c d e f g h i RecallKind = g
+of-each P a b c d e f g h i ForgetKind = h
+of-each P a b c d e f g h i UnknownKind = i
+
 -- a record's row does not look past its own bytes
-kind-alone : (most : ℕ) (k : EventKind) (first other : ℕ) → rowBy most k 0 first ≡ rowBy most k 0 other
-kind-alone most PushKind first other = refl
-kind-alone most PopKind first other = refl
-kind-alone most CommandKind first other = refl
-kind-alone most StatusKind first other = refl
-kind-alone most ResetKind first other = refl
-kind-alone most AcknowledgeKind first other = refl
-kind-alone most RecallKind first other = refl
-kind-alone most ForgetKind first other = refl
-kind-alone most UnknownKind first other = refl
+kind-alone : (most first other : ℕ) (k : EventKind) → rowBy most k 0 first ≡ rowBy most k 0 other
+kind-alone most first other = of-each (λ k. rowBy most k 0 first ≡ rowBy most k 0 other) refl refl refl refl refl refl refl refl refl
 
 row-alone : (most kind n first other : ℕ) → (0 < n → first ≡ other) → rowUnder most kind n first ≡ rowUnder most kind n other
-row-alone most kind zero first other e = kind-alone most (kindNamed kind) first other
+row-alone most kind zero first other e = kind-alone most first other (kindNamed kind)
 row-alone most kind (suc n) first other e = ap (rowUnder most kind (suc n)) (e (omega arith))
 
 pub word-front : (n : ℕ) (l : List ℕ) (i : ℕ) → i + 1 < n → wordAt (take n l) i ≡ wordAt l i

@@ -19,13 +19,13 @@ use Rattle.sheets.specs.Step.{isOwn, lineOf}
 use Rattle.sheets.specs.Calls.{callOf}
 use Rattle.sheet_promises.specs.Bytes.{Bytes, zeros, fourAt}
 use Rattle.sheet_promises.specs.Subjects.{SheetsAnswer, FiguresAnswer}
-use Rattle.sheet_promises.specs.WrongLibraries.{Library, Lent, Meets, No, RefusesEverything, never-run, never-figures, SingleReply, same-run}
+use Rattle.sheet_promises.specs.WrongLibraries.{Library, AllBytes, Meets, No, RefusesEverything, never-run, never-figures, SingleReply, same-run}
 use Rattle.sheet_promises.specs.WrongLibraries.{same-figures}
 use Rattle.sheet_promises.specs.WrongLibraries.{same-out, IsRecord, SameReplies, DoesNothing, back-state, back-sheets, back-replies, back-report}
 use Rattle.sheet_promises.specs.WrongLibraries.{back-out}
 use Rattle.sheet_promises.specs.WrongLibraries.{FirstRecordOnly, first-state, first-sheets, first-replies, InventedCounts, wrong-taken, wrong-written}
 use Rattle.sheet_promises.specs.WrongLibraries.{first}
-use Rattle.sheet_promises.specs.WrongLibraries.{rest, close, Tells, WrongLibraries}
+use Rattle.sheet_promises.specs.WrongLibraries.{rest, close, LibraryAnswers, WrongLibraries}
 use Rattle.sheet_promises.proofs.SheetsCall.{sheets-call}
 
 -- ---- the inputs are bytes
@@ -38,7 +38,7 @@ unfolding isBytes
 bytes-in [] h = tt
 bytes-in (b ∷ l) h = let p = both-of (ltb b 256) (isBytes l) h in (ltb-true b 256 (p .0), bytes-in l (p .1))
 
-lent-in : (input report : List ℕ) → isBytes input ≡ true → isBytes report ≡ true → Lent (zeros 19) (zeros 1303) input (zeros 15) report
+lent-in : (input report : List ℕ) → isBytes input ≡ true → isBytes report ≡ true → AllBytes (zeros 19) (zeros 1303) input (zeros 15) report
 unfolding isBytes
 lent-in input report i p = record {
   state-bytes = bytes-in (zeros 19) refl;
@@ -48,27 +48,27 @@ lent-in input report i p = record {
   report-bytes = bytes-in report p;
 }
 
-lent : (input : List ℕ) → isBytes input ≡ true → Lent (zeros 19) (zeros 1303) input (zeros 15) (zeros 9)
+lent : (input : List ℕ) → isBytes input ≡ true → AllBytes (zeros 19) (zeros 1303) input (zeros 15) (zeros 9)
 unfolding isBytes
 lent input i = lent-in input (zeros 9) i refl
 
-none : Lent (zeros 19) (zeros 1303) [] (zeros 15) (zeros 9)
+none : AllBytes (zeros 19) (zeros 1303) [] (zeros 15) (zeros 9)
 unfolding isBytes
 none = lent [] refl
 
-bare : Lent (zeros 19) (zeros 1303) [] (zeros 15) []
+bare : AllBytes (zeros 19) (zeros 1303) [] (zeros 15) []
 unfolding isBytes
 bare = lent-in [] [] refl refl
 
-one : Lent (zeros 19) (zeros 1303) first (zeros 15) (zeros 9)
+one : AllBytes (zeros 19) (zeros 1303) first (zeros 15) (zeros 9)
 unfolding isBytes
 one = lent first refl
 
-shut : Lent (zeros 19) (zeros 1303) close (zeros 15) (zeros 9)
+shut : AllBytes (zeros 19) (zeros 1303) close (zeros 15) (zeros 9)
 unfolding isBytes
 shut = lent close refl
 
-all : Lent (zeros 19) (zeros 1303) (first ++ rest) (zeros 15) (zeros 9)
+all : AllBytes (zeros 19) (zeros 1303) (first ++ rest) (zeros 15) (zeros 9)
 unfolding isBytes
 all = lent (first ++ rest) refl
 
@@ -85,7 +85,7 @@ unfolding isBytes
 room = bytes-in (zeros 53) refl
 
 -- ---- what the definitions give
-told : (c : Library) → Meets c → Tells c
+told : (c : Library) → Meets c → LibraryAnswers c
 unfolding callOf isState isSheets runBy run lineOf isOwn turnUnder frameUnder pushOf figuresOf sum88
 told c M =
     let m = M .run 0 0 (zeros 19) (zeros 1303) in

@@ -39,7 +39,7 @@ historyOver (j ∷ js) sheets es =
     (recordsOf (repliesIn (answerTo j sheets .replies) (answerTo j sheets .report))) es)
 
 -- bytes, and a report that tells what was written
-pub record Lent (j : Job) : Type 0 where
+pub record JobLent (j : Job) : Type 0 where
   pub state : Bytes (j .state)
   pub input : Bytes (j .input)
   pub report : length (j .report) ≡ 9
@@ -47,7 +47,7 @@ pub record Lent (j : Job) : Type 0 where
 -- every one of them
 abbrev pub AllLent : List Job → Type 0
 AllLent [] = Unit
-AllLent (j ∷ js) = Lent j × AllLent js
+AllLent (j ∷ js) = JobLent j × AllLent js
 
 -- what holds of every entry
 abbrev pub Every : (Entry → Type 0) → List Entry → Type 0

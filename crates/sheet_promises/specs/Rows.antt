@@ -1,508 +1,225 @@
 -- 02, ask 11, `sheets_run` by literal bytes: the rows were worked out from 01 and 02 beside the library. Definitions
--- and the statement only: proofs/Rows.antt proves it. Assumes nothing.
-use Prim.Native.Nat.{ℕ}
+-- and the statement only: proofs/Rows.antt computes it. Assumes nothing.
+use Prim.Native.Nat.{ℕ, _-_}
+use Prim.Native.String.{String}
 use mathlib.Core.Path.{_≡_}
-use mathlib.Core.List.{List, [], _∷_, _++_}
-use lib.ListN.{replicate}
-use Rattle.sheet_promises.specs.Bytes.{zeros}
-use Rattle.sheet_promises.specs.Records.{joined}
-use Rattle.sheet_promises.specs.Subjects.{sheetsCall}
+use mathlib.Core.List.{List, [], _∷_, _++_, map}
+use lib.ListN.{length, replicate}
+use Rattle.sheet_promises.specs.Bytes.{zeros, bytes}
+use Rattle.sheet_promises.specs.OwnWords.{Job, answerTo}
+use Rattle.sheet_promises.specs.Subjects.{SheetsAnswer}
 
--- what a call is given, what it returns, and what the slices hold after
+-- what a call is given, and what it returns and leaves in the slices
 pub record Row : Type 0 where
-  pub mode : ℕ
-  pub rule : ℕ
-  pub state : List ℕ
+  pub job : Job
   pub sheets : List ℕ
-  pub input : List ℕ
-  pub replies : List ℕ
-  pub report : List ℕ
-  pub result : ℕ
-  pub state-after : List ℕ
-  pub sheets-after : List ℕ
-  pub replies-after : List ℕ
-  pub report-after : List ℕ
+  pub after : SheetsAnswer
 
--- the call gives what the row says
-abbrev pub Gives : Row → Type 0
-Gives r =
-    sheetsCall (r .mode) (r .rule) (r .state) (r .sheets) (r .input) (r .replies) (r .report)
-    ≡ record {
-      result = r .result;
-      state = r .state-after;
-      sheets = r .sheets-after;
-      replies = r .replies-after;
-      report = r .report-after;
-    }
+-- so many bytes, as they are lent for replies
+abbrev pub lent : ℕ → List ℕ
+lent n = replicate n 0xee
 
--- a call that is turned away: nothing but the report is written
-abbrev pub turnedAway : ℕ → ℕ → ℕ → List ℕ → List ℕ → List ℕ → Row
-turnedAway r mode rule state sheets input = record {
-  mode = mode;
-  rule = rule;
-  state = state;
+-- a run into so much room, with 9 bytes for a report: what is returned, state and sheets after, what is written, the
+-- report
+abbrev pub ran : ℕ → ℕ → List ℕ → List ℕ → List ℕ → ℕ → ℕ → List ℕ → List ℕ → List ℕ → List ℕ → Row
+ran mode rule state sheets input room result state' sheets' written report = record {
+  job = record {
+    mode = mode;
+    rule = rule;
+    state = state;
+    input = input;
+    replies = lent room;
+    report = zeros 9;
+  };
   sheets = sheets;
-  input = input;
-  replies = replicate 5 238;
-  report = zeros 9;
-  result = r;
-  state-after = state;
-  sheets-after = sheets;
-  replies-after = replicate 5 238;
-  report-after = r ∷ zeros 8;
+  after = record {
+    result = result;
+    state = state';
+    sheets = sheets';
+    replies = written ++ lent (room - length written);
+    report = report;
+  };
 }
 
--- one file under both modes and both rules, on 21 bytes of state with a half word pending and an error remembered: a
--- reset, an inexact FDIV, PUPI, an FDIV with sr set, a word of two 16-bit halves, a recall and a status read
-abbrev pub bothModes : ℕ → ℕ → List ℕ → List ℕ → List ℕ → Row
-bothModes mode rule state sheets replies = record {
-  mode = mode;
-  rule = rule;
-  state = 17 ∷ 34 ∷ 51 ∷ 68 ∷ 85 ∷ 102 ∷ 119 ∷ 136 ∷ 153 ∷ 170 ∷ 187 ∷ 204 ∷ 221 ∷ 238 ∷ 255 ∷ 9 ∷ 1 ∷ 42 ∷ 1 ∷ 18
-      ∷ 19 ∷ [];
-  sheets = zeros 1303;
-  input = joined ((2 ∷ 0 ∷ 5 ∷ 0 ∷ []) ∷ (6 ∷ 0 ∷ 0 ∷ 1 ∷ 7 ∷ 0 ∷ 0 ∷ 200 ∷ []) ∷
-      (6 ∷ 0 ∷ 1 ∷ 0 ∷ 0 ∷ 0 ∷ 128 ∷ 1 ∷ []) ∷ (6 ∷ 0 ∷ 1 ∷ 0 ∷ 0 ∷ 0 ∷ 192 ∷ 2 ∷ []) ∷
-      (3 ∷ 0 ∷ 3 ∷ 0 ∷ 19 ∷ []) ∷ (3 ∷ 0 ∷ 1 ∷ 1 ∷ 0 ∷ []) ∷ (3 ∷ 0 ∷ 3 ∷ 0 ∷ 26 ∷ []) ∷
-      (3 ∷ 0 ∷ 1 ∷ 1 ∷ 1 ∷ []) ∷ (3 ∷ 0 ∷ 3 ∷ 0 ∷ 147 ∷ []) ∷ (3 ∷ 0 ∷ 1 ∷ 1 ∷ 2 ∷ []) ∷
-      (3 ∷ 0 ∷ 1 ∷ 0 ∷ 171 ∷ []) ∷ (3 ∷ 0 ∷ 1 ∷ 0 ∷ 205 ∷ []) ∷ (3 ∷ 0 ∷ 1 ∷ 1 ∷ 3 ∷ []) ∷ (2 ∷ 0 ∷ 2 ∷ 1 ∷ []) ∷
-      (2 ∷ 0 ∷ 7 ∷ 0 ∷ []) ∷ (2 ∷ 0 ∷ 4 ∷ 0 ∷ []) ∷ []);
-  replies = replicate 90 238;
-  report = zeros 9;
-  result = 0;
-  state-after = state;
-  sheets-after = sheets;
-  replies-after = replies;
-  report-after = 0 ∷ 85 ∷ 0 ∷ 0 ∷ 0 ∷ 83 ∷ 0 ∷ 0 ∷ 0 ∷ [];
-}
-
--- ---- the rows
+-- ---- runs to the end
 
 -- two closed sheets, one serial twice, and one open
 abbrev pub twoClosed : Row
-twoClosed = record {
-  mode = 0;
-  rule = 0;
-  state = zeros 19;
-  sheets = zeros 1303;
-  input = joined ((6 ∷ 0 ∷ 0 ∷ 1 ∷ 1 ∷ 2 ∷ 3 ∷ 4 ∷ []) ∷ (6 ∷ 0 ∷ 1 ∷ 0 ∷ 233 ∷ 195 ∷ 167 ∷ 5 ∷ []) ∷
-      (3 ∷ 0 ∷ 1 ∷ 1 ∷ 0 ∷ []) ∷ (6 ∷ 0 ∷ 1 ∷ 0 ∷ 70 ∷ 210 ∷ 145 ∷ 123 ∷ []) ∷ (3 ∷ 0 ∷ 1 ∷ 1 ∷ 1 ∷ []) ∷
-      (3 ∷ 0 ∷ 3 ∷ 0 ∷ 26 ∷ []) ∷ (3 ∷ 0 ∷ 1 ∷ 1 ∷ 2 ∷ []) ∷ (3 ∷ 0 ∷ 3 ∷ 0 ∷ 16 ∷ []) ∷
-      (3 ∷ 0 ∷ 1 ∷ 1 ∷ 3 ∷ []) ∷ (2 ∷ 0 ∷ 2 ∷ 1 ∷ []) ∷ (6 ∷ 0 ∷ 0 ∷ 1 ∷ 1 ∷ 2 ∷ 3 ∷ 4 ∷ []) ∷
-      (3 ∷ 0 ∷ 1 ∷ 1 ∷ 3 ∷ []) ∷ (3 ∷ 0 ∷ 1 ∷ 1 ∷ 2 ∷ []) ∷ (6 ∷ 0 ∷ 1 ∷ 0 ∷ 179 ∷ 161 ∷ 240 ∷ 133 ∷ []) ∷
-      (3 ∷ 0 ∷ 1 ∷ 1 ∷ 1 ∷ []) ∷ (3 ∷ 0 ∷ 1 ∷ 1 ∷ 0 ∷ []) ∷ (6 ∷ 0 ∷ 1 ∷ 0 ∷ 199 ∷ 212 ∷ 229 ∷ 3 ∷ []) ∷
-      (3 ∷ 0 ∷ 1 ∷ 1 ∷ 0 ∷ []) ∷ (2 ∷ 0 ∷ 2 ∷ 1 ∷ []) ∷ (6 ∷ 0 ∷ 0 ∷ 1 ∷ 68 ∷ 51 ∷ 34 ∷ 17 ∷ []) ∷
-      (6 ∷ 0 ∷ 1 ∷ 0 ∷ 239 ∷ 205 ∷ 52 ∷ 18 ∷ []) ∷ (3 ∷ 0 ∷ 1 ∷ 1 ∷ 1 ∷ []) ∷ []);
-  replies = replicate 120 238;
-  report = zeros 9;
-  result = 0;
-  state-after = 18 ∷ 52 ∷ 205 ∷ 239 ∷ 3 ∷ 229 ∷ 212 ∷ 199 ∷ 133 ∷ 240 ∷ 161 ∷ 179 ∷ 2 ∷ 202 ∷ 51 ∷ 126 ∷ 0 ∷ 0 ∷ 0 ∷
-      [];
-  sheets-after = 2 ∷ 1 ∷ 2 ∷ 3 ∷ 4 ∷ 233 ∷ 195 ∷ 167 ∷ 5 ∷ 70 ∷ 210 ∷ 145 ∷ 123 ∷ 218 ∷ 15 ∷ 201 ∷ 2 ∷ 126 ∷ 51 ∷
-      202 ∷ 2 ∷ 1 ∷ 2 ∷ 3 ∷ 4 ∷ 199 ∷ 212 ∷ 229 ∷ 3 ∷ 179 ∷ 161 ∷ 240 ∷ 133 ∷ 126 ∷ 51 ∷ 202 ∷ 2 ∷ 126 ∷ 51 ∷ 202 ∷
-      2 ∷ (zeros 1240 ++ (1 ∷ 68 ∷ 51 ∷ 34 ∷ 17 ∷ 2 ∷ 0 ∷ 0 ∷ 0 ∷ 0 ∷ 239 ∷ 205 ∷ 52 ∷ 18 ∷ (zeros 8)));
-  replies-after = 3 ∷ 0 ∷ 0 ∷ 129 ∷ 0 ∷ 3 ∷ 0 ∷ 129 ∷ 0 ∷ 0 ∷ 3 ∷ 0 ∷ 1 ∷ 129 ∷ 0 ∷ 3 ∷ 0 ∷ 129 ∷ 0 ∷ 0 ∷ 3 ∷ 0 ∷ 1
-      ∷ 129 ∷ 0 ∷ 3 ∷ 0 ∷ 131 ∷ 0 ∷ 0 ∷ 3 ∷ 0 ∷ 1 ∷ 129 ∷ 0 ∷ 3 ∷ 0 ∷ 131 ∷ 0 ∷ 0 ∷ 3 ∷ 0 ∷ 1 ∷ 129 ∷ 0 ∷ 3 ∷ 0 ∷ 2
-      ∷ 129 ∷ 0 ∷ 3 ∷ 0 ∷ 0 ∷ 129 ∷ 0 ∷ 3 ∷ 0 ∷ 1 ∷ 129 ∷ 0 ∷ 3 ∷ 0 ∷ 1 ∷ 129 ∷ 0 ∷ 3 ∷ 0 ∷ 129 ∷ 0 ∷ 0 ∷ 3 ∷ 0 ∷ 1
-      ∷ 129 ∷ 0 ∷ 3 ∷ 0 ∷ 1 ∷ 129 ∷ 0 ∷ 3 ∷ 0 ∷ 129 ∷ 0 ∷ 0 ∷ 3 ∷ 0 ∷ 1 ∷ 129 ∷ 0 ∷ 3 ∷ 0 ∷ 2 ∷ 129 ∷ 0 ∷ 3 ∷ 0 ∷ 0
-      ∷ 129 ∷ 0 ∷ 3 ∷ 0 ∷ 129 ∷ 0 ∷ 0 ∷ 3 ∷ 0 ∷ 1 ∷ 129 ∷ 0 ∷ (replicate 10 238);
-  report-after = 0 ∷ 132 ∷ 0 ∷ 0 ∷ 0 ∷ 110 ∷ 0 ∷ 0 ∷ 0 ∷ [];
-}
+twoClosed =
+    ran 0 0 (zeros 19) (zeros 1303)
+    (bytes "06 00 00 01 01 02 03 04 06 00 01 00 E9 C3 A7 05 03 00 01 01 00 06 00 01 00 46 D2 91 7B 03 00 01 01 01"
+    ++ (bytes "03 00 03 00 1A 03 00 01 01 02 03 00 03 00 10 03 00 01 01 03 02 00 02 01 06 00 00 01 01 02 03 04"
+    ++ (bytes "03 00 01 01 03 03 00 01 01 02 06 00 01 00 B3 A1 F0 85 03 00 01 01 01 03 00 01 01 00"
+    ++ (bytes "06 00 01 00 C7 D4 E5 03 03 00 01 01 00 02 00 02 01 06 00 00 01 44 33 22 11 06 00 01 00 EF CD 34 12"
+    ++ bytes "03 00 01 01 01")))) 120
+    0 (bytes "12 34 CD EF 03 E5 D4 C7 85 F0 A1 B3 02 CA 33 7E 00 00 00")
+    (bytes "02 01 02 03 04 E9 C3 A7 05 46 D2 91 7B DA 0F C9 02 7E 33 CA 02"
+    ++ (bytes "01 02 03 04 C7 D4 E5 03 B3 A1 F0 85 7E 33 CA 02 7E 33 CA 02"
+    ++ (zeros 1240 ++ (bytes "01 44 33 22 11 02 00 00 00 00 EF CD 34 12" ++ zeros 8))))
+    (bytes "03 00 00 81 00 03 00 81 00 00 03 00 01 81 00 03 00 81 00 00 03 00 01 81 00 03 00 83 00 00 03 00 01 81 00"
+    ++ (bytes "03 00 83 00 00 03 00 01 81 00 03 00 02 81 00 03 00 00 81 00 03 00 01 81 00 03 00 01 81 00"
+    ++ (bytes "03 00 81 00 00 03 00 01 81 00 03 00 01 81 00 03 00 81 00 00 03 00 01 81 00 03 00 02 81 00"
+    ++ bytes "03 00 00 81 00 03 00 81 00 00 03 00 01 81 00"))) (bytes "00 84 00 00 00 6E 00 00 00")
 
--- a reset with a half word pending, an inexact FDIV and PUPI: mode 0, rule 0, 21 bytes of state
-abbrev pub underAm9511ACut : Row
-underAm9511ACut =
-    bothModes 0 0
-    (205 ∷ 171 ∷ 125 ∷ 217 ∷ 76 ∷ 175 ∷ (zeros 12 ++ (1 ∷ 0 ∷ 0 ∷ [])))
-    (1 ∷ 7 ∷ 0 ∷ 0 ∷ 200 ∷ 170 ∷ 170 ∷ 170 ∷ 127 ∷ 218 ∷ 15 ∷ 201 ∷ 2 ∷ 175 ∷ 76 ∷ 217 ∷ 125 ∷ 217 ∷ 125 ∷ 171 ∷ 205
-    ∷ (zeros 1282))
-    (3 ∷ 0 ∷ 133 ∷ 0 ∷ 0 ∷ 3 ∷ 0 ∷ 0 ∷ 129 ∷ 0 ∷ 3 ∷ 0 ∷ 129 ∷ 0 ∷ 0 ∷ 3 ∷ 0 ∷ 129 ∷ 0 ∷ 0 ∷ 3 ∷ 0 ∷ 131 ∷ 0 ∷ 0 ∷ 3
-    ∷ 0 ∷ 1 ∷ 129 ∷ 0 ∷ 3 ∷ 0 ∷ 131 ∷ 0 ∷ 0 ∷ 3 ∷ 0 ∷ 1 ∷ 129 ∷ 0 ∷ 3 ∷ 0 ∷ 131 ∷ 0 ∷ 0 ∷ 3 ∷ 0 ∷ 1 ∷ 129 ∷ 0 ∷ 3 ∷
-    0 ∷ 129 ∷ 0 ∷ 0 ∷ 3 ∷ 0 ∷ 129 ∷ 0 ∷ 0 ∷ 3 ∷ 0 ∷ 1 ∷ 129 ∷ 0 ∷ 3 ∷ 0 ∷ 2 ∷ 129 ∷ 0 ∷ 5 ∷ 0 ∷ 135 ∷ 0 ∷ 0 ∷ 0 ∷ 0
-    ∷ 4 ∷ 0 ∷ 132 ∷ 0 ∷ 0 ∷ 0 ∷ (replicate 7 238))
+-- one file under a mode and a rule, on 21 bytes of state with a half word pending and an error remembered: a reset, an
+-- inexact FDIV, PUPI, an FDIV with sr set, a word of two 16-bit halves, a recall and a status read; what stands on the
+-- stack under the words, and the first two words of the sheet
+abbrev pub withReset : ℕ → ℕ → List ℕ → String → Row
+withReset mode rule stack words =
+    ran mode rule (bytes "11 22 33 44 55 66 77 88 99 AA BB CC DD EE FF 09 01 2A 01 12 13") (zeros 1303)
+    (bytes "02 00 05 00 06 00 00 01 07 00 00 C8 06 00 01 00 00 00 80 01 06 00 01 00 00 00 C0 02 03 00 03 00 13"
+    ++ (bytes "03 00 01 01 00 03 00 03 00 1A 03 00 01 01 01 03 00 03 00 93 03 00 01 01 02 03 00 01 00 AB"
+    ++ bytes "03 00 01 00 CD 03 00 01 01 03 02 00 02 01 02 00 07 00 02 00 04 00")) 90
+    0 (bytes "CD AB 7D D9 4C AF" ++ (stack ++ bytes "00 00 00 00 01 00 00"))
+    (bytes "01 07 00 00 C8" ++ (bytes words ++ (bytes "AF 4C D9 7D D9 7D AB CD" ++ zeros 1282)))
+    (bytes "03 00 85 00 00 03 00 00 81 00 03 00 81 00 00 03 00 81 00 00 03 00 83 00 00 03 00 01 81 00 03 00 83 00 00"
+    ++ (bytes "03 00 01 81 00 03 00 83 00 00 03 00 01 81 00 03 00 81 00 00 03 00 81 00 00 03 00 01 81 00"
+    ++ bytes "03 00 02 81 00 05 00 87 00 00 00 00 04 00 84 00 00 00")) (bytes "00 55 00 00 00 53 00 00 00")
 
--- a reset with a half word pending, an inexact FDIV and PUPI: mode 0, rule 1, 21 bytes of state
-abbrev pub underAm9511ANearest : Row
-underAm9511ANearest =
-    bothModes 0 1
-    (205 ∷ 171 ∷ 125 ∷ 217 ∷ 76 ∷ 175 ∷ (zeros 12 ++ (1 ∷ 0 ∷ 0 ∷ [])))
-    (1 ∷ 7 ∷ 0 ∷ 0 ∷ 200 ∷ 171 ∷ 170 ∷ 170 ∷ 127 ∷ 219 ∷ 15 ∷ 201 ∷ 2 ∷ 175 ∷ 76 ∷ 217 ∷ 125 ∷ 217 ∷ 125 ∷ 171 ∷ 205
-    ∷ (zeros 1282))
-    (3 ∷ 0 ∷ 133 ∷ 0 ∷ 0 ∷ 3 ∷ 0 ∷ 0 ∷ 129 ∷ 0 ∷ 3 ∷ 0 ∷ 129 ∷ 0 ∷ 0 ∷ 3 ∷ 0 ∷ 129 ∷ 0 ∷ 0 ∷ 3 ∷ 0 ∷ 131 ∷ 0 ∷ 0 ∷ 3
-    ∷ 0 ∷ 1 ∷ 129 ∷ 0 ∷ 3 ∷ 0 ∷ 131 ∷ 0 ∷ 0 ∷ 3 ∷ 0 ∷ 1 ∷ 129 ∷ 0 ∷ 3 ∷ 0 ∷ 131 ∷ 0 ∷ 0 ∷ 3 ∷ 0 ∷ 1 ∷ 129 ∷ 0 ∷ 3 ∷
-    0 ∷ 129 ∷ 0 ∷ 0 ∷ 3 ∷ 0 ∷ 129 ∷ 0 ∷ 0 ∷ 3 ∷ 0 ∷ 1 ∷ 129 ∷ 0 ∷ 3 ∷ 0 ∷ 2 ∷ 129 ∷ 0 ∷ 5 ∷ 0 ∷ 135 ∷ 0 ∷ 0 ∷ 0 ∷ 0
-    ∷ 4 ∷ 0 ∷ 132 ∷ 0 ∷ 0 ∷ 0 ∷ (replicate 7 238))
+-- what the older part's reset keeps
+abbrev pub kept : List ℕ
+kept = bytes "22 33 44 55 66 77 88 99"
 
--- a reset with a half word pending, an inexact FDIV and PUPI: mode 1, rule 0, 21 bytes of state
-abbrev pub underOlderCut : Row
-underOlderCut =
-    bothModes 1 0
-    (205 ∷ 171 ∷ 125 ∷ 217 ∷ 76 ∷ 175 ∷ 34 ∷ 51 ∷ 68 ∷ 85 ∷ 102 ∷ 119 ∷ 136 ∷ 153 ∷ 0 ∷ 0 ∷ 0 ∷ 0 ∷ 1 ∷ 0 ∷ 0 ∷ [])
-    (1 ∷ 7 ∷ 0 ∷ 0 ∷ 200 ∷ 170 ∷ 170 ∷ 170 ∷ 127 ∷ 218 ∷ 15 ∷ 201 ∷ 2 ∷ 175 ∷ 76 ∷ 217 ∷ 125 ∷ 217 ∷ 125 ∷ 171 ∷ 205
-    ∷ (zeros 1282))
-    (3 ∷ 0 ∷ 133 ∷ 0 ∷ 0 ∷ 3 ∷ 0 ∷ 0 ∷ 129 ∷ 0 ∷ 3 ∷ 0 ∷ 129 ∷ 0 ∷ 0 ∷ 3 ∷ 0 ∷ 129 ∷ 0 ∷ 0 ∷ 3 ∷ 0 ∷ 131 ∷ 0 ∷ 0 ∷ 3
-    ∷ 0 ∷ 1 ∷ 129 ∷ 0 ∷ 3 ∷ 0 ∷ 131 ∷ 0 ∷ 0 ∷ 3 ∷ 0 ∷ 1 ∷ 129 ∷ 0 ∷ 3 ∷ 0 ∷ 131 ∷ 0 ∷ 0 ∷ 3 ∷ 0 ∷ 1 ∷ 129 ∷ 0 ∷ 3 ∷
-    0 ∷ 129 ∷ 0 ∷ 0 ∷ 3 ∷ 0 ∷ 129 ∷ 0 ∷ 0 ∷ 3 ∷ 0 ∷ 1 ∷ 129 ∷ 0 ∷ 3 ∷ 0 ∷ 2 ∷ 129 ∷ 0 ∷ 5 ∷ 0 ∷ 135 ∷ 0 ∷ 0 ∷ 0 ∷ 0
-    ∷ 4 ∷ 0 ∷ 132 ∷ 0 ∷ 0 ∷ 0 ∷ (replicate 7 238))
-
--- a reset with a half word pending, an inexact FDIV and PUPI: mode 1, rule 1, 21 bytes of state
-abbrev pub underOlderNearest : Row
-underOlderNearest =
-    bothModes 1 1
-    (205 ∷ 171 ∷ 125 ∷ 217 ∷ 76 ∷ 175 ∷ 34 ∷ 51 ∷ 68 ∷ 85 ∷ 102 ∷ 119 ∷ 136 ∷ 153 ∷ 0 ∷ 0 ∷ 0 ∷ 0 ∷ 1 ∷ 0 ∷ 0 ∷ [])
-    (1 ∷ 7 ∷ 0 ∷ 0 ∷ 200 ∷ 171 ∷ 170 ∷ 170 ∷ 127 ∷ 219 ∷ 15 ∷ 201 ∷ 2 ∷ 175 ∷ 76 ∷ 217 ∷ 125 ∷ 217 ∷ 125 ∷ 171 ∷ 205
-    ∷ (zeros 1282))
-    (3 ∷ 0 ∷ 133 ∷ 0 ∷ 0 ∷ 3 ∷ 0 ∷ 0 ∷ 129 ∷ 0 ∷ 3 ∷ 0 ∷ 129 ∷ 0 ∷ 0 ∷ 3 ∷ 0 ∷ 129 ∷ 0 ∷ 0 ∷ 3 ∷ 0 ∷ 131 ∷ 0 ∷ 0 ∷ 3
-    ∷ 0 ∷ 1 ∷ 129 ∷ 0 ∷ 3 ∷ 0 ∷ 131 ∷ 0 ∷ 0 ∷ 3 ∷ 0 ∷ 1 ∷ 129 ∷ 0 ∷ 3 ∷ 0 ∷ 131 ∷ 0 ∷ 0 ∷ 3 ∷ 0 ∷ 1 ∷ 129 ∷ 0 ∷ 3 ∷
-    0 ∷ 129 ∷ 0 ∷ 0 ∷ 3 ∷ 0 ∷ 129 ∷ 0 ∷ 0 ∷ 3 ∷ 0 ∷ 1 ∷ 129 ∷ 0 ∷ 3 ∷ 0 ∷ 2 ∷ 129 ∷ 0 ∷ 5 ∷ 0 ∷ 135 ∷ 0 ∷ 0 ∷ 0 ∷ 0
-    ∷ 4 ∷ 0 ∷ 132 ∷ 0 ∷ 0 ∷ 0 ∷ (replicate 7 238))
+-- under both modes, and each rule
+abbrev pub bothModes : List Row
+bothModes =
+    withReset 0 0 (zeros 8) "AA AA AA 7F DA 0F C9 02" ∷ withReset 0 1 (zeros 8) "AB AA AA 7F DB 0F C9 02"
+    ∷ withReset 1 0 kept "AA AA AA 7F DA 0F C9 02" ∷ withReset 1 1 kept "AB AA AA 7F DB 0F C9 02" ∷ []
 
 -- 20 to 24 in their replies, the run going on
 abbrev pub inReplies : Row
-inReplies = record {
-  mode = 0;
-  rule = 0;
-  state = zeros 19;
-  sheets = zeros 1303;
-  input = joined ((3 ∷ 0 ∷ 1 ∷ 1 ∷ 0 ∷ []) ∷ (3 ∷ 0 ∷ 1 ∷ 1 ∷ 9 ∷ []) ∷ (2 ∷ 0 ∷ 2 ∷ 1 ∷ []) ∷
-      (6 ∷ 0 ∷ 0 ∷ 1 ∷ 9 ∷ 8 ∷ 7 ∷ 6 ∷ []) ∷ (6 ∷ 0 ∷ 0 ∷ 1 ∷ 1 ∷ 1 ∷ 1 ∷ 1 ∷ []) ∷ (3 ∷ 0 ∷ 1 ∷ 1 ∷ 4 ∷ []) ∷
-      (3 ∷ 0 ∷ 1 ∷ 0 ∷ 90 ∷ []) ∷ (3 ∷ 0 ∷ 1 ∷ 1 ∷ 4 ∷ []) ∷ (3 ∷ 0 ∷ 1 ∷ 1 ∷ 0 ∷ []) ∷
-      (3 ∷ 0 ∷ 1 ∷ 0 ∷ 165 ∷ []) ∷ (3 ∷ 0 ∷ 1 ∷ 1 ∷ 0 ∷ []) ∷ (3 ∷ 0 ∷ 1 ∷ 1 ∷ 1 ∷ []) ∷
-      (3 ∷ 0 ∷ 1 ∷ 1 ∷ 2 ∷ []) ∷ (2 ∷ 0 ∷ 2 ∷ 1 ∷ []) ∷ (3 ∷ 0 ∷ 1 ∷ 1 ∷ 3 ∷ []) ∷ (2 ∷ 0 ∷ 2 ∷ 1 ∷ []) ∷ []);
-  replies = replicate 80 238;
-  report = zeros 9;
-  result = 0;
-  state-after = 165 ∷ 90 ∷ (zeros 17);
-  sheets-after = 1 ∷ 9 ∷ 8 ∷ 7 ∷ 6 ∷ 0 ∷ 0 ∷ 90 ∷ 165 ∷ 0 ∷ 0 ∷ 90 ∷ 165 ∷ 0 ∷ 0 ∷ 90 ∷ 165 ∷ 0 ∷ 0 ∷ 90 ∷ 165 ∷
-      (zeros 1282);
-  replies-after = 3 ∷ 0 ∷ 1 ∷ 129 ∷ 21 ∷ 3 ∷ 0 ∷ 1 ∷ 129 ∷ 21 ∷ 3 ∷ 0 ∷ 2 ∷ 129 ∷ 21 ∷ 3 ∷ 0 ∷ 0 ∷ 129 ∷ 0 ∷ 3 ∷ 0 ∷
-      0 ∷ 129 ∷ 20 ∷ 3 ∷ 0 ∷ 1 ∷ 129 ∷ 22 ∷ 3 ∷ 0 ∷ 129 ∷ 0 ∷ 0 ∷ 3 ∷ 0 ∷ 1 ∷ 129 ∷ 22 ∷ 3 ∷ 0 ∷ 1 ∷ 129 ∷ 23 ∷ 3 ∷
-      0 ∷ 129 ∷ 0 ∷ 0 ∷ 3 ∷ 0 ∷ 1 ∷ 129 ∷ 0 ∷ 3 ∷ 0 ∷ 1 ∷ 129 ∷ 0 ∷ 3 ∷ 0 ∷ 1 ∷ 129 ∷ 0 ∷ 3 ∷ 0 ∷ 2 ∷ 129 ∷ 24 ∷ 3 ∷
-      0 ∷ 1 ∷ 129 ∷ 0 ∷ 3 ∷ 0 ∷ 2 ∷ 129 ∷ 0 ∷ [];
-  report-after = 0 ∷ 83 ∷ 0 ∷ 0 ∷ 0 ∷ 80 ∷ 0 ∷ 0 ∷ 0 ∷ [];
-}
+inReplies =
+    ran 0 0 (zeros 19) (zeros 1303)
+    (bytes "03 00 01 01 00 03 00 01 01 09 02 00 02 01 06 00 00 01 09 08 07 06 06 00 00 01 01 01 01 01 03 00 01 01 04"
+    ++ (bytes "03 00 01 00 5A 03 00 01 01 04 03 00 01 01 00 03 00 01 00 A5 03 00 01 01 00 03 00 01 01 01"
+    ++ bytes "03 00 01 01 02 02 00 02 01 03 00 01 01 03 02 00 02 01")) 80
+    0 (bytes "A5 5A" ++ zeros 17)
+    (bytes "01 09 08 07 06 00 00 5A A5 00 00 5A A5 00 00 5A A5 00 00 5A A5" ++ zeros 1282)
+    (bytes "03 00 01 81 15 03 00 01 81 15 03 00 02 81 15 03 00 00 81 00 03 00 00 81 14 03 00 01 81 16 03 00 81 00 00"
+    ++ (bytes "03 00 01 81 16 03 00 01 81 17 03 00 81 00 00 03 00 01 81 00 03 00 01 81 00 03 00 01 81 00"
+    ++ bytes "03 00 02 81 18 03 00 01 81 00 03 00 02 81 00")) (bytes "00 53 00 00 00 50 00 00 00")
 
 -- 63 sheets and one to close make 64; the next close is 25 and its sheet stays open
 abbrev pub sixtyFour : Row
-sixtyFour = record {
-  mode = 0;
-  rule = 0;
-  state = zeros 19;
-  sheets = 63 ∷ (replicate 1260 7 ++ (zeros 20 ++ (1 ∷ 5 ∷ 6 ∷ 7 ∷ 8 ∷ 15 ∷ 101 ∷ 102 ∷ 103 ∷ 104 ∷ 105 ∷ 106 ∷ 107
-      ∷ 108 ∷ 109 ∷ 110 ∷ 111 ∷ 112 ∷ 113 ∷ 114 ∷ 115 ∷ 116 ∷ [])));
-  input = joined ((2 ∷ 0 ∷ 2 ∷ 1 ∷ []) ∷ (6 ∷ 0 ∷ 0 ∷ 1 ∷ 3 ∷ 3 ∷ 3 ∷ 3 ∷ []) ∷ (3 ∷ 0 ∷ 1 ∷ 1 ∷ 0 ∷ []) ∷
-      (3 ∷ 0 ∷ 1 ∷ 1 ∷ 1 ∷ []) ∷ (3 ∷ 0 ∷ 1 ∷ 1 ∷ 2 ∷ []) ∷ (3 ∷ 0 ∷ 1 ∷ 1 ∷ 3 ∷ []) ∷ (2 ∷ 0 ∷ 2 ∷ 1 ∷ []) ∷ []);
-  replies = replicate 35 238;
-  report = zeros 9;
-  result = 0;
-  state-after = zeros 19;
-  sheets-after = 64 ∷ (replicate 1260 7 ++ (5 ∷ 6 ∷ 7 ∷ 8 ∷ 101 ∷ 102 ∷ 103 ∷ 104 ∷ 105 ∷ 106 ∷ 107 ∷ 108 ∷ 109 ∷
-      110 ∷ 111 ∷ 112 ∷ 113 ∷ 114 ∷ 115 ∷ 116 ∷ 1 ∷ 3 ∷ 3 ∷ 3 ∷ 3 ∷ 15 ∷ (zeros 16)));
-  replies-after = 3 ∷ 0 ∷ 2 ∷ 129 ∷ 0 ∷ 3 ∷ 0 ∷ 0 ∷ 129 ∷ 0 ∷ 3 ∷ 0 ∷ 1 ∷ 129 ∷ 0 ∷ 3 ∷ 0 ∷ 1 ∷ 129 ∷ 0 ∷ 3 ∷ 0 ∷ 1
-      ∷ 129 ∷ 0 ∷ 3 ∷ 0 ∷ 1 ∷ 129 ∷ 0 ∷ 3 ∷ 0 ∷ 2 ∷ 129 ∷ 25 ∷ [];
-  report-after = 0 ∷ 36 ∷ 0 ∷ 0 ∷ 0 ∷ 35 ∷ 0 ∷ 0 ∷ 0 ∷ [];
-}
+sixtyFour =
+    ran 0 0 (zeros 19)
+    (63 ∷ (replicate 1260 7
+    ++ (zeros 20 ++ bytes "01 05 06 07 08 0F 65 66 67 68 69 6A 6B 6C 6D 6E 6F 70 71 72 73 74")))
+    (bytes "02 00 02 01 06 00 00 01 03 03 03 03 03 00 01 01 00 03 00 01 01 01 03 00 01 01 02 03 00 01 01 03"
+    ++ bytes "02 00 02 01") 35
+    0 (zeros 19)
+    (64 ∷ (replicate 1260 7 ++ (bytes "05 06 07 08 65 66 67 68 69 6A 6B 6C 6D 6E 6F 70 71 72 73 74"
+    ++ (bytes "01 03 03 03 03 0F" ++ zeros 16))))
+    (bytes "03 00 02 81 00 03 00 00 81 00 03 00 01 81 00 03 00 01 81 00 03 00 01 81 00 03 00 01 81 00 03 00 02 81 19")
+    (bytes "00 24 00 00 00 23 00 00 00")
 
 -- 64 sheets: 25, and the reset behind it drops the open sheet
 abbrev pub listFull : Row
-listFull = record {
-  mode = 1;
-  rule = 1;
-  state = zeros 19;
-  sheets = 64 ∷ (replicate 1280 7 ++ (1 ∷ 5 ∷ 6 ∷ 7 ∷ 8 ∷ 15 ∷ 101 ∷ 102 ∷ 103 ∷ 104 ∷ 105 ∷ 106 ∷ 107 ∷ 108 ∷ 109 ∷
-      110 ∷ 111 ∷ 112 ∷ 113 ∷ 114 ∷ 115 ∷ 116 ∷ []));
-  input = joined ((2 ∷ 0 ∷ 2 ∷ 1 ∷ []) ∷ (2 ∷ 0 ∷ 5 ∷ 0 ∷ []) ∷ (2 ∷ 0 ∷ 2 ∷ 1 ∷ []) ∷ []);
-  replies = replicate 15 238;
-  report = zeros 9;
-  result = 0;
-  state-after = zeros 19;
-  sheets-after = 64 ∷ (replicate 1280 7 ++ (zeros 22));
-  replies-after = 3 ∷ 0 ∷ 2 ∷ 129 ∷ 25 ∷ 3 ∷ 0 ∷ 133 ∷ 0 ∷ 0 ∷ 3 ∷ 0 ∷ 2 ∷ 129 ∷ 21 ∷ [];
-  report-after = 0 ∷ 12 ∷ 0 ∷ 0 ∷ 0 ∷ 15 ∷ 0 ∷ 0 ∷ 0 ∷ [];
-}
+listFull =
+    ran 1 1 (zeros 19)
+    (64 ∷ (replicate 1280 7 ++ bytes "01 05 06 07 08 0F 65 66 67 68 69 6A 6B 6C 6D 6E 6F 70 71 72 73 74"))
+    (bytes "02 00 02 01 02 00 05 00 02 00 02 01") 15
+    0 (zeros 19) (64 ∷ (replicate 1280 7 ++ zeros 22))
+    (bytes "03 00 02 81 19 03 00 85 00 00 03 00 02 81 15") (bytes "00 0C 00 00 00 0F 00 00 00")
 
--- reset drops the open sheet; a keep then finds none
-abbrev pub resetDrops : Row
-resetDrops = record {
-  mode = 0;
-  rule = 0;
-  state = zeros 19;
-  sheets = 2 ∷ (replicate 20 9 ++ (replicate 20 8 ++ (zeros 1240 ++ (1 ∷ 5 ∷ 6 ∷ 7 ∷ 8 ∷ 3 ∷ 201 ∷ 202 ∷ 203 ∷ 204 ∷
-      205 ∷ 206 ∷ 207 ∷ 208 ∷ (zeros 8)))));
-  input = joined ((2 ∷ 0 ∷ 5 ∷ 0 ∷ []) ∷ (3 ∷ 0 ∷ 1 ∷ 1 ∷ 0 ∷ []) ∷ []);
-  replies = replicate 10 238;
-  report = zeros 9;
-  result = 0;
-  state-after = zeros 19;
-  sheets-after = 2 ∷ (replicate 20 9 ++ (replicate 20 8 ++ (zeros 1262)));
-  replies-after = 3 ∷ 0 ∷ 133 ∷ 0 ∷ 0 ∷ 3 ∷ 0 ∷ 1 ∷ 129 ∷ 21 ∷ [];
-  report-after = 0 ∷ 9 ∷ 0 ∷ 0 ∷ 0 ∷ 10 ∷ 0 ∷ 0 ∷ 0 ∷ [];
-}
+-- ---- runs over two closed sheets and an open one
 
--- a reset that 8 stops drops nothing
-abbrev pub resetStopped : Row
-resetStopped = record {
-  mode = 0;
-  rule = 0;
-  state = zeros 19;
-  sheets = 2 ∷ (replicate 20 9 ++ (replicate 20 8 ++ (zeros 1240 ++ (1 ∷ 5 ∷ 6 ∷ 7 ∷ 8 ∷ 3 ∷ 201 ∷ 202 ∷ 203 ∷ 204 ∷
-      205 ∷ 206 ∷ 207 ∷ 208 ∷ (zeros 8)))));
-  input = joined ((4 ∷ 0 ∷ 1 ∷ 0 ∷ 1 ∷ 2 ∷ []) ∷ (2 ∷ 0 ∷ 5 ∷ 0 ∷ []) ∷ []);
-  replies = replicate 9 238;
-  report = zeros 9;
-  result = 8;
-  state-after = 2 ∷ 1 ∷ (zeros 17);
-  sheets-after = 2 ∷ (replicate 20 9 ++ (replicate 20 8 ++ (zeros 1240 ++ (1 ∷ 5 ∷ 6 ∷ 7 ∷ 8 ∷ 3 ∷ 201 ∷ 202 ∷ 203 ∷
-      204 ∷ 205 ∷ 206 ∷ 207 ∷ 208 ∷ (zeros 8)))));
-  replies-after = 3 ∷ 0 ∷ 129 ∷ 0 ∷ 0 ∷ 238 ∷ 238 ∷ 238 ∷ 238 ∷ [];
-  report-after = 8 ∷ 6 ∷ 0 ∷ 0 ∷ 0 ∷ 5 ∷ 0 ∷ 0 ∷ 0 ∷ [];
-}
+-- the closed ones; the open one with these slots kept, by their bits
+abbrev pub twoSheets : List ℕ
+twoSheets = 2 ∷ (replicate 20 9 ++ (replicate 20 8 ++ zeros 1240))
 
--- 5 for a kind that neither library has, before its payload (7) and the room (8)
-abbrev pub noKind : Row
-noKind = record {
-  mode = 0;
-  rule = 0;
-  state = zeros 19;
-  sheets = 2 ∷ (replicate 20 9 ++ (replicate 20 8 ++ (zeros 1240 ++ (1 ∷ 5 ∷ 6 ∷ 7 ∷ 8 ∷ 3 ∷ 201 ∷ 202 ∷ 203 ∷ 204 ∷
-      205 ∷ 206 ∷ 207 ∷ 208 ∷ (zeros 8)))));
-  input = joined ((4 ∷ 0 ∷ 1 ∷ 0 ∷ 1 ∷ 2 ∷ []) ∷ (3 ∷ 0 ∷ 3 ∷ 1 ∷ 1 ∷ []) ∷ []);
-  replies = replicate 5 238;
-  report = zeros 9;
-  result = 5;
-  state-after = 2 ∷ 1 ∷ (zeros 17);
-  sheets-after = 2 ∷ (replicate 20 9 ++ (replicate 20 8 ++ (zeros 1240 ++ (1 ∷ 5 ∷ 6 ∷ 7 ∷ 8 ∷ 3 ∷ 201 ∷ 202 ∷ 203 ∷
-      204 ∷ 205 ∷ 206 ∷ 207 ∷ 208 ∷ (zeros 8)))));
-  replies-after = 3 ∷ 0 ∷ 129 ∷ 0 ∷ 0 ∷ [];
-  report-after = 5 ∷ 6 ∷ 0 ∷ 0 ∷ 0 ∷ 5 ∷ 0 ∷ 0 ∷ 0 ∷ [];
-}
+abbrev pub opened : ℕ → List ℕ
+opened bits = twoSheets ++ (bytes "01 05 06 07 08" ++ (bits ∷ (bytes "C9 CA CB CC CD CE CF D0" ++ zeros 8)))
 
--- 6 for a keep that is cut, before its kind
-abbrev pub cutShort : Row
-cutShort = record {
-  mode = 0;
-  rule = 0;
-  state = zeros 19;
-  sheets = 2 ∷ (replicate 20 9 ++ (replicate 20 8 ++ (zeros 1240 ++ (1 ∷ 5 ∷ 6 ∷ 7 ∷ 8 ∷ 3 ∷ 201 ∷ 202 ∷ 203 ∷ 204 ∷
-      205 ∷ 206 ∷ 207 ∷ 208 ∷ (zeros 8)))));
-  input = 3 ∷ 0 ∷ 1 ∷ 1 ∷ 2 ∷ 3 ∷ 0 ∷ 1 ∷ 1 ∷ [];
-  replies = replicate 9 238;
-  report = zeros 9;
-  result = 6;
-  state-after = zeros 19;
-  sheets-after = 2 ∷ (replicate 20 9 ++ (replicate 20 8 ++ (zeros 1240 ++ (1 ∷ 5 ∷ 6 ∷ 7 ∷ 8 ∷ 7 ∷ 201 ∷ 202 ∷ 203 ∷
-      204 ∷ 205 ∷ 206 ∷ 207 ∷ 208 ∷ (zeros 8)))));
-  replies-after = 3 ∷ 0 ∷ 1 ∷ 129 ∷ 0 ∷ 238 ∷ 238 ∷ 238 ∷ 238 ∷ [];
-  report-after = 6 ∷ 5 ∷ 0 ∷ 0 ∷ 0 ∷ 5 ∷ 0 ∷ 0 ∷ 0 ∷ [];
-}
+-- a run that stops: the room, the refusal, the state after, the bits of the slots kept, what is written, the counts of
+-- the report
+abbrev pub stops : ℕ → String → ℕ → ℕ → List ℕ → ℕ → String → String → Row
+stops mode input room refusal state bits written counts =
+    ran mode 0 (zeros 19) (opened 3) (bytes input) room
+    refusal state (opened bits) (bytes written) (refusal ∷ bytes counts)
 
--- 6 for a cut record of no kind
-abbrev pub cutUnknown : Row
-cutUnknown = record {
-  mode = 0;
-  rule = 0;
-  state = zeros 19;
-  sheets = 2 ∷ (replicate 20 9 ++ (replicate 20 8 ++ (zeros 1240 ++ (1 ∷ 5 ∷ 6 ∷ 7 ∷ 8 ∷ 3 ∷ 201 ∷ 202 ∷ 203 ∷ 204 ∷
-      205 ∷ 206 ∷ 207 ∷ 208 ∷ (zeros 8)))));
-  input = 3 ∷ 0 ∷ 1 ∷ 1 ∷ 2 ∷ 4 ∷ 0 ∷ 3 ∷ 1 ∷ [];
-  replies = replicate 9 238;
-  report = zeros 9;
-  result = 6;
-  state-after = zeros 19;
-  sheets-after = 2 ∷ (replicate 20 9 ++ (replicate 20 8 ++ (zeros 1240 ++ (1 ∷ 5 ∷ 6 ∷ 7 ∷ 8 ∷ 7 ∷ 201 ∷ 202 ∷ 203 ∷
-      204 ∷ 205 ∷ 206 ∷ 207 ∷ 208 ∷ (zeros 8)))));
-  replies-after = 3 ∷ 0 ∷ 1 ∷ 129 ∷ 0 ∷ 238 ∷ 238 ∷ 238 ∷ 238 ∷ [];
-  report-after = 6 ∷ 5 ∷ 0 ∷ 0 ∷ 0 ∷ 5 ∷ 0 ∷ 0 ∷ 0 ∷ [];
-}
+-- the state after a push of 01 02, of 01 02 03 and of 01
+abbrev pub pushedTwo : List ℕ
+pushedTwo = bytes "02 01" ++ zeros 17
 
--- 7 for a length over 242 of kind 256, though bytes are missing
-abbrev pub badLength : Row
-badLength = record {
-  mode = 0;
-  rule = 0;
-  state = zeros 19;
-  sheets = 2 ∷ (replicate 20 9 ++ (replicate 20 8 ++ (zeros 1240 ++ (1 ∷ 5 ∷ 6 ∷ 7 ∷ 8 ∷ 3 ∷ 201 ∷ 202 ∷ 203 ∷ 204 ∷
-      205 ∷ 206 ∷ 207 ∷ 208 ∷ (zeros 8)))));
-  input = 5 ∷ 0 ∷ 1 ∷ 0 ∷ 1 ∷ 2 ∷ 3 ∷ 243 ∷ 0 ∷ 0 ∷ 1 ∷ 5 ∷ [];
-  replies = replicate 9 238;
-  report = zeros 9;
-  result = 7;
-  state-after = 3 ∷ 2 ∷ 1 ∷ (zeros 13 ++ (1 ∷ 0 ∷ 0 ∷ []));
-  sheets-after = 2 ∷ (replicate 20 9 ++ (replicate 20 8 ++ (zeros 1240 ++ (1 ∷ 5 ∷ 6 ∷ 7 ∷ 8 ∷ 3 ∷ 201 ∷ 202 ∷ 203 ∷
-      204 ∷ 205 ∷ 206 ∷ 207 ∷ 208 ∷ (zeros 8)))));
-  replies-after = 3 ∷ 0 ∷ 129 ∷ 0 ∷ 0 ∷ 238 ∷ 238 ∷ 238 ∷ 238 ∷ [];
-  report-after = 7 ∷ 7 ∷ 0 ∷ 0 ∷ 0 ∷ 5 ∷ 0 ∷ 0 ∷ 0 ∷ [];
-}
+abbrev pub pushedThree : List ℕ
+pushedThree = bytes "03 02 01" ++ (zeros 13 ++ bytes "01 00 00")
 
--- 7 for an opening of three bytes, before the room (8)
-abbrev pub badOpen : Row
-badOpen = record {
-  mode = 0;
-  rule = 0;
-  state = zeros 19;
-  sheets = 2 ∷ (replicate 20 9 ++ (replicate 20 8 ++ (zeros 1240 ++ (1 ∷ 5 ∷ 6 ∷ 7 ∷ 8 ∷ 3 ∷ 201 ∷ 202 ∷ 203 ∷ 204 ∷
-      205 ∷ 206 ∷ 207 ∷ 208 ∷ (zeros 8)))));
-  input = joined ((5 ∷ 0 ∷ 1 ∷ 0 ∷ 1 ∷ 2 ∷ 3 ∷ []) ∷ (5 ∷ 0 ∷ 0 ∷ 1 ∷ 1 ∷ 2 ∷ 3 ∷ []) ∷ []);
-  replies = replicate 5 238;
-  report = zeros 9;
-  result = 7;
-  state-after = 3 ∷ 2 ∷ 1 ∷ (zeros 13 ++ (1 ∷ 0 ∷ 0 ∷ []));
-  sheets-after = 2 ∷ (replicate 20 9 ++ (replicate 20 8 ++ (zeros 1240 ++ (1 ∷ 5 ∷ 6 ∷ 7 ∷ 8 ∷ 3 ∷ 201 ∷ 202 ∷ 203 ∷
-      204 ∷ 205 ∷ 206 ∷ 207 ∷ 208 ∷ (zeros 8)))));
-  replies-after = 3 ∷ 0 ∷ 129 ∷ 0 ∷ 0 ∷ [];
-  report-after = 7 ∷ 7 ∷ 0 ∷ 0 ∷ 0 ∷ 5 ∷ 0 ∷ 0 ∷ 0 ∷ [];
-}
+abbrev pub pushedOne : List ℕ
+pushedOne = 1 ∷ (zeros 15 ++ bytes "01 00 00")
 
--- 7 for a keep of no bytes
-abbrev pub badKeep : Row
-badKeep = record {
-  mode = 0;
-  rule = 0;
-  state = zeros 19;
-  sheets = 2 ∷ (replicate 20 9 ++ (replicate 20 8 ++ (zeros 1240 ++ (1 ∷ 5 ∷ 6 ∷ 7 ∷ 8 ∷ 3 ∷ 201 ∷ 202 ∷ 203 ∷ 204 ∷
-      205 ∷ 206 ∷ 207 ∷ 208 ∷ (zeros 8)))));
-  input = joined ((2 ∷ 0 ∷ 1 ∷ 1 ∷ []) ∷ []);
-  replies = replicate 5 238;
-  report = zeros 9;
-  result = 7;
-  state-after = zeros 19;
-  sheets-after = 2 ∷ (replicate 20 9 ++ (replicate 20 8 ++ (zeros 1240 ++ (1 ∷ 5 ∷ 6 ∷ 7 ∷ 8 ∷ 3 ∷ 201 ∷ 202 ∷ 203 ∷
-      204 ∷ 205 ∷ 206 ∷ 207 ∷ 208 ∷ (zeros 8)))));
-  replies-after = 238 ∷ 238 ∷ 238 ∷ 238 ∷ 238 ∷ [];
-  report-after = 7 ∷ (zeros 8);
-}
-
--- 7 for a close of one byte, before the room (8)
-abbrev pub badClose : Row
-badClose = record {
-  mode = 1;
-  rule = 0;
-  state = zeros 19;
-  sheets = 2 ∷ (replicate 20 9 ++ (replicate 20 8 ++ (zeros 1240 ++ (1 ∷ 5 ∷ 6 ∷ 7 ∷ 8 ∷ 3 ∷ 201 ∷ 202 ∷ 203 ∷ 204 ∷
-      205 ∷ 206 ∷ 207 ∷ 208 ∷ (zeros 8)))));
-  input = joined ((3 ∷ 0 ∷ 1 ∷ 0 ∷ 1 ∷ []) ∷ (3 ∷ 0 ∷ 2 ∷ 1 ∷ 1 ∷ []) ∷ []);
-  replies = replicate 5 238;
-  report = zeros 9;
-  result = 7;
-  state-after = 1 ∷ (zeros 15 ++ (1 ∷ 0 ∷ 0 ∷ []));
-  sheets-after = 2 ∷ (replicate 20 9 ++ (replicate 20 8 ++ (zeros 1240 ++ (1 ∷ 5 ∷ 6 ∷ 7 ∷ 8 ∷ 3 ∷ 201 ∷ 202 ∷ 203 ∷
-      204 ∷ 205 ∷ 206 ∷ 207 ∷ 208 ∷ (zeros 8)))));
-  replies-after = 3 ∷ 0 ∷ 129 ∷ 0 ∷ 0 ∷ [];
-  report-after = 7 ∷ 5 ∷ 0 ∷ 0 ∷ 0 ∷ 5 ∷ 0 ∷ 0 ∷ 0 ∷ [];
-}
+abbrev pub overSheets : List Row
+overSheets =
+    -- reset drops the open sheet; a keep then finds none
+    ran 0 0 (zeros 19) (opened 3) (bytes "02 00 05 00 03 00 01 01 00") 10
+    0 (zeros 19) (twoSheets ++ zeros 22) (bytes "03 00 85 00 00 03 00 01 81 15") (bytes "00 09 00 00 00 0A 00 00 00")
+    -- a reset that 8 stops drops nothing
+    ∷ stops 0 "04 00 01 00 01 02 02 00 05 00" 9 8 pushedTwo 3 "03 00 81 00 00" "06 00 00 00 05 00 00 00"
+    -- 5 for a kind that neither library has, before its payload (7) and the room (8)
+    ∷ stops 0 "04 00 01 00 01 02 03 00 03 01 01" 5 5 pushedTwo 3 "03 00 81 00 00" "06 00 00 00 05 00 00 00"
+    -- 6 for a keep that is cut, before its kind, and for a cut record of no kind
+    ∷ stops 0 "03 00 01 01 02 03 00 01 01" 9 6 (zeros 19) 7 "03 00 01 81 00" "05 00 00 00 05 00 00 00"
+    ∷ stops 0 "03 00 01 01 02 04 00 03 01" 9 6 (zeros 19) 7 "03 00 01 81 00" "05 00 00 00 05 00 00 00"
+    -- 7 for a length over 242 of kind 256, though bytes are missing
+    ∷ stops 0 "05 00 01 00 01 02 03 F3 00 00 01 05" 9 7 pushedThree 3 "03 00 81 00 00" "07 00 00 00 05 00 00 00"
+    -- 7 for an opening of three bytes, before the room (8), for a keep of no bytes, for a close of one byte
+    ∷ stops 0 "05 00 01 00 01 02 03 05 00 00 01 01 02 03" 5 7 pushedThree 3 "03 00 81 00 00" "07 00 00 00 05 00 00 00"
+    ∷ stops 0 "02 00 01 01" 5 7 (zeros 19) 3 "" "00 00 00 00 00 00 00 00"
+    ∷ stops 1 "03 00 01 00 01 03 00 02 01 01" 5 7 pushedOne 3 "03 00 81 00 00" "05 00 00 00 05 00 00 00"
+    -- no bytes end at once with 0
+    ∷ stops 0 "" 5 0 (zeros 19) 3 "" "00 00 00 00 00 00 00 00"
+    ∷ []
 
 -- 8 with no room for the reply, before 21
 abbrev pub noRoom : Row
-noRoom = record {
-  mode = 0;
-  rule = 1;
-  state = zeros 19;
-  sheets = zeros 1303;
-  input = joined ((3 ∷ 0 ∷ 1 ∷ 1 ∷ 0 ∷ []) ∷ (3 ∷ 0 ∷ 3 ∷ 0 ∷ 26 ∷ []) ∷ (3 ∷ 0 ∷ 1 ∷ 1 ∷ 0 ∷ []) ∷ []);
-  replies = replicate 14 238;
-  report = zeros 9;
-  result = 8;
-  state-after = 2 ∷ 201 ∷ 15 ∷ 219 ∷ (zeros 15);
-  sheets-after = zeros 1303;
-  replies-after = 3 ∷ 0 ∷ 1 ∷ 129 ∷ 21 ∷ 3 ∷ 0 ∷ 131 ∷ 0 ∷ 0 ∷ 238 ∷ 238 ∷ 238 ∷ 238 ∷ [];
-  report-after = 8 ∷ 10 ∷ 0 ∷ 0 ∷ 0 ∷ 10 ∷ 0 ∷ 0 ∷ 0 ∷ [];
-}
+noRoom =
+    ran 0 1 (zeros 19) (zeros 1303) (bytes "03 00 01 01 00 03 00 03 00 1A 03 00 01 01 00") 14
+    8 (bytes "02 C9 0F DB" ++ zeros 15) (zeros 1303) (bytes "03 00 01 81 15 03 00 83 00 00")
+    (bytes "08 0A 00 00 00 0A 00 00 00")
+
+-- ---- calls that are turned away
+
+-- nothing but the report is written
+abbrev pub away : ℕ → ℕ → ℕ → List ℕ → List ℕ → List ℕ → Row
+away refusal mode rule state sheets input =
+    ran mode rule state sheets input 5 refusal state sheets [] (refusal ∷ zeros 8)
+
+-- no state, for its pending byte; a push of one byte
+abbrev pub badState : List ℕ
+badState = zeros 16 ++ (2 ∷ 0 ∷ 0 ∷ [])
+
+abbrev pub aPush : List ℕ
+aPush = bytes "03 00 01 00 01"
 
 -- 14 writes nothing, whatever else is wrong
 abbrev pub noReport : Row
 noReport = record {
-  mode = 2;
-  rule = 2;
-  state = zeros 16 ++ (2 ∷ 0 ∷ 0 ∷ []);
+  job = record { mode = 2; rule = 2; state = badState; input = aPush; replies = lent 5; report = zeros 8 };
   sheets = zeros 1303;
-  input = joined ((3 ∷ 0 ∷ 1 ∷ 0 ∷ 1 ∷ []) ∷ []);
-  replies = replicate 5 238;
-  report = zeros 8;
-  result = 14;
-  state-after = zeros 16 ++ (2 ∷ 0 ∷ 0 ∷ []);
-  sheets-after = zeros 1303;
-  replies-after = 238 ∷ 238 ∷ 238 ∷ 238 ∷ 238 ∷ [];
-  report-after = zeros 8;
+  after = record { result = 14; state = badState; sheets = zeros 1303; replies = lent 5; report = zeros 8 };
 }
 
--- 16, whatever else is wrong but the report
-abbrev pub noMode : Row
-noMode = turnedAway 16 2 2 (zeros 16 ++ (2 ∷ 0 ∷ 0 ∷ [])) (zeros 1303) (3 ∷ 0 ∷ 1 ∷ 0 ∷ 1 ∷ [])
-
--- 17 before 13
-abbrev pub noRule : Row
-noRule = turnedAway 17 1 2 (zeros 16 ++ (2 ∷ 0 ∷ 0 ∷ [])) (zeros 1303) (3 ∷ 0 ∷ 1 ∷ 0 ∷ 1 ∷ [])
-
--- 13 for the state
-abbrev pub noState : Row
-noState = turnedAway 13 1 1 (zeros 16 ++ (2 ∷ 0 ∷ 0 ∷ [])) (zeros 1303) (3 ∷ 0 ∷ 1 ∷ 0 ∷ 1 ∷ [])
-
--- 13 for a state of 20 bytes
-abbrev pub shortState : Row
-shortState = turnedAway 13 0 0 (zeros 20) (zeros 1303) (3 ∷ 0 ∷ 1 ∷ 0 ∷ 1 ∷ [])
-
--- 13 for bits of the memory without a code
-abbrev pub noMemory : Row
-noMemory = turnedAway 13 0 0 (zeros 19 ++ (2 ∷ 0 ∷ [])) (zeros 1303) (3 ∷ 0 ∷ 1 ∷ 0 ∷ 1 ∷ [])
-
--- 13 for a number over 64
-abbrev pub sixtyFive : Row
-sixtyFive = turnedAway 13 0 0 (zeros 19) (65 ∷ (zeros 1302)) (3 ∷ 0 ∷ 1 ∷ 0 ∷ 1 ∷ [])
-
--- 13 for open over 1
-abbrev pub openTwo : Row
-openTwo = turnedAway 13 0 0 (zeros 19) (zeros 1281 ++ (2 ∷ (zeros 21))) (3 ∷ 0 ∷ 1 ∷ 0 ∷ 1 ∷ [])
-
--- 13 for kept over 15
-abbrev pub keptSixteen : Row
-keptSixteen = turnedAway 13 0 0 (zeros 19) (zeros 1286 ++ (16 ∷ (zeros 16))) (3 ∷ 0 ∷ 1 ∷ 0 ∷ 1 ∷ [])
-
--- 13 for 1,302 bytes of sheets
-abbrev pub shortSheets : Row
-shortSheets = turnedAway 13 0 0 (zeros 19) (zeros 1302) (3 ∷ 0 ∷ 1 ∷ 0 ∷ 1 ∷ [])
-
--- 13 for the sheets before 9
-abbrev pub sheetsFirst : Row
-sheetsFirst = turnedAway 13 0 0 (zeros 19) (zeros 1302) (zeros 12289)
-
--- 9 for 12,289 bytes
-abbrev pub longInput : Row
-longInput = turnedAway 9 0 0 (zeros 19) (zeros 1303) (zeros 12289)
-
--- no bytes end at once with 0
-abbrev pub emptyInput : Row
-emptyInput = record {
-  mode = 0;
-  rule = 0;
-  state = zeros 19;
-  sheets = 2 ∷ (replicate 20 9 ++ (replicate 20 8 ++ (zeros 1240 ++ (1 ∷ 5 ∷ 6 ∷ 7 ∷ 8 ∷ 3 ∷ 201 ∷ 202 ∷ 203 ∷ 204 ∷
-      205 ∷ 206 ∷ 207 ∷ 208 ∷ (zeros 8)))));
-  input = [];
-  replies = replicate 5 238;
-  report = zeros 9;
-  result = 0;
-  state-after = zeros 19;
-  sheets-after = 2 ∷ (replicate 20 9 ++ (replicate 20 8 ++ (zeros 1240 ++ (1 ∷ 5 ∷ 6 ∷ 7 ∷ 8 ∷ 3 ∷ 201 ∷ 202 ∷ 203 ∷
-      204 ∷ 205 ∷ 206 ∷ 207 ∷ 208 ∷ (zeros 8)))));
-  replies-after = 238 ∷ 238 ∷ 238 ∷ 238 ∷ 238 ∷ [];
-  report-after = zeros 9;
-}
+abbrev pub turnedAway : List Row
+turnedAway =
+    -- 16, whatever else is wrong but the report; 17 before 13; 13 for the state
+    away 16 2 2 badState (zeros 1303) aPush ∷ away 17 1 2 badState (zeros 1303) aPush
+    ∷ away 13 1 1 badState (zeros 1303) aPush
+    -- 13 for a state of 20 bytes, for bits of the memory without a code
+    ∷ away 13 0 0 (zeros 20) (zeros 1303) aPush ∷ away 13 0 0 (zeros 19 ++ (2 ∷ 0 ∷ [])) (zeros 1303) aPush
+    -- 13 for a number over 64, for open over 1, for kept over 15, for 1,302 bytes of sheets
+    ∷ away 13 0 0 (zeros 19) (65 ∷ zeros 1302) aPush ∷ away 13 0 0 (zeros 19) (zeros 1281 ++ (2 ∷ zeros 21)) aPush
+    ∷ away 13 0 0 (zeros 19) (zeros 1286 ++ (16 ∷ zeros 16)) aPush ∷ away 13 0 0 (zeros 19) (zeros 1302) aPush
+    -- 13 for the sheets before 9; 9 for 12,289 bytes
+    ∷ away 13 0 0 (zeros 19) (zeros 1302) (zeros 12289) ∷ away 9 0 0 (zeros 19) (zeros 1303) (zeros 12289)
+    ∷ []
 
 -- ---- the statement
 
 -- the table
 abbrev pub rows : List Row
 rows =
-    twoClosed ∷ underAm9511ACut ∷ underAm9511ANearest ∷ underOlderCut ∷ underOlderNearest ∷ inReplies ∷ sixtyFour ∷
-    listFull ∷ resetDrops ∷ resetStopped ∷ noKind ∷ cutShort ∷ cutUnknown ∷ badLength ∷ badOpen ∷ badKeep ∷ badClose
-    ∷ noRoom ∷ noReport ∷ noMode ∷ noRule ∷ noState ∷ shortState ∷ noMemory ∷ sixtyFive ∷ openTwo ∷ keptSixteen ∷
-    shortSheets ∷ sheetsFirst ∷ longInput ∷ emptyInput ∷ []
+    (twoClosed ∷ inReplies ∷ sixtyFour ∷ listFull ∷ noRoom ∷ noReport ∷ bothModes) ++ (overSheets ++ turnedAway)
 
--- every row of a table holds
-abbrev pub AllGive : List Row → Type 0
-AllGive [] = Unit
-AllGive (r ∷ rs) = Gives r × AllGive rs
-
--- all of them
+-- every call gives what its row says
 abbrev pub SheetsRows : Type 0
-SheetsRows = AllGive rows
+SheetsRows = map (λ (r : Row). answerTo (r .job) (r .sheets)) rows ≡ map (λ (r : Row). r .after) rows

@@ -18,7 +18,7 @@ pub record Library : Type 0 where
   pub figures : List ℕ → List ℕ → FiguresAnswer
 
 -- bytes in every slice of a run
-pub record Lent (state sheets input replies report : List ℕ) : Type 0 where
+pub record AllBytes (state sheets input replies report : List ℕ) : Type 0 where
   pub state-bytes : Bytes state
   pub sheets-bytes : Bytes sheets
   pub input-bytes : Bytes input
@@ -27,7 +27,7 @@ pub record Lent (state sheets input replies report : List ℕ) : Type 0 where
 
 -- a library meets the promises where each call keeps its contract, for every slice of bytes that can be lent
 pub record Meets (c : Library) : Type 0 where
-  pub run : (mode rule : ℕ) (state sheets input replies report : List ℕ) → Lent state sheets input replies report
+  pub run : (mode rule : ℕ) (state sheets input replies report : List ℕ) → AllBytes state sheets input replies report
       → SheetsAllows (sheetsCall mode rule state sheets input replies report)
       (c .run mode rule state sheets input replies report .result)
       (c .run mode rule state sheets input replies report .state)
@@ -50,7 +50,7 @@ No Class = (c : Library) → Meets c → Class c → ⊥
 -- what is said of a run on every input of bytes
 abbrev pub EveryRun : (ℕ → ℕ → List ℕ → List ℕ → List ℕ → List ℕ → List ℕ → Type 0) → Type 0
 EveryRun P =
-    (mode rule : ℕ) (state sheets input replies report : List ℕ) → Lent state sheets input replies report
+    (mode rule : ℕ) (state sheets input replies report : List ℕ) → AllBytes state sheets input replies report
     → P mode rule state sheets input replies report
 
 -- (a) refuses everything: one of its calls never answers 0
@@ -76,7 +76,7 @@ pub record IsRecord (r : List ℕ) : Type 0 where
 abbrev pub SameReplies : Library → Type 0
 SameReplies c =
     (mode rule : ℕ) (state sheets q r replies report : List ℕ) → IsRecord q → IsRecord r
-    → Lent state sheets q replies report → Lent state sheets r replies report
+    → AllBytes state sheets q replies report → AllBytes state sheets r replies report
     → c .run mode rule state sheets q replies report .replies ≡ c .run mode rule state sheets r replies report .replies
 
 -- (c) does nothing: one of its slices always comes back as it was lent
@@ -90,7 +90,7 @@ pub data DoesNothing (c : Library) : Type 0 where
 -- what is said of every file and of its first record
 abbrev pub EveryFile : Library → (SheetsAnswer → SheetsAnswer → Type 0) → Type 0
 EveryFile c P =
-    (mode rule : ℕ) (state sheets r rest replies report : List ℕ) → IsRecord r → Lent state sheets r replies report
+    (mode rule : ℕ) (state sheets r rest replies report : List ℕ) → IsRecord r → AllBytes state sheets r replies report
     → Bytes rest
     → P (c .run mode rule state sheets (r ++ rest) replies report) (c .run mode rule state sheets r replies report)
 
@@ -103,12 +103,12 @@ pub data FirstRecordOnly (c : Library) : Type 0 where
 -- (e) invented byte counts: on some one input a count is not the book's, which is the sum of the sizes of the records
 -- taken, or of their replies (Files: `counted-sums`), and 0 where the call is turned away
 pub data InventedCounts (c : Library) : Type 0 where
-  wrong-taken : (mode rule : ℕ) (state sheets input replies report : List ℕ) → Lent state sheets input replies report
-      → length report ≡ 9
+  wrong-taken : (mode rule : ℕ) (state sheets input replies report : List ℕ)
+      → AllBytes state sheets input replies report → length report ≡ 9
       → (fourAt (c .run mode rule state sheets input replies report .report) 1
       ≡ fourAt (sheetsAnswer mode rule state sheets input replies report .report) 1 → ⊥) → InventedCounts c
-  wrong-written : (mode rule : ℕ) (state sheets input replies report : List ℕ) → Lent state sheets input replies report
-      → length report ≡ 9
+  wrong-written : (mode rule : ℕ) (state sheets input replies report : List ℕ)
+      → AllBytes state sheets input replies report → length report ≡ 9
       → (fourAt (c .run mode rule state sheets input replies report .report) 5
       ≡ fourAt (sheetsAnswer mode rule state sheets input replies report .report) 5 → ⊥) → InventedCounts c
 
@@ -127,24 +127,24 @@ abbrev pub close : List ℕ
 close = 2 ∷ 0 ∷ 2 ∷ 1 ∷ []
 
 -- on the state of a reset and an empty list, with room for three replies
-abbrev pub fresh : Library → List ℕ → SheetsAnswer
-fresh c input = c .run 0 0 (zeros 19) (zeros 1303) input (zeros 15) (zeros 9)
+abbrev pub onReset : Library → List ℕ → SheetsAnswer
+onReset c input = c .run 0 0 (zeros 19) (zeros 1303) input (zeros 15) (zeros 9)
 
 -- each call answers 0 to one input and another number to another; one record, and three
-pub record Tells (c : Library) : Type 0 where
-  pub run-0 : fresh c [] .result ≡ 0
+pub record LibraryAnswers (c : Library) : Type 0 where
+  pub run-0 : onReset c [] .result ≡ 0
   pub run-14 : c .run 0 0 (zeros 19) (zeros 1303) [] (zeros 15) [] .result ≡ 14
   pub figures-0 : c .figures (zeros 1303) (zeros 53) ≡ record { result = 0; out = zeros 4 ++ (43 ∷ replicate 48 48) }
   pub figures-8 : c .figures (zeros 1303) [] ≡ record { result = 8; out = [] }
-  pub one-state : fresh c first .state ≡ 0x55 ∷ (zeros 15 ++ (1 ∷ 0 ∷ 0 ∷ []))
-  pub one-sheets : fresh c first .sheets ≡ zeros 1303
-  pub one-replies : fresh c first .replies ≡ 3 ∷ 0 ∷ 129 ∷ 0 ∷ 0 ∷ zeros 10
-  pub close-replies : fresh c close .replies ≡ 3 ∷ 0 ∷ 2 ∷ 129 ∷ 21 ∷ zeros 10
-  pub all-state : fresh c (first ++ rest) .state ≡ 0xaa ∷ 0x55 ∷ zeros 17
-  pub all-sheets : fresh c (first ++ rest) .sheets ≡ zeros 1281 ++ (1 ∷ 1 ∷ 2 ∷ 3 ∷ 4 ∷ zeros 17)
-  pub all-replies : fresh c (first ++ rest) .replies ≡ 3 ∷ 0 ∷ 129 ∷ 0 ∷ 0 ∷ 3 ∷ 0 ∷ 129 ∷ 0 ∷ 0 ∷ 3 ∷ 0 ∷ 0 ∷ 129 ∷ 0
+  pub one-state : onReset c first .state ≡ 0x55 ∷ (zeros 15 ++ (1 ∷ 0 ∷ 0 ∷ []))
+  pub one-sheets : onReset c first .sheets ≡ zeros 1303
+  pub one-replies : onReset c first .replies ≡ 3 ∷ 0 ∷ 129 ∷ 0 ∷ 0 ∷ zeros 10
+  pub close-replies : onReset c close .replies ≡ 3 ∷ 0 ∷ 2 ∷ 129 ∷ 21 ∷ zeros 10
+  pub all-state : onReset c (first ++ rest) .state ≡ 0xaa ∷ 0x55 ∷ zeros 17
+  pub all-sheets : onReset c (first ++ rest) .sheets ≡ zeros 1281 ++ (1 ∷ 1 ∷ 2 ∷ 3 ∷ 4 ∷ zeros 17)
+  pub all-replies : onReset c (first ++ rest) .replies ≡ 3 ∷ 0 ∷ 129 ∷ 0 ∷ 0 ∷ 3 ∷ 0 ∷ 129 ∷ 0 ∷ 0 ∷ 3 ∷ 0 ∷ 0 ∷ 129 ∷ 0
       ∷ []
-  pub all-report : fresh c (first ++ rest) .report ≡ 0 ∷ 18 ∷ 0 ∷ 0 ∷ 0 ∷ 15 ∷ 0 ∷ 0 ∷ 0 ∷ []
+  pub all-report : onReset c (first ++ rest) .report ≡ 0 ∷ 18 ∷ 0 ∷ 0 ∷ 0 ∷ 15 ∷ 0 ∷ 0 ∷ 0 ∷ []
 
 -- ---- the statement
 -- none of the classes holds a library that meets the promises
@@ -152,7 +152,7 @@ pub record WrongLibraries : Type 0 where
   -- the promises can be met
   pub met : Meets described
   -- every library that meets them does this with the inputs that tell
-  pub tells : (c : Library) → Meets c → Tells c
+  pub tells : (c : Library) → Meets c → LibraryAnswers c
   -- so that none of these does
   pub refuses-everything : No RefusesEverything
   pub single-reply : No SingleReply

@@ -7,10 +7,10 @@ use native.Mathlib.Omega.{arith}
 use native.Mathlib.Numerals.{add-one}
 use lib.ListN.{length, take, drop, length-append, length-drop}
 use lib.Seq.{drop-drop, length-take-le}
-use Rattle.little.specs.Little.{fourAt}
+use Rattle.numbers.specs.Little.{fourAt}
 use Rattle.sheet_bytes.specs.Ledger.{serialAt, isOpen, lines, linesOf, closedIn}
 use Rattle.sheets.specs.Calls.{Called}
-use Rattle.options.specs.Options.{askedOf}
+use Rattle.listing.specs.Options.{askedOf}
 use Rattle.listing.specs.Text.{digit, decimal, Adds}
 use Rattle.listing.specs.Listing.{newline, field, printedOf}
 use Rattle.listing.proofs.Adding.{nothing}

@@ -4,15 +4,13 @@ use mathlib.Core.Bool.{cond}
 use mathlib.Core.List.{List, [], _∷_, _++_}
 use lib.ListN.{getD, drop, replicate}
 use Rattle.terms.specs.Limits.{stateBytes, reportBytes}
-use Rattle.little.specs.Little.{fourAt}
+use Rattle.numbers.specs.Little.{fourAt}
 use Rattle.sheet_bytes.specs.Ledger.{sheetsBytes, serialAt, linesOf, isOpen}
 use Rattle.sheet_figures.specs.Telling.{figuresBytes, figuresOf}
 use Rattle.sheets.specs.Calls.{Called, callOf}
 use Rattle.listing.specs.Text.{hex}
 use Rattle.listing.specs.Listing.{blank, newline, field, replyRoom, printedOf}
-use Rattle.options.specs.declared.Asked.{Asked}
-use Rattle.options.specs.declared.Asked.the-variants.{Under, Nothing}
-use Rattle.options.specs.Options.{askedOf}
+use Rattle.listing.specs.Options.{askedOf, textFor}
 
 -- ---- how much room the parts have behind the listing
 
@@ -122,14 +120,6 @@ printoutUnder mode rule input = printedFor (callUnder mode rule input)
 abbrev pub printoutOf : List ℕ → List ℕ
 printoutOf = printoutUnder 0 0
 
--- the line `usage`
-abbrev pub usageText : List ℕ
-usageText = 117 ∷ 115 ∷ 97 ∷ 103 ∷ 101 ∷ newline ∷ []
-
--- what the program prints for a call: that line where the call asks for nothing that it does
-abbrev pub textOf : Asked → List ℕ → List ℕ
-textOf (Under mode rule) input = printoutUnder mode rule input
-textOf Nothing input = usageText
-
+-- what the program prints for a call of so many words, its own name among them
 abbrev pub toldOf : ℕ → List ℕ → List ℕ → List ℕ → List ℕ
-toldOf words first second input = textOf (askedOf words first second) input
+toldOf words first second input = textFor printoutUnder (askedOf words first second) input

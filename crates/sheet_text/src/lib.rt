@@ -13,10 +13,11 @@ ghost use Rattle.sheet_text.specs.Printout.{restText, printoutUnder, tol
 use listing::REPLY_ROOM;
 use listing::add_field;
 use listing::add_printed;
+use listing::options::Asked;
+use listing::options::asked_of;
 use listing::text::add;
 use listing::text::digit;
-use little::four_at;
-use options::Asked;
+use numbers::four_at;
 use sheet_bytes::bytes::PLACE_BYTES;
 use sheet_bytes::bytes::SERIAL_AT;
 use sheet_bytes::bytes::SHEETS_BYTES;
@@ -188,7 +189,7 @@ pub fn told(
     ensures { λ r. ⌜ take r (now (text .exit)) ≡ toldOf words (now (first .entry)) (now (second .entry))
         (now (input .entry)) ⌝ }
 {
-    let asked = options::asked_of(words, first, second);
+    let asked = asked_of(words, first, second);
     match asked {
         Asked::Under { mode, rule } => print(mode, rule, input, text),
         Asked::Nothing => add(text, 0, b"usage\n"),

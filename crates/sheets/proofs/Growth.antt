@@ -8,7 +8,7 @@ use native.Mathlib.Nat.{le-refl}
 use lib.Dec.{ltb, lit<, lit≤}
 use lib.ListN.{length, getD, set, take, drop, replicate, length-drop, length-set}
 use lib.Seq.{getD-take, getD-set-same, getD-set-other, length-take-le, take-take, take-set-le}
-use Rattle.little.specs.Little.{wordAt, le4}
+use Rattle.numbers.specs.Little.{wordAt, le4}
 use Rattle.record_files.proofs.Tests.{either-lt, either-eq}
 use Rattle.record_files.proofs.Through.{through}
 use Rattle.record_runs.specs.Record.{turnOf}

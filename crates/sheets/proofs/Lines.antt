@@ -8,7 +8,7 @@ use lib.Dec.{ltb, lit≤}
 use lib.ListN.{length, getD, take, drop}
 use lib.Seq.{getD-take, length-take-le}
 use borrow.Author.Tests.{lt-ltb, le-ltb, eq-eqb, ne-eqb, ltb-false}
-use Rattle.little.specs.Little.{wordAt}
+use Rattle.numbers.specs.Little.{wordAt}
 use Rattle.terms.specs.declared.Refusal.the-variants.{CutShort}
 use Rattle.terms.specs.Limits.{mostPayload}
 use Rattle.record_files.specs.Run.{Turned, idle}

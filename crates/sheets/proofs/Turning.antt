@@ -7,7 +7,7 @@ use native.Mathlib.Omega.{arith}
 use lib.Dec.{eqb, ltb, lit<}
 use lib.ListN.{length, drop}
 use borrow.Author.Tests.{lt-ltb, le-ltb, eq-eqb, ne-eqb}
-use Rattle.little.specs.Little.{wordAt}
+use Rattle.numbers.specs.Little.{wordAt}
 use Rattle.terms.specs.declared.Refusal.{Refusal}
 use Rattle.terms.specs.declared.Refusal.the-variants.{BadLength, NoRoom}
 use Rattle.terms.specs.Refusal.{numberOf as coreNumber}
@@ -23,7 +23,7 @@ use Rattle.record_runs.specs.Record.{frameUnder, turnOf}
 use Rattle.record_runs.proofs.Ready.{calm-turn}
 use Rattle.chip.proofs.Ready.{Ready}
 use Rattle.record_runs.specs.declared.step.Place.{Place}
-use Rattle.record_runs.specs.Pass.{further, unchanged, finished}
+use Rattle.record_runs.specs.Held.{further, unchanged, finished}
 use Rattle.record_runs.proofs.Places.{at-rest}
 use Rattle.sheet_bytes.specs.declared.Refusal.{Refusal as SheetRefusal}
 use Rattle.sheet_bytes.specs.Ledger.{bytesAt, dropped}

@@ -3,7 +3,7 @@ use Prim.Native.Nat.{ℕ}
 use mathlib.Core.Path.{_≡_}
 use mathlib.Core.List.{List}
 use lib.ListN.{length}
-use Rattle.little.specs.Little.{wordAt}
+use Rattle.numbers.specs.Little.{wordAt}
 use Rattle.terms.specs.Settings.{Settings}
 use Rattle.error_memory.specs.declared.Card.{Card}
 use Rattle.error_memory.specs.Held.{cardUnder}
@@ -11,7 +11,7 @@ use Rattle.record_files.specs.Run.{Turned, Turns, Outcome, Runs}
 use Rattle.record_runs.specs.declared.step.Pass.{Pass}
 use Rattle.record_runs.specs.declared.step.Place.{Place}
 use Rattle.record_runs.specs.Record.{turnOf}
-use Rattle.record_runs.specs.Pass.{further}
+use Rattle.record_runs.specs.Held.{further}
 use Rattle.sheets.specs.Step.{Held, held, ownTurn, coreBy}
 
 -- a turn of the code at a place, and a run, beside the definition's, with the sheets that it leaves; the settings stay

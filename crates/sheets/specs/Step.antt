@@ -3,7 +3,7 @@ use Prim.Native.Nat.{ℕ, _+_}
 use mathlib.Core.Bool.{Bool, true, false, not, cond}
 use mathlib.Core.List.{List, [], _∷_, _++_}
 use lib.Dec.{eqb, ltb}
-use Rattle.little.specs.Little.{wordAt, le2}
+use Rattle.numbers.specs.Little.{wordAt, le2}
 use Rattle.record_files.specs.Run.{Turned, Outcome, RecordStep, idle, runBy}
 use Rattle.terms.specs.Limits.{mostPayload}
 use Rattle.terms.specs.declared.Refusal.the-variants.{BadLength, NoRoom}

@@ -51,12 +51,7 @@ fn run_good(
     let chip = r.card.chip;
     let memory = r.card.memory;
     put_card(state, chip, memory);
-    fill_report(
-        report,
-        r.refusal as u8,
-        r.place.taken as usize,
-        r.place.written as usize,
-    );
+    fill_report(report, r.refusal as u8, r.place.taken, r.place.written);
     r.refusal as u32
 }
 
@@ -98,8 +93,7 @@ pub extern "C" fn sheets_run(
 }
 
 // The shift's figures of a `sheets` slice, 53 bytes: lines, different serials, serials on more than one line, slot 0
-// words
-// that are not proper, the exact sum. Returns the refusal; 8, then 13; only on 0 is `out` written.
+// words that are not proper, the exact sum. Returns the refusal; 8, then 13; only on 0 is `out` written.
 #[no_mangle]
 pub extern "C" fn sheets_figures(sheets: &[u8], out: &mut [u8]) -> u32
     ensures { λ r. ⌜ Tells (figuresOf (now (sheets .entry)) (now (out .entry))) r (now (out .exit)) ⌝ }

@@ -1,9 +1,9 @@
 // The record step of this library, on a card and on the sheets where they lie: its own kinds, and the core's step for
 // all others.
 use error_memory::Card;
+use numbers::two;
 use record_runs::head::Frame;
 use record_runs::head::read_frame;
-use record_runs::head::word;
 use record_runs::step::Pass;
 use record_runs::step::Place;
 use record_runs::step::finish;
@@ -27,7 +27,7 @@ ghost use lib.ListN.{length};
 ghost use Rattle.chip.specs.Step.{given};
 ghost use Rattle.sheet_bytes.specs.Ledger.{sheetsBytes};
 ghost use Rattle.error_memory.specs.Held.{cardUnder};
-ghost use Rattle.record_runs.specs.Pass.{Begins, Stands};
+ghost use Rattle.record_runs.specs.Held.{Begins, Stands};
 ghost use Rattle.sheets.specs.Step.{held, isOwn, lineOf};
 ghost use Rattle.sheets.specs.Held.{Passed, PassesOwn, PassesCore};
 
@@ -39,7 +39,7 @@ fn is_own(rest: &[u8], place: Place) -> bool
     if place.size < place.taken + 4 {
         return false;
     }
-    let kind = word(rest[2], rest[3]);
+    let kind = two(rest[2], rest[3]);
     if kind < OPEN_KIND {
         return false;
     }
@@ -58,9 +58,9 @@ fn pass_own(card: Card, sheets: &mut [u8], rest: &[u8], room: &mut [u8], place: 
     ensures { λ r. ⌜ PassesOwn place card (now (sheets .entry)) r (now (sheets .exit)) (now (rest .entry))
         (now (room .entry)) (now (room .exit)) ⌝ }
 {
-    let kind = word(rest[2], rest[3]);
+    let kind = two(rest[2], rest[3]);
     let wanted = payload_for(kind);
-    if word(rest[0], rest[1]) as usize != 2 + wanted {
+    if two(rest[0], rest[1]) as usize != 2 + wanted {
         return stop(Refusal::BadLength, card, place);
     }
     if place.most < place.written + 5 {
@@ -96,7 +96,7 @@ fn pass_core(
     if refusal != 0 {
         return t;
     }
-    if word(rest[2], rest[3]) != 5 {
+    if two(rest[2], rest[3]) != 5 {
         return t;
     }
     drop_open(sheets);

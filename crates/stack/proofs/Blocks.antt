@@ -2,14 +2,14 @@
 -- nothing.
 use mathlib.Core.Path.{_≡_, refl, sym, ap, ap₂, subst, _∙_}
 use mathlib.Core.List.{List, [], _∷_, _++_, append-assoc}
-use Prim.Native.Nat.{ℕ, suc, _+_, _-_, _*_, _/_, _%_, _≤_, _<_}
+use Prim.Native.Nat.{ℕ, suc, _+_, _*_, _/_, _%_, _≤_, _<_}
 use native.Mathlib.Numerals.{add-one}
 use native.Mathlib.Omega.{arith}
 use lib.Dec.{lit≤}
 use lib.ListN.{length, getD, take, drop, set, drop-of-length-le}
-use lib.Seq.{paste, paste-zero, take-all, drop-drop, drop-cons, set-split, length-paste}
-use Rattle.little.specs.Little.{le4, le8, fourAt, eightAt}
-use Rattle.little.proofs.Exact.{le4-of, le8-of}
+use lib.Seq.{paste, paste-zero, drop-cons, set-split, length-paste}
+use Rattle.numbers.specs.Little.{le4, le8, fourAt, eightAt}
+use Rattle.numbers.proofs.Exact.{le4-of, le8-of}
 use Rattle.stack.specs.Stack.{bytesOf, lowFirst, pushedAll, topByte, rotated, poppedAll, handedOut, tos}
 use Rattle.stack.proofs.Elems.{part}
 use Rattle.stack.proofs.Moves.{pushes-lay, pops-hand, pops-turn}
@@ -132,10 +132,3 @@ byte-laid room b i v h e =
     set-split room i v h
     ∙ ap₂ (λ (x y : ℕ). take i room ++ (x ∷ drop y room)) e (sym (add-one i))
     ∙ sym (append-assoc (take i room) (topByte b ∷ []) (drop (i + 1) room))
-
--- n bytes written over part of a list
-pub part-laid : (room x y : List ℕ) (i k n : ℕ) → k ≡ n → length y ≡ n → x ≡ y → take i room ++ (x ++ drop k (drop i room)) ≡ paste room i y n
-part-laid room x y i k n f h e =
-    ap (λ (m : ℕ). take i room ++ (x ++ drop m (drop i room))) f
-    ∙ ap₂ (λ (l m : List ℕ). take i room ++ (l ++ m)) (e ∙ sym (take-all n y (omega (arith, h)))) (drop-drop n i room)
-    ∙ sym (append-assoc (take i room) (take n y) (drop (i + n) room))

@@ -6,10 +6,9 @@ use native.Mathlib.Nat.{mod-eq-of-lt, mod-lt, div-lt-iff-lt-mul, le-of-suc-le-su
 use native.Mathlib.Omega.{arith}
 use lib.ListN.{length, take, drop, length-append, length-drop, take-append-drop}
 use lib.Seq.{take-at, drop-at, drop-drop, take-append-le, drop-append-le, take-append-add, length-take-le}
-use Rattle.stack.specs.Stack.{IsStack, bytesOf, zeros, pushed, topByte, rotated, overA, replaced, copied, exchanged, converted, widened, narrowed, tos}
-use Rattle.stack.specs.Stack.{nos}
+use Rattle.stack.specs.Stack.{IsStack, bytesOf, zeros, pushed, topByte, rotated, overA, replaced, copied, exchanged, tos, nos}
 use Rattle.stack.proofs.Words.{length-bytes, tos-over, bytes-append, bytes-drop, bytes-of, bytes-tos}
-use Rattle.stack.specs.Words.{eight, window, slid}
+use Rattle.stack.specs.Words.{eight, window, slid, overEight}
 use Rattle.stack.proofs.Windows.{pos, split, kept, last-bytes}
 
 -- two parts where each is known
@@ -112,17 +111,18 @@ module _ (t u : ℕ) where
   unfolding eight
   realigned-law = refl
 
-  pub convert-law : (r : ℕ) → bytesOf 4 r ++ take 12 (window 4 t u ++ zeros 8) ≡ converted (eight t ++ eight u) r
-  unfolding eight
-  convert-law r = refl
-
-  pub widen-law : (r : ℕ) → bytesOf 4 r ++ take 12 (window 2 t u ++ zeros 8) ≡ widened (eight t ++ eight u) r
-  unfolding eight
-  widen-law r = refl
-
-  pub narrow-law : (r : ℕ) → bytesOf 2 r ++ take 14 (window 4 t u ++ zeros 8) ≡ narrowed (eight t ++ eight u) r
-  unfolding eight
-  narrow-law r = refl
+  -- R slid over the eight bytes from place k on
+  pub convert-law : (k : ℕ) → k ≤ 8 → (kept n : ℕ) → n ≤ 8 → (r : ℕ) → eight kept ≡ window k t u
+      → slid (8 - n) r kept 0 ≡ overEight k n (eight t ++ eight u) r
+  convert-law k l kept n h r e =
+      let whole = length-eight t in
+      let m : length (drop k (eight t)) + k ≡ 8 = simp length-drop (omega arith) in
+      joined (last-bytes (8 - n) n r (omega arith))
+      (joined
+      (e
+      ∙ sym (ap (λ (x : ℕ). take x (drop k (eight t) ++ eight u)) (sym m) ∙ take-append-add (drop k (eight t)) (eight u) k)
+      ∙ ap (take 8) (sym (drop-append-le k (eight t) (eight u) (omega arith))))
+      (ap (take (8 - n)) eight-zero ∙ take-zeros (8 - n) 8 (omega arith)))
 
 -- ---- the words on top, and the byte
 module _ (t u : ℕ) where

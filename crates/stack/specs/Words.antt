@@ -1,8 +1,8 @@
 -- The stack by value as two words of eight bytes, the most significant byte nearest the top. Definitions only. Assumes nothing.
-use Prim.Native.Nat.{ℕ}
+use Prim.Native.Nat.{ℕ, _-_}
 use mathlib.Core.List.{List, _++_}
 use lib.ListN.{take, drop}
-use Rattle.stack.specs.Stack.{bytesOf}
+use Rattle.stack.specs.Stack.{bytesOf, zeros}
 use Rattle.stack.specs.declared.Stack.{Stack}
 
 -- the eight bytes of a word
@@ -19,3 +19,7 @@ slid k a b c = drop k (eight a) ++ (eight b ++ take k (eight c))
 -- the 16 bytes of a stack, top first
 abbrev pub bytesIn : Stack → List ℕ
 bytesIn s = eight (s .top) ++ eight (s .rest)
+
+-- R of n bytes over eight bytes of a stack from place k on, zeros below them: the layouts of a conversion
+abbrev pub overEight : ℕ → ℕ → List ℕ → ℕ → List ℕ
+overEight k n s r = bytesOf n r ++ (take 8 (drop k s) ++ zeros (8 - n))

@@ -1,37 +1,17 @@
 // Bytes that a caller lends, and the stack: its 16 bytes read and written, blocks of bytes pushed and popped.
 use super::Stack;
-use little::eight_at;
-use little::four_at;
-use little::put_eight;
-use little::put_word;
+use numbers::eight_at;
+use numbers::put_eight;
+use numbers::reversed_8;
 use terms::Width;
 ghost use mathlib.Core.Path.{_≡_};
 ghost use mathlib.Core.List.{_++_};
 ghost use Prim.Native.Nat.{_+_, _*_, _≤_};
 ghost use lib.ListN.{length, drop};
 ghost use lib.Seq.{paste};
-ghost use Rattle.little.specs.Little.{wordAt, le4, le8};
+ghost use Rattle.numbers.specs.Little.{wordAt, le4, le8};
 ghost use Rattle.stack.specs.Stack.{bytesOf, pushedAll, poppedAll, handedOut};
 ghost use Rattle.stack.specs.Words.{eight, bytesIn};
-
-// Four bytes the other way round.
-fn reversed_4(w: u32) -> u32
-    ensures { λ r. ⌜ (le4 r ≡ bytesOf 4 w) × (bytesOf 4 r ≡ le4 w) ⌝ }
-{
-    w % 0x100 * 0x100_0000
-        + w / 0x100 % 0x100 * 0x1_0000
-        + w / 0x1_0000 % 0x100 * 0x100
-        + w / 0x100_0000
-}
-
-// Eight bytes the other way round.
-fn reversed_8(w: u64) -> u64
-    ensures { λ r. ⌜ (le8 r ≡ eight w) × (eight r ≡ le8 w) ⌝ }
-{
-    let high = reversed_4((w / 0x1_0000_0000) as u32);
-    let low = reversed_4((w % 0x1_0000_0000) as u32);
-    high as u64 + low as u64 * 0x1_0000_0000
-}
 
 // The stack that 16 bytes stand for.
 pub fn load(s: &[u8]) -> Stack
@@ -53,30 +33,6 @@ pub fn store(s: &mut [u8], stack: Stack)
     put_eight(&mut s[8..16], reversed_8(stack.rest));
 }
 
-// The number of two bytes, the low one first.
-fn two(lo: u8, hi: u8) -> u16
-    ensures { λ r. ⌜ r ≡ lo + hi * 256 ⌝ }
-{
-    lo as u16 + hi as u16 * 256
-}
-
-// The bytes of a word, the most significant first, from a place on: four, and two.
-fn put_4(s: &mut [u8], at: usize, r: u32)
-    requires { ⌜ at + 4 ≤ length (now s) ⌝ }
-    ensures { λ _. ⌜ now (s .exit) ≡ paste (now (s .entry)) at (bytesOf 4 r) 4 ⌝ }
-{
-    let end = at + 4;
-    put_word(&mut s[at..end], reversed_4(r) as usize);
-}
-
-fn put_2(s: &mut [u8], at: usize, r: u32)
-    requires { ⌜ at + 2 ≤ length (now s) ⌝ }
-    ensures { λ _. ⌜ now (s .exit) ≡ paste (now (s .entry)) at (bytesOf 2 r) 2 ⌝ }
-{
-    s[at] = (r / 256 % 256) as u8;
-    s[at + 1] = (r % 256) as u8;
-}
-
 impl Stack {
     // Every byte of p pushed, in order: eight at a time, then four, two and one where so many are left.
     pub fn push_all(self, p: &[u8]) -> Stack
@@ -91,11 +47,11 @@ impl Stack {
             i += 8;
         }
         if 4 <= p.len() - i {
-            s = s.push(four_at(p, i) as u64, 4);
+            s = s.push(numbers::four_at(p, i) as u64, 4);
             i += 4;
         }
         if 2 <= p.len() - i {
-            s = s.push(two(p[i], p[i + 1]) as u64, 2);
+            s = s.push(numbers::two(p[i], p[i + 1]) as u64, 2);
             i += 2;
         }
         if i < p.len() {
@@ -121,12 +77,12 @@ impl Stack {
             i = end;
         }
         if 4 <= n - i {
-            put_4(room, i, s.tos(Width::Double));
+            numbers::put_high_4(room, i, s.tos(Width::Double));
             s = s.turn(4);
             i += 4;
         }
         if 2 <= n - i {
-            put_2(room, i, s.tos(Width::Single));
+            numbers::put_high_2(room, i, s.tos(Width::Single));
             s = s.turn(2);
             i += 2;
         }

@@ -1,20 +1,21 @@
 -- The ways through the calls: by the door and the tests behind it, which case of the definition holds. Assumes nothing.
 use mathlib.Core.Path.{_≡_, refl, sym, ap, subst, _∙_}
-use mathlib.Core.Logic.{⊎-elim}
 use mathlib.Core.Bool.{Bool, true, false, cond}
 use mathlib.Core.List.{List, _++_}
 use Prim.Native.Nat.{ℕ, _≤_, _<_}
 use native.Mathlib.Omega.{arith}
 use lib.Dec.{eqb}
-use lib.ListN.{length, take, drop, length-append, length-drop}
-use lib.Seq.{length-take-le}
-use borrow.Author.Tests.{lt-ltb, le-ltb, lt-leb, le-leb, leb-true, eq-eqb, ne-eqb, eqb-true}
+use lib.ListN.{length, take, drop, length-append, length-drop, take-append-drop}
+use lib.Seq.{length-take-le, drop-at}
+use borrow.Author.Tests.{lt-ltb, le-ltb, lt-leb, le-leb, leb-true, eq-eqb, ne-eqb, eqb-false}
 use Rattle.terms.specs.declared.Refusal.{Refusal}
 use Rattle.terms.specs.declared.Refusal.the-variants.{Done, InputTooLong, BadState, BadMode, BadRule}
 use Rattle.terms.specs.Refusal.{numberOf}
+use Rattle.terms.specs.Limits.{stateBytes}
 use Rattle.terms.specs.declared.Mode.the-variants.{Am9511A}
 use Rattle.terms.specs.declared.Rule.the-variants.{Cut}
 use Rattle.terms.specs.Settings.{Settings, isMode, isRule}
+use Rattle.terms.specs.Kind.{kindNamed}
 use Rattle.chip.specs.Step.{given}
 use Rattle.chip.specs.State.{State, Answer}
 use Rattle.chip.specs.declared.Answer.{Answer as HeldAnswer}
@@ -24,14 +25,14 @@ use Rattle.error_memory.specs.Event.{Event, Recall, Forget}
 use Rattle.error_memory.specs.Memory.{emptyMemory, Card, CardAnswer, cardWith, around, eventIn}
 use Rattle.error_memory.proofs.Good.{recalled, forgotten}
 use Rattle.record_files.specs.Run.{Runs, Outcome as Ended}
-use Rattle.record_runs.specs.Record.{kindNamed}
 use Rattle.record_runs.specs.Run.{Outcome, runOf}
-use Rattle.state_bytes.specs.Bytes.{Sized, isState, stateOf, memoryIn, cardIn, memoryBytesOf, withMemory, laid, laidOut, doorOf, reportOf}
+use Rattle.state_bytes.specs.Bytes.{Sized, isState, stateOf, memoryIn, cardIn, stateBytesOf, memoryBytesOf, withMemory, laid, laidOut, doorOf, reportOf}
 use Rattle.state_bytes.specs.Calls.{settingsOf, ranOf, away, callUnder, signalUnder, callOf, Calls, answeredBy, Signal, joinedOf, signalBy, unsent}
-use Rattle.state_bytes.specs.Calls.{signalOf, Signals, Settles}
-use Rattle.state_bytes.proofs.Laid.{other-memory}
-use Rattle.state_bytes.proofs.States.{least, sized-as, state-sized, state-ready, short-memory, long-memory}
-use Rattle.state_bytes.proofs.Cards.{card-returns, laid-length, long-back}
+use Rattle.state_bytes.specs.Calls.{signalOf, Signals}
+use Rattle.state_bytes.specs.Held.{Settles}
+use Rattle.state_bytes.proofs.Laid.{memory-behind, other-memory}
+use Rattle.state_bytes.proofs.States.{least, sized-as, state-sized, state-ready}
+use Rattle.state_bytes.proofs.Cards.{card-returns, laid-length, laid-chip}
 
 -- ---- the door
 module _ {A : Type 0} (f : Refusal → A) (a : A) where
@@ -69,17 +70,68 @@ admitted mode rule state h =
     let o = opened (isMode mode) (isRule rule) (isState state) h in
     record { mode-is = leb-true mode 1 (o .0); rule-is = leb-true rule 1 (o .1); state-is = o .2 }
 
--- ---- a chip's bytes written, then what is remembered
-pub kept-back : (l : List ℕ) (s : State) (f : Memory → Memory) {y left : List ℕ} → Sized l → length (s .stack) ≡ 16 → y ≡ laid (length l) s (memoryIn l)
-    → left ≡ withMemory y (f (memoryIn y)) → left ≡ laid (length l) s (f (memoryIn l))
-kept-back l s f {y} h n e k =
-    let len : length y ≡ length l = ap length e ∙ laid-length (cardWith (given Am9511A Cut) s (memoryIn l)) n (length l) h in
-    let mem : memoryIn y ≡ memoryIn l = ⊎-elim (λ a. short-memory y (len ∙ a) ∙ sym (short-memory l a)) (λ b. ap memoryIn e ∙ long-back s (memoryIn l) n
-    (length l) b) h in
-    other-memory (length l) s (memoryIn l) (f (memoryIn y)) n e len k ∙ ap (λ (m : Memory). laid (length l) s (f m)) mem
+-- ---- a chip's bytes written, then a memory
+module _ (l : List ℕ) (s : State) (h : Sized l) (n : length (s .stack) ≡ 16) {y : List ℕ} (e : y ≡ laid (length l) s (memoryIn l)) where
+  same-length : length y ≡ length l
+  same-length = ap length e ∙ laid-length (cardWith (given Am9511A Cut) s (memoryIn l)) n (length l) h
 
-pub laid-sized : (l : List ℕ) (s : State) (m : Memory) {y : List ℕ} → Sized l → length (s .stack) ≡ 16 → y ≡ laid (length l) s m → Sized y
-laid-sized l s m {y} h n e = sized-as l y (ap length e ∙ laid-length (cardWith (given Am9511A Cut) s m) n (length l) h) h
+  pub laid-sized : Sized y
+  laid-sized = sized-as l y same-length h
+
+  pub both-laid : (m : Memory) {left : List ℕ} → left ≡ withMemory y m → left ≡ laid (length l) s m
+  both-laid m k = other-memory (length l) s (memoryIn l) m n e same-length k
+
+-- ---- what is remembered, written behind the chip's bytes
+module _ (l : List ℕ) (h : isState l ≡ true) (m : Memory) {y : List ℕ} (e : y ≡ withMemory l m) where
+  sixteen : length (take 16 l) ≡ 16
+  sixteen = length-take-le 16 l (omega (arith, least l (state-sized l h)))
+
+  under : Card
+  under = cardWith (given Am9511A Cut) (stateOf l) m
+
+  put-behind : y ≡ laidOut (length l) under
+  unfolding under
+  put-behind = other-memory (length l) (stateOf l) (memoryIn l) m sixteen (sym (card-returns (given Am9511A Cut) l h)) refl e
+
+  pub put-sized : Sized y
+  unfolding under
+  put-sized = sized-as l y (ap length put-behind ∙ laid-length under sixteen (length l) (state-sized l h)) (state-sized l h)
+
+  pub put-long : stateBytes ≤ length y
+  put-long = least y put-sized
+
+  -- the chip is the one that was there
+  pub same-chip : stateOf y ≡ stateOf l
+  unfolding under
+  same-chip = ap stateOf put-behind ∙ laid-chip under sixteen (length l)
+
+  same-size : length y ≡ length l
+  unfolding under
+  same-size = ap length put-behind ∙ laid-length under sixteen (length l) (state-sized l h)
+
+  same-memory : memoryBytesOf (length y) (memoryIn y) ≡ memoryBytesOf (length l) m
+  same-memory =
+      sym (memory-behind y put-sized) ∙ ap (drop 19) e
+      ∙ drop-at (take 19 l) (memoryBytesOf (length l) m) 19 (length-take-le 19 l (least l (state-sized l h)))
+
+  -- an event of the chip that is settled then is settled on what was there; a refused one left all as it was
+  pub kept-behind : (a : HeldAnswer) (on : Settings) {r : ℕ} {left : List ℕ} {b : Answer} → Settles y a (memoryIn y) r left → answerIn a ≡ b
+      → ((numberOf (b .refusal) ≡ 0 → ⊥) → y ≡ l) → Signals (signalBy l (around on m b)) r left
+  kept-behind a on {r} {left} {b} w is back =
+      subst (λ (t : Signal). Signals t r left)
+      (ap (λ (x : Answer). signalBy y (around on (memoryIn y) x)) is ∙ by (eqb (numberOf (b .refusal)) 0) refl) (w on)
+    where
+      signal : Bool → List ℕ → List ℕ → Signal
+      signal x done state = record { result = joinedOf (numberOf (b .refusal)) (b .byte); state = cond x done state }
+
+      by : (x : Bool) → eqb (numberOf (b .refusal)) 0 ≡ x
+          → signal x (laid (length y) (b .state) (memoryIn y)) y ≡ signal x (laid (length l) (b .state) m) l
+      by true z = ap (λ (t : List ℕ). signal true (stateBytesOf (b .state) ++ t) l) same-memory
+      by false z = ap (signal false l) (back (eqb-false (numberOf (b .refusal)) 0 z))
+
+-- what is remembered as it was, written
+pub unchanged-memory : (l : List ℕ) → Sized l → withMemory l (memoryIn l) ≡ l
+unchanged-memory l h = ap (λ (t : List ℕ). take 19 l ++ t) (sym (memory-behind l h)) ∙ take-append-drop 19 l
 
 -- ---- the run
 -- the replies have as many bytes after a run as before it
@@ -152,23 +204,11 @@ module _ (state : List ℕ) (on : Settings) (m : Memory) (a : Answer) {n r : ℕ
   pub an-event : {left : List ℕ} → n ≡ 0 → left ≡ laid (length state) (a .state) m → Signals (signalBy state (around on m a)) r left
   an-event g d = rw (← en, eq-eqb n 0 g) record { result-is = er; state-is = d }
 
--- what is remembered counts where the event was done
-pub signal-as : (state : List ℕ) (on : Settings) (a : Answer) (k m : Memory) → (numberOf (a .refusal) ≡ 0 → k ≡ m) → signalBy state (around on k a)
-    ≡ signalBy state (around on m a)
-signal-as state on a k m h = by (eqb (numberOf (a .refusal)) 0) refl
-  where
-    with-memory : Bool → Memory → Signal
-    with-memory x z = record { result = joinedOf (numberOf (a .refusal)) (a .byte); state = cond x (laid (length state) (a .state) z) state }
-
-    by : (x : Bool) → eqb (numberOf (a .refusal)) 0 ≡ x → with-memory x k ≡ with-memory x m
-    by true e = ap (with-memory true) (h (eqb-true (numberOf (a .refusal)) 0 e))
-    by false e = refl
-
--- the program's answer, found to be the chip's, with what that leaves remembered
-pub settled : (state : List ℕ) (a : HeldAnswer) (k m : Memory) (on : Settings) {r : ℕ} {left : List ℕ} {b : Answer} → Settles state a k r left → answerIn a ≡ b
-    → (numberOf (b .refusal) ≡ 0 → k ≡ m) → Signals (signalBy state (around on m b)) r left
-settled state a k m on {r} {left} {b} w e h =
-    subst (λ (t : Signal). Signals t r left) (ap (λ (x : Answer). signalBy state (around on k x)) e ∙ signal-as state on b k m h) (w on)
+-- the program's answer, found to be the chip's, with what is remembered as it was
+pub settled : (state : List ℕ) (a : HeldAnswer) (on : Settings) {r : ℕ} {left : List ℕ} {b : Answer} → Settles state a (memoryIn state) r left
+    → answerIn a ≡ b → Signals (signalBy state (around on (memoryIn state) b)) r left
+settled state a on {r} {left} w e =
+    subst (λ (x : Answer). Signals (signalBy state (around on (memoryIn state) x)) r left) e (w on)
 
 -- the memory read, and cleared
 module _ (on : Settings) (state : List ℕ) (h : isState state ≡ true) {r : ℕ} where

@@ -2,14 +2,14 @@
 -- nothing.
 use mathlib.Core.Path.{_≡_, refl, sym, ap, ap₂, _∙_}
 use mathlib.Core.Logic.{⊎-elim}
-use mathlib.Core.Bool.{Bool}
+use mathlib.Core.Bool.{Bool, true, false}
 use mathlib.Core.List.{List, [], _∷_, _++_, append-nil}
 use Prim.Native.Nat.{ℕ, _+_, _≤_}
 use native.Mathlib.Omega.{arith}
 use lib.ListN.{length, take, drop, set, getD, length-append, length-drop, take-append-drop, drop-of-length-le}
 use borrow.Author.Tests.{eq-eqb, ne-eqb}
 use lib.Seq.{length-take-le, drop-cons, drop-drop, drop-at, take-at, sets, sets-eq}
-use Rattle.little.specs.Little.{le4}
+use Rattle.numbers.specs.Little.{le4}
 use Rattle.chip.specs.State.{State}
 use Rattle.chip.specs.Held.{held}
 use Rattle.error_memory.specs.declared.Memory.{Memory}
@@ -17,12 +17,17 @@ use Rattle.state_bytes.specs.Bytes.{Sized, memoryIn, flagOf, stateBytesO
 use Rattle.state_bytes.proofs.States.{least}
 
 -- the bytes of a memory are those behind the chip's
-memory-behind : (l : List ℕ) → Sized l → drop 19 l ≡ memoryBytesOf (length l) (memoryIn l)
+pub memory-behind : (l : List ℕ) → Sized l → drop 19 l ≡ memoryBytesOf (length l) (memoryIn l)
 memory-behind l h =
     ⊎-elim (λ a. rw (eq-eqb (length l) 19 a) (drop-of-length-le l {i = 19} (omega arith)))
     (λ b. rw (ne-eqb (length l) 19 (λ a. omega arith))
     (drop-cons l 19 0 (omega arith) ∙ ap (λ (t : List ℕ). getD l 19 0 ∷ t) (drop-cons l 20 0 (omega arith)
     ∙ ap (λ (t : List ℕ). getD l 20 0 ∷ t) (drop-of-length-le l {i = 21} (omega arith))))) h
+
+-- a flag as the code makes a byte of it
+pub as-flag : (b : Bool) → elim b as (λ (x : Bool). ℕ) [ false ↦ 0 | true ↦ 1 ] ≡ flagOf b
+as-flag true = refl
+as-flag false = refl
 
 -- 16 bytes and three behind them stored
 pub chip-laid : (l x : List ℕ) (pending : Bool) (status : ℕ) (service : Bool) {p v : ℕ} → Sized l → length x ≡ 16 → p ≡ flagOf pending → v ≡ flagOf service

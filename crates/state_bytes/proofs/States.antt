@@ -1,15 +1,16 @@
 -- Which bytes stand for a state, test by test: 19 or 21 of them, the chip's three behind the stack, the memory's two where they are 21. Assumes nothing.
 use mathlib.Core.Path.{_≡_, refl, sym, _∙_}
 use mathlib.Core.Logic.{inl, inr, ⊎-elim}
-use mathlib.Core.Bool.{Bool, true, false, cond, false≢true}
+use mathlib.Core.Bool.{Bool, true, false, _&&_, cond, false≢true}
 use mathlib.Core.List.{List}
 use Prim.Native.Nat.{ℕ, _≤_, _<_}
 use native.Mathlib.Omega.{arith}
-use lib.Dec.{eqb, ltb}
+use lib.Dec.{eqb, ltb, leb}
 use lib.ListN.{length, getD}
-use borrow.Author.Tests.{lt-ltb, le-ltb, eq-eqb, ne-eqb, eqb-true, ltb-false}
+use borrow.Author.Tests.{lt-ltb, le-ltb, le-leb, lt-leb, leb-true, leb-false, eq-eqb, ne-eqb, eqb-true, ltb-false}
 use Rattle.terms.specs.Limits.{stateBytes, longStateBytes}
 use Rattle.error_memory.specs.Memory.{emptyMemory, isMemory}
+use Rattle.record_files.proofs.Tests.{either-lt, both, not-both}
 use Rattle.state_bytes.specs.Bytes.{Sized, isChip, isState, memoryIn}
 
 -- ---- the length
@@ -29,15 +30,27 @@ module _ (l : List ℕ) where
   sized-as k e h = ⊎-elim (λ a. inl (e ∙ a)) (λ b. inr (e ∙ b)) h
 
 -- ---- the tests that code makes
+-- one that the definition makes the other way round
+turned : (x : ℕ) → leb x 127 ≡ cond (ltb 127 x) false true
+turned x = either-lt (λ (t : Bool). leb x 127 ≡ t) 127 x false true (λ more. lt-leb x 127 more) (λ less. le-leb x 127 less)
+
+all-false : (x y : Bool) → false ≡ cond x false (cond y false false)
+all-false true y = refl
+all-false false true = refl
+all-false false false = refl
+
 module _ (l : List ℕ) where
-  pub bad-pending : 1 < getD l 16 0 → false ≡ isChip l
-  bad-pending b = simp lt-ltb
+  pub flags-good : leb (getD l 16 0) 1 && leb (getD l 18 0) 1 ≡ true → leb (getD l 17 0) 127 ≡ isChip l
+  flags-good e =
+      let f = both (leb (getD l 16 0) 1) (leb (getD l 18 0) 1) e in
+      rw (le-ltb 1 (getD l 16 0) (leb-true (getD l 16 0) 1 (f .0)), le-ltb 1 (getD l 18 0) (leb-true (getD l 18 0) 1 (f .1)))
+      (turned (getD l 17 0))
 
-  pub is-busy : getD l 16 0 ≤ 1 → 127 < getD l 17 0 → false ≡ isChip l
-  is-busy b d = simp (lt-ltb, le-ltb)
-
-  pub bad-service : getD l 16 0 ≤ 1 → getD l 17 0 ≤ 127 → 1 < getD l 18 0 → false ≡ isChip l
-  bad-service b d e = simp (lt-ltb, le-ltb)
+  pub flags-bad : leb (getD l 16 0) 1 && leb (getD l 18 0) 1 ≡ false → false ≡ isChip l
+  flags-bad e =
+      ⊎-elim (λ x. rw (lt-ltb 1 (getD l 16 0) (leb-false (getD l 16 0) 1 x)))
+      (λ y. rw (lt-ltb 1 (getD l 18 0) (leb-false (getD l 18 0) 1 y)) (all-false (ltb 1 (getD l 16 0)) (ltb 127 (getD l 17 0))))
+      (not-both (leb (getD l 16 0) 1) (leb (getD l 18 0) 1) e)
 
   pub is-chip : getD l 16 0 ≤ 1 → getD l 17 0 ≤ 127 → getD l 18 0 ≤ 1 → true ≡ isChip l
   is-chip b d e = simp le-ltb

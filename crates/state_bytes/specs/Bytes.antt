@@ -6,15 +6,13 @@ use mathlib.Core.Bool.{Bool, true, false, cond}
 use mathlib.Core.List.{List, [], _∷_, _++_}
 use lib.Dec.{eqb, ltb}
 use lib.ListN.{length, take, getD}
-use Rattle.little.specs.Little.{le4}
+use Rattle.numbers.specs.Little.{le4}
 use Rattle.terms.specs.Limits.{stackBytes, stateBytes, longStateBytes}
 use Rattle.terms.specs.declared.Refusal.{Refusal}
 use Rattle.terms.specs.declared.Refusal.the-variants.{Done, BadState, BadMode, BadRule}
 use Rattle.terms.specs.Settings.{Settings, isMode, isRule}
 use Rattle.chip.specs.State.{State}
-use Rattle.chip.specs.Held.{stateIn}
 use Rattle.error_memory.specs.declared.Memory.{Memory}
-use Rattle.error_memory.specs.declared.Card.{Card as Held}
 use Rattle.error_memory.specs.Memory.{Card, emptyMemory, isMemory}
 
 -- as many bytes as a state has: 19, or 21
@@ -47,10 +45,6 @@ memoryIn l = cond (eqb (length l) stateBytes) emptyMemory (record { bits = getD 
 -- with the settings that the call was given
 abbrev pub cardIn : Settings → List ℕ → Card
 cardIn on l = record { on = on; chip = stateOf l; memory = memoryIn l }
-
--- a struct holds the card of a state
-abbrev pub holds : Held → List ℕ → Type 0
-holds c l = (stateIn (c .chip) ≡ stateOf l) × (c .memory ≡ memoryIn l)
 
 -- the door: 16, 17, 13, or 0 where mode, rule and the state's bytes are admitted
 abbrev pub doorOf : ℕ → ℕ → List ℕ → Refusal

@@ -13,17 +13,14 @@ use Rattle.terms.specs.Settings.{Settings, isMode, modeOf, isRule, ruleOf}
 use Rattle.chip.specs.Step.{given}
 use Rattle.chip.specs.Event.{Push, Pop, Command, Status, Reset, Acknowledge}
 use Rattle.error_memory.specs.Event.{Chip, Recall, Forget}
-use Rattle.chip.specs.declared.Answer.{Answer}
-use Rattle.chip.specs.Held.{answerIn}
-use Rattle.error_memory.specs.declared.Memory.{Memory}
-use Rattle.error_memory.specs.Memory.{Card, CardAnswer, remembered, around, eventIn}
-use Rattle.record_runs.specs.declared.head.EventKind.{EventKind}
-use Rattle.record_runs.specs.declared.head.EventKind.the-variants.{Push as PushKind, Pop as PopKind, Command as CommandKind, Status as StatusKind}
-use Rattle.record_runs.specs.declared.head.EventKind.the-variants.{Reset as ResetKind, Acknowledge as AcknowledgeKind, Recall as RecallKind}
-use Rattle.record_runs.specs.declared.head.EventKind.the-variants.{Forget as ForgetKind, Unknown as UnknownKind}
-use Rattle.record_runs.specs.Record.{kindNamed}
+use Rattle.error_memory.specs.Memory.{Card, CardAnswer, eventIn}
+use Rattle.terms.specs.declared.EventKind.{EventKind}
+use Rattle.terms.specs.declared.EventKind.the-variants.{Push as PushKind, Pop as PopKind, Command as CommandKind, Status as StatusKind}
+use Rattle.terms.specs.declared.EventKind.the-variants.{Reset as ResetKind, Acknowledge as AcknowledgeKind, Recall as RecallKind}
+use Rattle.terms.specs.declared.EventKind.the-variants.{Forget as ForgetKind, Unknown as UnknownKind}
+use Rattle.terms.specs.Kind.{kindNamed}
 use Rattle.record_runs.specs.Run.{Outcome, runOf}
-use Rattle.state_bytes.specs.Bytes.{isState, memoryIn, cardIn, laidOut, reportOf}
+use Rattle.state_bytes.specs.Bytes.{isState, cardIn, laidOut, reportOf}
 
 -- what the numbers that are given with a call set: the mode and the rule
 abbrev pub settingsOf : ℕ → ℕ → Settings
@@ -126,10 +123,3 @@ signalOf mode rule state kind byte =
 pub record Signals (t : Signal) (result : ℕ) (state : List ℕ) : Type 0 where
   pub result-is : result ≡ t .result
   pub state-is : state ≡ t .state
-
--- what the program does with the answer of an event of the chip, and with what that leaves remembered, whatever the settings
-abbrev pub Settles : List ℕ → Answer → Memory → ℕ → List ℕ → Type 0
-Settles state a m result left = (on : Settings) → Signals (signalBy state (around on m (answerIn a))) result left
-
-abbrev pub SettlesCommand : List ℕ → Answer → ℕ → ℕ → List ℕ → Type 0
-SettlesCommand state a code result left = Settles state a (remembered (memoryIn state) code (a .state .status)) result left

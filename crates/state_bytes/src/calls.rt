@@ -1,23 +1,16 @@
 // The run of a file and a single event on the bytes of a state: what the exported calls do.
 use crate::admit;
-use crate::card_in;
 use crate::chip_in;
-use crate::fill_report;
 use crate::memory_in;
-use crate::put_card;
-use crate::put_chip;
 use crate::put_memory;
 use crate::turn_away;
 use chip::Answer;
-use error_memory::Memory;
 use error_memory::empty;
-use error_memory::remember;
-use record_runs::head::EventKind;
-use record_runs::head::kind_of;
-use record_runs::run::run_all;
+use terms::EventKind;
 use terms::Mode;
 use terms::Refusal;
 use terms::Rule;
+use terms::kind_of;
 use terms::mode_of;
 use terms::number;
 use terms::rule_of;
@@ -27,11 +20,14 @@ ghost use Prim.Native.Nat.{_+_, _*_, _≤_, _<_};
 ghost use lib.ListN.{length};
 ghost use Rattle.terms.specs.Limits.{reportBytes, mostInput};
 ghost use Rattle.chip.specs.Step.{given};
-ghost use Rattle.error_memory.specs.Memory.{remembered};
+ghost use Rattle.chip.specs.Event.{Command as CommandEvent};
+ghost use Rattle.chip.specs.Held.{answerIn};
+ghost use Rattle.error_memory.specs.Memory.{keptAfter};
 ghost use Rattle.record_runs.specs.Run.{runOf};
 ghost use Rattle.state_bytes.specs.Bytes.{Sized, isState, memoryIn, cardIn, withMemory};
 ghost use Rattle.state_bytes.specs.Calls.{Calls, ranOf, callOf, answeredBy, signalBy};
-ghost use Rattle.state_bytes.specs.Calls.{signalOf, Signals, Settles, SettlesCommand};
+ghost use Rattle.state_bytes.specs.Calls.{signalOf, Signals};
+ghost use Rattle.state_bytes.specs.Held.{Settles};
 
 // The run on a good state; reported.
 fn run_good(
@@ -48,16 +44,11 @@ fn run_good(
         (runOf (cardIn (given mode rule) (now (state .entry))) (now (input .entry)) (length (now (replies .entry))))
         (now (replies .entry))) r (now (state .exit)) (now (replies .exit)) (now (report .exit)) ⌝ }
 {
-    let r = run_all(card_in(state), mode, rule, input, replies);
+    let r = record_runs::run::run_all(crate::card_in(state), mode, rule, input, replies);
     let chip = r.card.chip;
     let memory = r.card.memory;
-    put_card(state, chip, memory);
-    fill_report(
-        report,
-        r.refusal as u8,
-        r.place.taken as usize,
-        r.place.written as usize,
-    );
+    crate::put_card(state, chip, memory);
+    crate::fill_report(report, r.refusal as u8, r.place.taken, r.place.written);
     r.refusal as u32
 }
 
@@ -101,7 +92,7 @@ fn joined(refusal: u8, byte: u8) -> u32
 }
 
 // What an event of the chip answered, the memory as it stands; the state is written on 0 alone.
-fn keep(state: &mut [u8], a: Answer) -> u32
+fn keep(a: Answer, state: &mut [u8]) -> u32
     requires { ⌜ Sized (now state) ⌝ }
     ensures { λ r. ⌜ Settles (now (state .entry)) a (memoryIn (now (state .entry))) r (now (state .exit)) ⌝ }
 {
@@ -111,51 +102,21 @@ fn keep(state: &mut [u8], a: Answer) -> u32
         return joined(refusal, a.byte);
     }
     let chip = a.state;
-    put_chip(state, chip);
+    crate::put_chip(state, chip);
     joined(refusal, a.byte)
 }
 
-// The same, with what it leaves remembered.
-fn settle(state: &mut [u8], a: Answer, memory: Memory) -> u32
-    requires { ⌜ Sized (now state) ⌝ }
-    ensures { λ r. ⌜ Settles (now (state .entry)) a memory r (now (state .exit)) ⌝ }
-{
-    let why = a.refusal;
-    let refusal = number(why);
-    if refusal != 0 {
-        return joined(refusal, a.byte);
-    }
-    let chip = a.state;
-    put_card(state, chip, memory);
-    joined(refusal, a.byte)
-}
-
-// What an accepted command leaves remembered, where the state has a memory.
-fn keep_errors(state: &mut [u8], code: u8, status: u8)
+// What a command leaves remembered.
+fn keep_errors(a: Answer, code: u8, state: &mut [u8])
     requires { ⌜ Sized (now state) ⌝ }
     ensures { λ _. ⌜ now (state .exit) ≡ withMemory (now (state .entry))
-        (remembered (memoryIn (now (state .entry))) code status) ⌝ }
-{
-    if state.len() == terms::LONG_STATE_BYTES {
-        let m = memory_in(state);
-        put_memory(state, remember(m, code, status));
-    }
-}
-
-// What a command answered, with what it leaves remembered.
-fn keep_command(state: &mut [u8], code: u8, a: Answer) -> u32
-    requires { ⌜ Sized (now state) ⌝ }
-    ensures { λ r. ⌜ SettlesCommand (now (state .entry)) a code r (now (state .exit)) ⌝ }
+        (keptAfter (memoryIn (now (state .entry))) (CommandEvent code) (answerIn a)) ⌝ }
 {
     let why = a.refusal;
-    let refusal = number(why);
-    if refusal != 0 {
-        return joined(refusal, a.byte);
+    if number(why) == 0 {
+        let memory = memory_in(state);
+        put_memory(state, error_memory::remember(memory, code, a.state.status));
     }
-    let chip = a.state;
-    put_chip(state, chip);
-    keep_errors(state, code, chip.status);
-    joined(refusal, a.byte)
 }
 
 // One event of a kind on a good state; the byte is the one pushed or the code, else ignored.
@@ -165,34 +126,20 @@ fn event_on(mode: Mode, rule: Rule, state: &mut [u8], kind: EventKind, byte: u8)
         (answeredBy (cardIn (given mode rule) (now (state .entry))) byte kind)) r (now (state .exit)) ⌝ }
 {
     match kind {
-        EventKind::Push => {
-            let a = chip_in(state).push(byte);
-            keep(state, a)
-        }
-        EventKind::Pop => {
-            let a = chip_in(state).pop();
-            keep(state, a)
-        }
+        EventKind::Push => keep(chip_in(state).push(byte), state),
+        EventKind::Pop => keep(chip_in(state).pop(), state),
         EventKind::Command => {
             let a = chip_in(state).command(rule, byte);
-            keep_command(state, byte, a)
+            keep_errors(a, byte, state);
+            keep(a, state)
         }
-        EventKind::Status => {
-            let a = chip_in(state).read();
-            keep(state, a)
-        }
+        EventKind::Status => keep(chip_in(state).read(), state),
         EventKind::Reset => {
-            let a = chip_in(state).reset(mode);
-            settle(state, a, empty())
+            put_memory(state, empty());
+            keep(chip_in(state).reset(mode), state)
         }
-        EventKind::Acknowledge => {
-            let a = chip_in(state).acknowledge();
-            keep(state, a)
-        }
-        EventKind::Recall => {
-            let memory = memory_in(state);
-            joined(0, memory.bits)
-        }
+        EventKind::Acknowledge => keep(chip_in(state).acknowledge(), state),
+        EventKind::Recall => joined(0, memory_in(state).bits),
         EventKind::Forget => {
             put_memory(state, empty());
             joined(0, 0)

@@ -5,37 +5,23 @@ pub mod calls;
 use chip::State;
 use error_memory::Card;
 use error_memory::Memory;
-use error_memory::empty;
-use error_memory::is_memory;
-use little::put_word;
-use stack::lent::load;
-use stack::lent::store;
+use numbers::put_word;
 use terms::Refusal;
-use terms::is_mode;
-use terms::is_rule;
 ghost use mathlib.Core.Path.{_≡_};
 ghost use Prim.Native.Nat.{_≤_};
 ghost use lib.ListN.{length};
 ghost use Rattle.terms.specs.Limits.{stateBytes, reportBytes};
 ghost use Rattle.chip.specs.Held.{stateIn};
-ghost use Rattle.state_bytes.specs.Bytes.{Sized, isChip, isState, stateOf, memoryIn, flagOf, laid, withMemory};
-ghost use Rattle.state_bytes.specs.Bytes.{reportOf, doorOf, holds};
+ghost use Rattle.state_bytes.specs.Bytes.{Sized, isChip, isState, stateOf, memoryIn, laid, withMemory};
+ghost use Rattle.state_bytes.specs.Bytes.{reportOf, doorOf};
+ghost use Rattle.state_bytes.specs.Held.{holds};
 
 // Whether the bytes behind the stack stand for a chip's: both flags 0 or 1, busy clear.
 fn is_chip(state: &[u8]) -> bool
     requires { ⌜ stateBytes ≤ length (now state) ⌝ }
     ensures { λ r. ⌜ r ≡ isChip (now (state .entry)) ⌝ }
 {
-    if 1 < state[16] {
-        return false;
-    }
-    if 127 < state[17] {
-        return false;
-    }
-    if 1 < state[18] {
-        return false;
-    }
-    true
+    (state[16] <= 1) & (state[18] <= 1) && state[17] <= 127
 }
 
 // Whether the bytes stand for a state: 19 of them, or 21 with the memory's two behind.
@@ -48,20 +34,17 @@ fn is_state(state: &[u8]) -> bool
     if state.len() != terms::LONG_STATE_BYTES {
         return false;
     }
-    if is_chip(state) {
-        return is_memory(state[19], state[20]);
-    }
-    false
+    is_chip(state) && error_memory::is_memory(state[19], state[20])
 }
 
 // The door: 16, 17, 13, or 0 where mode, rule and the state's bytes are admitted.
 pub fn admit(mode: u32, rule: u32, state: &[u8]) -> Refusal
     ensures { λ r. ⌜ r ≡ doorOf mode rule (now (state .entry)) ⌝ }
 {
-    if !is_mode(mode) {
+    if !terms::is_mode(mode) {
         return Refusal::BadMode;
     }
-    if !is_rule(rule) {
+    if !terms::is_rule(rule) {
         return Refusal::BadRule;
     }
     if !is_state(state) {
@@ -75,7 +58,7 @@ pub fn chip_in(state: &[u8]) -> State
     requires { ⌜ stateBytes ≤ length (now state) ⌝ }
     ensures { λ r. ⌜ stateIn r ≡ stateOf (now (state .entry)) ⌝ }
 {
-    let stack = load(&state[..16]);
+    let stack = stack::lent::load(&state[..16]);
     State {
         stack,
         pending: state[16] == 1,
@@ -90,7 +73,7 @@ pub fn memory_in(state: &[u8]) -> Memory
     ensures { λ r. ⌜ r ≡ memoryIn (now (state .entry)) ⌝ }
 {
     if state.len() == terms::STATE_BYTES {
-        return empty();
+        return error_memory::empty();
     }
     Memory {
         bits: state[19],
@@ -108,13 +91,6 @@ pub fn card_in(state: &[u8]) -> Card
     Card { chip, memory }
 }
 
-// A flag as a byte.
-fn flag(set: bool) -> u8
-    ensures { λ r. ⌜ r ≡ flagOf set ⌝ }
-{
-    if set { 1 } else { 0 }
-}
-
 // The chip's 19 bytes; all others stay.
 pub fn put_chip(state: &mut [u8], chip: State)
     requires { ⌜ Sized (now state) ⌝ }
@@ -122,10 +98,10 @@ pub fn put_chip(state: &mut [u8], chip: State)
         (memoryIn (now (state .entry))) ⌝ }
 {
     let stack = chip.stack;
-    store(&mut state[..16], stack);
-    state[16] = flag(chip.pending);
+    stack::lent::store(&mut state[..16], stack);
+    state[16] = chip.pending as u8;
     state[17] = chip.status;
-    state[18] = flag(chip.service);
+    state[18] = chip.service as u8;
 }
 
 // The memory's two bytes where the state has them; all others stay.
@@ -149,13 +125,13 @@ pub fn put_card(state: &mut [u8], chip: State, memory: Memory)
 }
 
 // The 9 bytes of a report.
-pub fn fill_report(report: &mut [u8], refusal: u8, taken: usize, written: usize)
+pub fn fill_report(report: &mut [u8], refusal: u8, taken: u32, written: u32)
     requires { ⌜ length (now report) ≡ reportBytes ⌝ }
     ensures { λ _. ⌜ now (report .exit) ≡ reportOf refusal taken written ⌝ }
 {
     report[0] = refusal;
-    put_word(&mut report[1..5], taken);
-    put_word(&mut report[5..9], written);
+    put_word(&mut report[1..5], taken as usize);
+    put_word(&mut report[5..9], written as usize);
 }
 
 // The report of a call that is turned away: the refusal and two counts of 0.

@@ -22,7 +22,7 @@ use Rattle.bit_serial.proofs.Subtracting.{starts as subtracting-starts}
 use Rattle.listing.specs.Text.{Adds}
 use Rattle.step_text.specs.Lines.{lineRoom, stepLine}
 use Rattle.step_text.specs.Steps.{productLine, quotientLine, productLines, quotientLines}
-use Rattle.step_text.proofs.Hex.{told-as}
+use Rattle.listing.proofs.Adding.{told-as}
 
 -- after k lines: what is written, and the rest that is not yet, make the whole text
 pub record Telling (all rest : List ℕ) (k : ℕ) (before out : List ℕ) (place : ℕ) : Type 0 where

@@ -1,8 +1,8 @@
 -- What a call of the program asks for: CODE B A in hex, and then `--nearest` or nothing. Definitions only. Assumes nothing.
-use Prim.Native.Nat.{ℕ, _+_, _-_, _*_, _<_}
-use mathlib.Core.Bool.{Bool, true, false, _&&_, cond}
+use Prim.Native.Nat.{ℕ, _*_}
+use mathlib.Core.Bool.{cond}
 use mathlib.Core.List.{List, [], _∷_}
-use lib.Dec.{ltb, eqb}
+use lib.Dec.{eqb}
 use lib.ListN.{length}
 use Rattle.terms.specs.declared.Rule.{Rule}
 use Rattle.terms.specs.declared.Rule.the-variants.{Cut, Nearest}
@@ -11,8 +11,8 @@ use Rattle.terms.specs.Width.{sizeOf}
 use Rattle.bit_serial.specs.declared.Operation.{Operation}
 use Rattle.bit_serial.specs.declared.Operation.the-variants.{Mul, Muu, Div, Fmul, Fdiv}
 use Rattle.bit_serial.specs.Work.{widthOf, Operands}
-use Rattle.step_text.specs.declared.asked.Read.{Read}
-use Rattle.step_text.specs.declared.asked.Read.the-variants.{Number, Nothing as Unread}
+use Rattle.listing.specs.declared.hex.Hex.{Hex}
+use Rattle.listing.specs.declared.hex.Hex.the-variants.{Number, Nothing as Unread}
 use Rattle.step_text.specs.declared.asked.Found.{Found}
 use Rattle.step_text.specs.declared.asked.Found.the-variants.{Operation as Named, Nothing as Unnamed}
 use Rattle.step_text.specs.declared.asked.Given.{Given}
@@ -20,33 +20,14 @@ use Rattle.step_text.specs.declared.asked.Given.the-variants.{Under, Not
 use Rattle.step_text.specs.declared.asked.Asked.{Asked}
 use Rattle.step_text.specs.declared.asked.Asked.the-variants.{Work, Nothing as Unasked}
 use Rattle.listing.specs.Listing.{newline}
+use Rattle.listing.specs.Hex.{hexFrom, hexOf}
+use Rattle.listing.specs.Options.{sameText, nearestText}
 use Rattle.step_text.specs.Steps.{workingsOf}
 
--- the value of a hex digit, 0 to 9, A to F or a to f, and 16 for a character that is none
-unfoldable pub digitValue : ℕ → ℕ
-digitValue c =
-    cond (ltb c 48) 16
-    (cond (ltb c 58) (c - 48)
-    (cond (ltb c 65) 16
-    (cond (ltb c 71) (c - 55)
-    (cond (ltb c 97) 16
-    (cond (ltb c 103) (c - 87) 16)))))
-
--- a number read on, digit by digit, from what the digits before stand for
-unfoldable pub readFrom : ℕ → List ℕ → Read
-unfolding digitValue
-readFrom value [] = Number value
-readFrom value (c ∷ cs) = cond (ltb (digitValue c) 16) (readFrom (value * 16 + digitValue c) cs) Unread
-
 -- the number that exactly so many hex digits stand for
-unfoldable pub readHex : ℕ → List ℕ → Read
-unfolding readFrom
-readHex digits text = cond (eqb (length text) digits) (readFrom 0 text) Unread
-
--- what was read is below a bound
-abbrev pub Below : ℕ → Read → Type 0
-Below bound (Number value) = value < bound
-Below bound Unread = Unit
+unfoldable pub readHex : ℕ → List ℕ → Hex
+unfolding hexFrom
+readHex digits text = cond (eqb (length text) digits) (hexOf text) Unread
 
 -- the eight codes
 unfoldable pub operationAt : ℕ → Found
@@ -60,27 +41,16 @@ operationAt code =
     (cond (eqb code 0x12) (Named Fmul)
     (cond (eqb code 0x13) (Named Fdiv) Unnamed)))))))
 
-abbrev pub operationIn : Read → Found
+abbrev pub operationIn : Hex → Found
 operationIn (Number code) = operationAt code
 operationIn Unread = Unnamed
-
--- the same text, character by character
-unfoldable pub sameText : List ℕ → List ℕ → Bool
-sameText [] [] = true
-sameText [] (y ∷ ys) = false
-sameText (x ∷ xs) [] = false
-sameText (x ∷ xs) (y ∷ ys) = eqb x y && sameText xs ys
-
--- `--nearest`
-abbrev pub nearestText : List ℕ
-nearestText = 45 ∷ 45 ∷ 110 ∷ 101 ∷ 97 ∷ 114 ∷ 101 ∷ 115 ∷ 116 ∷ []
 
 -- a call of four words, the program's name and three more, is under the cut; one of five whose last is `--nearest` is under the other rule
 unfoldable pub ruleFor : ℕ → List ℕ → Given
 unfolding sameText
 ruleFor words option = cond (eqb words 4) (Under Cut) (cond (eqb words 5) (cond (sameText option nearestText) (Under Nearest) Unruled) Unruled)
 
-abbrev pub withNumbers : Operation → Rule → Read → Read → Asked
+abbrev pub withNumbers : Operation → Rule → Hex → Hex → Asked
 withNumbers op rule (Number b) (Number a) = Work op rule b a
 withNumbers op rule (Number b) Unread = Unasked
 withNumbers op rule Unread a = Unasked

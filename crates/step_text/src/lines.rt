@@ -1,8 +1,8 @@
 // The lines: of one step, of a word with its error and status, of a refusal.
 use listing::add_field;
+use listing::hex::add_digits;
 use listing::text::add;
 use listing::text::add_decimal;
-use listing::text::digit;
 use terms::Refusal;
 use terms::Width;
 ghost use mathlib.Core.Path.{_≡_};
@@ -13,20 +13,7 @@ ghost use lib.ListN.{length};
 ghost use Rattle.terms.specs.Width.{bitsOf};
 ghost use Rattle.fixed.specs.Fixed.{half};
 ghost use Rattle.listing.specs.Text.{Adds};
-ghost use Rattle.step_text.specs.Lines.{lineRoom, hexOf, stepLine, statusFor, statusEnd, wordLine, refusalLine};
-
-// The last hex digits of a number, so many of them.
-fn add_hex(out: &mut [u8], place: usize, n: u64, count: usize) -> usize
-    requires { ⌜ place + count ≤ length (now out) ⌝ }
-    ensures { λ r. ⌜ Adds (hexOf count n) (now (out .entry)) (now (out .exit)) place r ⌝ }
-{
-    if count == 0 {
-        return place;
-    }
-    let next = add_hex(out, place, n / 16, count - 1);
-    let last = [digit((n % 16) as u8)];
-    add(out, next, &last)
-}
+ghost use Rattle.step_text.specs.Lines.{lineRoom, stepLine, statusFor, statusEnd, wordLine, refusalLine};
 
 // The line of a step: its number, the bits or digits left, the partial result.
 pub fn add_step(out: &mut [u8], place: usize, number: u64, left: u64, partial: u64) -> usize
@@ -37,7 +24,7 @@ pub fn add_step(out: &mut [u8], place: usize, number: u64, left: u64, partial: u
     let a = add_decimal(out, place, number);
     let b = add_field(out, a, left);
     let c = add(out, b, b" ");
-    let d = add_hex(out, c, partial, 16);
+    let d = add_digits(out, c, partial, 16, 16);
     add(out, d, b"\n")
 }
 
@@ -72,7 +59,7 @@ fn add_status(out: &mut [u8], place: usize, width: Width, word: u32, error: u8) 
     ensures { λ r. ⌜ Adds (statusEnd width word error) (now (out .entry)) (now (out .exit)) place r ⌝ }
 {
     let a = add(out, place, b" status ");
-    let b = add_hex(out, a, status(width, word, error), 2);
+    let b = add_digits(out, a, status(width, word, error), 16, 2);
     add(out, b, b"\n")
 }
 
@@ -82,7 +69,7 @@ pub fn add_word(out: &mut [u8], place: usize, width: Width, word: u32, error: u8
     ensures { λ r. ⌜ Adds (wordLine width word error) (now (out .entry)) (now (out .exit)) place r ⌝ }
 {
     let a = add(out, place, b"word ");
-    let b = add_hex(out, a, word as u64, 2 * terms::size(width));
+    let b = add_digits(out, a, word as u64, 16, 2 * terms::size(width));
     let c = add(out, b, b" error");
     let d = add_field(out, c, error as u64);
     add_status(out, d, width, word, error)

@@ -4,6 +4,7 @@ ghost use mathlib.Core.Path.{_≡_};
 ghost use Prim.Native.Nat.{_≤_};
 ghost use Rattle.terms.specs.Refusal.{numberOf};
 ghost use Rattle.terms.specs.Width.{sizeOf};
+ghost use Rattle.terms.specs.Kind.{kindNamed};
 ghost use Rattle.terms.specs.Settings.{isMode, modeOf, isRule, ruleOf};
 
 // The bytes of the stack.
@@ -79,6 +80,19 @@ pub enum Mode {
     Am9511,
 }
 
+// A kind of event, by 01's numbers 1 to 6 and 02's two of the error memory: read (7) and cleared (8).
+pub enum EventKind {
+    Push,
+    Pop,
+    Command,
+    Status,
+    Reset,
+    Acknowledge,
+    Recall,
+    Forget,
+    Unknown,
+}
+
 // The number that 01 or 02 gives a refusal.
 pub fn number(refusal: Refusal) -> u8
     ensures { λ r. ⌜ (r ≡ numberOf refusal) × (r ≤ 18) ⌝ }
@@ -103,6 +117,23 @@ pub fn number(refusal: Refusal) -> u8
         Refusal::BadMode => 16,
         Refusal::BadRule => 17,
         Refusal::PartEntry => 18,
+    }
+}
+
+// The kind of a number.
+pub fn kind_of(number: u32) -> EventKind
+    ensures { λ r. ⌜ r ≡ kindNamed number ⌝ }
+{
+    match number {
+        1 => EventKind::Push,
+        2 => EventKind::Pop,
+        3 => EventKind::Command,
+        4 => EventKind::Status,
+        5 => EventKind::Reset,
+        6 => EventKind::Acknowledge,
+        7 => EventKind::Recall,
+        8 => EventKind::Forget,
+        _ => EventKind::Unknown,
     }
 }
 
@@ -142,7 +173,7 @@ pub fn rule_of(number: u32) -> Rule
 
 // The bytes of a word.
 pub fn size(width: Width) -> usize
-    ensures { λ r. ⌜ (r ≡ sizeOf width) × (r ≤ 4) ⌝ }
+    ensures { λ r. ⌜ (r ≡ sizeOf width) × (r ≤ 4) × (2 ≤ r) ⌝ }
 {
     match width {
         Width::Single => 2,

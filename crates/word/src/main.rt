@@ -1,19 +1,15 @@
 // The program behind ./word: its arguments are a rule, a form and texts, and it writes the line that `decimals` tells
 // for each of them; without a text it reads texts from standard input, one to a line. `end` is the last line.
 // The form is `short` or `exact` for decimals and words, `sum` for sums as the figures of sheets give them.
+use decimals::line::LINE_ROOM;
+use decimals::line::tell;
+use decimals::sum::tell_sum;
 use libc::STDIN_FILENO;
 use libc::STDOUT_FILENO;
+use listing::ends::line_end;
+use listing::options::rule_named;
 use terms::Rule;
-ghost use Prim.Native.Nat.{_≤_};
-ghost use lib.ListN.{length};
-
-// The rule that the first argument names: the cut, or `nearest`.
-fn rule_named(name: &[u8]) -> Rule {
-    if check::same(name, b"nearest") {
-        return Rule::Nearest;
-    }
-    Rule::Cut
-}
+ghost use Rattle.io.specs.Counts.{Counts};
 
 // What is told of a text: a decimal or a word, in its short or its exact form, or a sum.
 enum Form {
@@ -33,27 +29,22 @@ fn form_named(name: &[u8]) -> Form {
     Form::Short
 }
 
-// Writes the line of a decimal or a word.
-fn write_value(rule: Rule, exact: bool, text: &[u8]) {
-    let mut line = [0u8; decimals::line::LINE_ROOM];
-    let n = decimals::line::tell(rule, exact, text, &mut line);
-    io::write_all(STDOUT_FILENO, &line[..n]);
-}
-
-// Writes the line of a sum.
-fn write_sum(text: &[u8]) {
-    let mut line = [0u8; decimals::line::LINE_ROOM];
-    let n = decimals::sum::tell_sum(text, &mut line);
-    io::write_all(STDOUT_FILENO, &line[..n]);
+// The line of one text, and how many bytes it has.
+fn tell_as(rule: Rule, form: Form, text: &[u8], out: &mut [u8; LINE_ROOM]) -> usize
+    ensures { λ r. ⌜ Counts r (now (out .exit)) ⌝ }
+{
+    match form {
+        Form::Short => tell(rule, false, text, out),
+        Form::Exact => tell(rule, true, text, out),
+        Form::Sum => tell_sum(text, out),
+    }
 }
 
 // Writes the line of one text.
 fn write_line(rule: Rule, form: Form, text: &[u8]) {
-    match form {
-        Form::Short => write_value(rule, false, text),
-        Form::Exact => write_value(rule, true, text),
-        Form::Sum => write_sum(text),
-    }
+    let mut line = [0u8; LINE_ROOM];
+    let n = tell_as(rule, form, text, &mut line);
+    io::write_all(STDOUT_FILENO, &line[..n]);
 }
 
 // Writes the line of one argument.
@@ -61,21 +52,6 @@ fn write_argument(rule: Rule, form: Form, i: usize) {
     let mut text = [0u8; 128];
     let n = os::arg(i, &mut text);
     write_line(rule, form, &text[..n]);
-}
-
-// Where the line ends that begins at a place.
-fn line_end(text: &[u8], at: usize) -> usize
-    requires { ⌜ at ≤ length (now text) ⌝ }
-    ensures { λ r. ⌜ (at ≤ r) × (r ≤ length (now (text .entry))) ⌝ }
-{
-    let mut end = at;
-    while end < text.len() {
-        if text[end] == b'\n' {
-            return end;
-        }
-        end += 1;
-    }
-    end
 }
 
 // Writes the line of each line of a text.

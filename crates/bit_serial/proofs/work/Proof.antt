@@ -1,79 +1,65 @@
 -- `bit_serial::work` meets its contract: each operation's own, on words of its width. Assumes nothing.
-use mathlib.Core.Path.{ap₂, _∙_}
-use Prim.Native.Nat.{ℕ}
+use mathlib.Core.Path.{_≡_, refl, ap, _∙_}
+use mathlib.Core.Bool.{true, false}
+use Prim.Native.Nat.{ℕ, _≤_}
 use borrow.Author.Needs.{needs}
-use Rattle.bit_serial.specs.Engine.{mulAnswer, muuAnswer, divAnswer}
+use Rattle.terms.specs.declared.Rule.{Rule}
+use Rattle.terms.specs.declared.Width.{Width}
+use Rattle.terms.specs.Width.{bitsOf}
+use Rattle.fixed.specs.Fixed.{half}
+use Rattle.fixed.specs.Parts.{Words}
+use Rattle.bit_serial.specs.declared.Operation.{Operation}
+use Rattle.bit_serial.specs.declared.Answer.{Answer}
+use Rattle.bit_serial.specs.Engine.{halfAnswer, divAnswer, fmulAnswer, fdivAnswer}
+use Rattle.bit_serial.specs.Work.{widthOf, answerOf}
 use Rattle.bit_serial.proofs.Cases.{words, answered}
 use Rattle.bit_serial.proofs.work.Statement.{statement}
 use Rattle.bit_serial.proofs.work.Tie as tie
 
-mul-requires : tie.Need-mul-requires
-mul-requires c κs =
-    let o = c .before .before .before in
-    let a = o .before .before in
-    (words _ (a .args .b) (a .args .a) (o .operation .given .1) (c .before .half-of .ensures) (a .pre), c .bits-of .ensures .1)
+module _ (p : tie.After-bits-of) where
+  abbrev op : Operation
+  op = p .before .before .before .args .operation
 
-muu-requires : tie.Need-muu-requires
-muu-requires c κs =
-    let o = c .before .before .before in
-    let a = o .before .before in
-    (words _ (a .args .b) (a .args .a) (o .operation2 .given .1) (c .before .half-of2 .ensures) (a .pre), c .bits-of2 .ensures .1)
+  abbrev rule : Rule
+  rule = p .before .before .before .args .rule
 
-div-requires : tie.Need-div-requires
-div-requires c κs =
-    let o = c .before .before .before in
-    let a = o .before .before in
-    (words _ (a .args .b) (a .args .a) (o .operation3 .given .1) (c .before .half-of3 .ensures) (a .pre), c .bits-of3 .ensures .1)
+  abbrev b : ℕ
+  b = p .before .before .before .args .b
 
+  abbrev a : ℕ
+  a = p .before .before .before .args .a
+
+  abbrev h : ℕ
+  h = p .before .half-of .result
+
+  abbrev n : ℕ
+  n = p .bits-of .result
+
+  half-is : h ≡ half (bitsOf (widthOf op))
+  half-is = p .before .half-of .ensures ∙ ap (λ (w : Width). half (bitsOf w)) (p .before .before .width-of .ensures)
+
+  -- words of the operation's width
+  given : Words h b a × (n ≤ 32)
+  given = (words op h b a half-is (p .before .before .before .pre), p .bits-of .ensures .1)
+
+  -- what its case says
+  said : {k : Operation} → op ≡ k → (f : ℕ → ℕ → ℕ → ℕ → Answer) → f (half (bitsOf (widthOf k))) (bitsOf (widthOf k)) b a ≡ answerOf k rule b a
+      → {r : Answer} → r ≡ f h n b a → r ≡ answerOf op rule b a
+  said is f e {r} = answered is half-is (p .bits-of .ensures .0 ∙ ap bitsOf (p .before .before .width-of .ensures)) rule b a (λ h n. f h n b a) e r
+
+-- SMUL and DMUL: the lower half of the product
 returns : tie.Need-returns
-returns c =
-    let o = c .before .before .before .before in
-    let a = o .before .before .args in
-    answered (a .rule) (a .b) (a .a) (c .mul .result) (o .operation .given .1)
-    (c .mul .ensures ∙ ap₂ (λ (h n : ℕ). mulAnswer h n (a .b) (a .a)) (c .before .before .half-of .ensures) (c .before .bits-of .ensures .0))
-
-returns-2 : tie.Need-returns-2
-returns-2 c =
-    let o = c .before .before .before .before in
-    let a = o .before .before .args in
-    answered (a .rule) (a .b) (a .a) (c .muu .result) (o .operation2 .given .1)
-    (c .muu .ensures ∙ ap₂ (λ (h n : ℕ). muuAnswer h n (a .b) (a .a)) (c .before .before .half-of2 .ensures) (c .before .bits-of2 .ensures .0))
-
-returns-3 : tie.Need-returns-3
-returns-3 c =
-    let o = c .before .before .before .before in
-    let a = o .before .before .args in
-    answered (a .rule) (a .b) (a .a) (c .div .result) (o .operation3 .given .1)
-    (c .div .ensures ∙ ap₂ (λ (h n : ℕ). divAnswer h n (a .b) (a .a)) (c .before .before .half-of3 .ensures) (c .before .bits-of3 .ensures .0))
-
-returns-4 : tie.Need-returns-4
-returns-4 c = let a = c .before .before .before .args in answered (a .rule) (a .b) (a .a) (c .fmul .result) (c .before .enum-told .given .1) (c .fmul .ensures)
-
-returns-5 : tie.Need-returns-5
-returns-5 c = let a = c .before .before .before .args in answered (a .rule) (a .b) (a .a) (c .fdiv .result) (c .before .enum-told2 .given .1) (c .fdiv .ensures)
+returns c = said (c .before .before .before) (c .before .enum-told .given .1) (halfAnswer false) refl (c .mul .ensures)
 
 pub work-spec : {M : Type 1} → statement M
 work-spec =
     tie.close
-    (tie.spec
-    (λ c. search needs)
-    (λ c κs. search needs)
-    (λ c κs. search needs)
-    mul-requires
-    (λ c. search needs)
-    (λ c κs. search needs)
-    (λ c κs. search needs)
-    muu-requires
-    (λ c. search needs)
-    (λ c κs. search needs)
-    (λ c κs. search needs)
-    div-requires
-    (λ c. search needs)
-    (λ c κs. search needs)
-    (λ c. search needs)
-    (λ c κs. search needs)
+    (tie.spec (λ c κs. search needs) (λ c κs. search needs) (λ c κs. search needs)
+    (λ c. search needs) (λ c κs. given (c .before .before)) (λ c. search needs) (λ c κs. given (c .before .before))
+    (λ c. search needs) (λ c κs. given (c .before .before)) (λ c. search needs) (λ c κs. search needs)
+    (λ c. search needs) (λ c κs. search needs)
     returns
-    returns-2
-    returns-3
-    returns-4
-    returns-5)
+    (λ c. said (c .before .before .before) (c .before .enum-told2 .given .1) (halfAnswer true) refl (c .mul2 .ensures))
+    (λ c. said (c .before .before .before) (c .before .enum-told3 .given .1) divAnswer refl (c .div .ensures))
+    (λ c. let p = c .before .before .before in said p (c .before .enum-told4 .given .1) (λ h n. fmulAnswer (rule p)) refl (c .fmul .ensures))
+    (λ c. let p = c .before .before .before in said p (c .before .enum-told5 .given .1) (λ h n. fdivAnswer (rule p)) refl (c .fdiv .ensures)))

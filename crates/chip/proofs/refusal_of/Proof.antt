@@ -3,15 +3,6 @@ use borrow.Author.Tests.{ne-eqb}
 use Rattle.chip.proofs.refusal_of.Statement.{statement}
 use Rattle.chip.proofs.refusal_of.Tie as tie
 
-returns : tie.Need-returns
-returns c = rw (c .match .keys1)
-
-returns-2 : tie.Need-returns-2
-returns-2 c = rw (c .match .keys2)
-
-returns-3 : tie.Need-returns-3
-returns-3 c = rw (c .match .keys3)
-
 returns-4 : tie.Need-returns-4
 returns-4 c =
     let n = c .before .args .n in
@@ -19,10 +10,4 @@ returns-4 c =
     simp (ne-eqb n 1 (r .0 .0 .1), ne-eqb n 2 (r .0 .1), ne-eqb n 3 (r .1))
 
 pub refusal-of-spec : {M : Type 1} → statement M
-refusal-of-spec =
-    tie.close
-    (tie.spec
-    returns
-    returns-2
-    returns-3
-    returns-4)
+refusal-of-spec = tie.close (tie.spec (λ c. rw (c .match .keys1)) (λ c. rw (c .match .keys2)) (λ c. rw (c .match .keys3)) returns-4)

@@ -33,12 +33,5 @@ returns-6 c =
 pub fixed-spec : {M : Type 1} → statement M
 fixed-spec =
     tie.close
-    (tie.spec
-    (λ c κs. search needs)
-    returns
-    returns-2
-    (λ c κs. search needs)
-    (λ c. search needs)
-    returns-4
-    returns-5
+    (tie.spec (λ c κs. search needs) returns returns-2 (λ c κs. search needs) (λ c. search needs) returns-4 returns-5
     returns-6)

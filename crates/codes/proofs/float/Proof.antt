@@ -45,16 +45,5 @@ returns-8 c =
 pub float-spec : {M : Type 1} → statement M
 float-spec =
     tie.close
-    (tie.spec
-    (λ c κs. search needs)
-    returns
-    (λ c κs. search needs)
-    (λ c. search needs)
-    (λ c κs. search needs)
-    returns-3
-    returns-4
-    returns-5
-    (λ c κs. search needs)
-    returns-6
-    returns-7
-    returns-8)
+    (tie.spec (λ c κs. search needs) returns (λ c κs. search needs) (λ c. search needs) (λ c κs. search needs) returns-3
+    returns-4 returns-5 (λ c κs. search needs) returns-6 returns-7 returns-8)

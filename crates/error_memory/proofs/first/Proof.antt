@@ -15,7 +15,4 @@ returns-3 c = simp (eq-eqb _ _ (c .before .if1 .left), ne-eqb _ _ (c .if2 .left)
 pub first-spec : {M : Type 1} → statement M
 first-spec =
     tie.close
-    (tie.spec
-    returns
-    returns-2
-    returns-3)
+    (tie.spec returns returns-2 returns-3)

@@ -9,7 +9,4 @@ returns c = rw (c .first .ensures, c .before .before .errors .ensures .0)
 pub remember-spec : {M : Type 1} → statement M
 remember-spec =
     tie.close
-    (tie.spec
-    (λ c κs. search needs)
-    (λ c κs. search needs)
-    returns)
+    (tie.spec (λ c κs. search needs) (λ c κs. search needs) returns)

@@ -47,14 +47,5 @@ returns c =
 pub add-data-spec : {M : Type 1} → statement M
 add-data-spec =
     tie.close
-    (tie.spec
-    Inv-loop
-    μ-loop
-    loop-holds
-    (λ c. search needs)
-    add-hex-requires
-    (λ c. search needs)
-    (λ c. search needs)
-    loop-again
-    same-length
-    returns)
+    (tie.spec Inv-loop μ-loop loop-holds (λ c. search needs) add-hex-requires (λ c. search needs) (λ c. search needs)
+    loop-again same-length returns)

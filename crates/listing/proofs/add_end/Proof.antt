@@ -26,12 +26,5 @@ returns c =
 pub add-end-spec : {M : Type 1} → statement M
 add-end-spec =
     tie.close
-    (tie.spec
-    (λ c. search needs)
-    (λ c κs. search needs)
-    add-field-requires
-    add-field-requires-2
-    (λ c. search needs)
-    add-requires-2
-    (λ c. search needs)
-    returns)
+    (tie.spec (λ c. search needs) (λ c κs. search needs) add-field-requires add-field-requires-2 (λ c. search needs)
+    add-requires-2 (λ c. search needs) returns)

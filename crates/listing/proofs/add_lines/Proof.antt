@@ -99,23 +99,6 @@ returns-2 c =
 pub add-lines-spec : {M : Type 1} → statement M
 add-lines-spec =
     tie.close
-    (tie.spec
-    Inv-loop
-    μ-loop
-    loop-holds
-    (λ c. search needs)
-    (λ c. search needs)
-    (λ c. search needs)
-    (λ c κs. search needs)
-    same-length
-    returns
-    (λ c. search needs)
-    (λ c. search needs)
-    (λ c. search needs)
-    add-reply-requires
-    (λ c. search needs)
-    add-at
-    loop-less
-    loop-again
-    same-length-2
-    returns-2)
+    (tie.spec Inv-loop μ-loop loop-holds (λ c. search needs) (λ c. search needs) (λ c. search needs)
+    (λ c κs. search needs) same-length returns (λ c. search needs) (λ c. search needs) (λ c. search needs)
+    add-reply-requires (λ c. search needs) add-at loop-less loop-again same-length-2 returns-2)

@@ -51,20 +51,7 @@ returns c =
 pub write-next-spec : {M : Type 1} → statement M
 write-next-spec =
     tie.close
-    (tie.spec
-    (λ c. search needs)
-    (λ c. search needs)
-    (λ c. search needs)
-    (λ c. search needs)
-    (λ c. search needs)
-    read-frame-requires
-    (λ c. search needs)
-    (λ c. search needs)
-    (λ c. search needs)
-    (λ c. record { fits = omega (arith, ends (c .before)) })
-    write-framed-requires
-    (λ c. search needs)
-    (λ c κs. search needs)
-    (λ c κs. search needs)
-    returns
-    (λ c. inl (omega arith)))
+    (tie.spec (λ c. search needs) (λ c. search needs) (λ c. search needs) (λ c. search needs) (λ c. search needs)
+    read-frame-requires (λ c. search needs) (λ c. search needs) (λ c. search needs)
+    (λ c. record { fits = omega (arith, ends (c .before)) }) write-framed-requires (λ c. search needs)
+    (λ c κs. search needs) (λ c κs. search needs) returns (λ c. inl (omega arith)))

@@ -5,7 +5,7 @@ use native.Mathlib.Omega.{arith}
 use borrow.Author.Needs.{needs}
 use lib.ListN.{length, take}
 use lib.Seq.{length-take-le}
-use Rattle.record_lines.specs.Line.{LineFits}
+use Rattle.record_text.specs.Held.{LineFits}
 use Rattle.records.proofs.write_record.Statement.{statement}
 use Rattle.records.proofs.write_record.Tie as tie
 
@@ -22,22 +22,13 @@ all c = length-take-le (c .said .given .0 .0) (c .before .before .before .read-l
 pub write-record-spec : {M : Type 1} → statement M
 write-record-spec =
     tie.close
-    (tie.spec
-    (λ c. search needs)
-    (λ c κs. search needs)
-    (λ c. search needs)
-    (λ c. omega (arith, room (c .before), said-fits (c .before)))
-    (λ c. sym (all (c .before .before)))
-    (λ c κs. search needs)
+    (tie.spec (λ c. search needs) (λ c κs. search needs) (λ c. search needs)
+    (λ c. omega (arith, room (c .before), said-fits (c .before))) (λ c. sym (all (c .before .before))) (λ c κs. search needs)
     (λ c. record {
       fits = let start = c .before .before .before .before .before .before .before .before .before in omega
           (arith, start .pre, said-fits (c .before .before .before));
     })
-    (λ c. search needs)
-    (λ c. search needs)
-    (λ c κs. search needs)
-    (λ c κs. search needs)
+    (λ c. search needs) (λ c. search needs) (λ c κs. search needs) (λ c κs. search needs)
     (λ c. let start = c .before .before .before .before .before .before .before .before .before in omega
     (arith, start .pre, said-fits (c .before .before .before)))
-    (λ c. search needs)
-    (λ c. search needs))
+    (λ c. search needs) (λ c. search needs))

@@ -15,23 +15,8 @@ abbrev μ-loop : tie.MeasureT-loop
 pub write-records-spec : {M : Type 1} → statement M
 write-records-spec =
     tie.close
-    (tie.spec
-    Inv-loop
-    μ-loop
-    (λ c. (omega arith, omega arith, omega arith))
-    (λ c. omega arith)
-    (λ c κs. omega arith)
-    (λ c κs. search needs)
-    (λ c. search needs)
-    (λ c. search needs)
-    (λ c. search needs)
-    (λ c κs. c .before .before .before .before .loop .inv .1)
-    (λ c. search needs)
-    (λ c κs. search needs)
-    (λ c. search needs)
-    (λ c. omega arith)
-    (λ c. omega arith)
-    (λ c. (omega arith, omega arith, omega arith))
-    (λ c. search needs)
-    (λ c κs. search needs)
-    (λ c. search needs))
+    (tie.spec Inv-loop μ-loop (λ c. (omega arith, omega arith, omega arith)) (λ c. omega arith) (λ c κs. omega arith)
+    (λ c κs. search needs) (λ c. search needs) (λ c. search needs) (λ c. search needs)
+    (λ c κs. c .before .before .before .before .loop .inv .1) (λ c. search needs) (λ c κs. search needs)
+    (λ c. search needs) (λ c. omega arith) (λ c. omega arith) (λ c. (omega arith, omega arith, omega arith))
+    (λ c. search needs) (λ c κs. search needs) (λ c. search needs))

@@ -22,14 +22,5 @@ loop-again c = ⊎-elim (λ e. absurd (c .if1 .left e)) (λ e. e .1) (c .before 
 pub write-texts-spec : {M : Type 1} → statement M
 write-texts-spec =
     tie.close
-    (tie.spec
-    Inv-loop
-    μ-loop
-    (λ c. omega arith)
-    (λ c κs. (omega arith, c .before .before .before .pre))
-    (λ c. search needs)
-    loop-less
-    loop-again
-    (λ c. search needs)
-    (λ c κs. search needs)
-    (λ c. search needs))
+    (tie.spec Inv-loop μ-loop (λ c. omega arith) (λ c κs. (omega arith, c .before .before .before .pre))
+    (λ c. search needs) loop-less loop-again (λ c. search needs) (λ c κs. search needs) (λ c. search needs))

@@ -33,16 +33,6 @@ returns-3 c =
 pub put-figures-spec : {M : Type 1} → statement M
 put-figures-spec =
     tie.close
-    (tie.spec
-    (λ c κs. search needs)
-    (λ c. search needs)
-    returns
-    (λ c κs. search needs)
-    (λ c κs. search needs)
-    (λ c. search needs)
-    returns-2
-    write-requires
-    (λ c κs. search needs)
-    (λ c. search needs)
-    (λ c. search needs)
+    (tie.spec (λ c κs. search needs) (λ c. search needs) returns (λ c κs. search needs) (λ c κs. search needs)
+    (λ c. search needs) returns-2 write-requires (λ c κs. search needs) (λ c. search needs) (λ c. search needs)
     returns-3)

@@ -38,10 +38,4 @@ returns c =
 pub add-figure-spec : {M : Type 1} → statement M
 add-figure-spec =
     tie.close
-    (tie.spec
-    (λ c κs. search needs)
-    add-field-requires
-    (λ c. search needs)
-    add-requires-2
-    (λ c. search needs)
-    returns)
+    (tie.spec (λ c κs. search needs) add-field-requires (λ c. search needs) add-requires-2 (λ c. search needs) returns)

@@ -36,15 +36,5 @@ returns-2 c =
 pub add-open-spec : {M : Type 1} → statement M
 add-open-spec =
     tie.close
-    (tie.spec
-    (λ c κs. search needs)
-    returns
-    (λ c. search needs)
-    (λ c κs. search needs)
-    (λ c κs. search needs)
-    (λ c. search needs)
-    add-field-requires
-    (λ c. search needs)
-    add-requires-2
-    (λ c. search needs)
-    returns-2)
+    (tie.spec (λ c κs. search needs) returns (λ c. search needs) (λ c κs. search needs) (λ c κs. search needs)
+    (λ c. search needs) add-field-requires (λ c. search needs) add-requires-2 (λ c. search needs) returns-2)

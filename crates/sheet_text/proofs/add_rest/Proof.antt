@@ -32,12 +32,5 @@ returns c =
 pub add-rest-spec : {M : Type 1} → statement M
 add-rest-spec =
     tie.close
-    (tie.spec
-    add-sheets-requires
-    add-open-requires
-    (λ c. search needs)
-    (λ c κs. search needs)
-    (λ c. search needs)
-    add-figures-requires
-    (λ c. search needs)
-    returns)
+    (tie.spec add-sheets-requires add-open-requires (λ c. search needs) (λ c κs. search needs) (λ c. search needs)
+    add-figures-requires (λ c. search needs) returns)

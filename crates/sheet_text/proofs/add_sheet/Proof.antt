@@ -31,14 +31,5 @@ returns c =
 pub add-sheet-spec : {M : Type 1} → statement M
 add-sheet-spec =
     tie.close
-    (tie.spec
-    (λ c. search needs)
-    (λ c κs. search needs)
-    (λ c κs. search needs)
-    (λ c. search needs)
-    add-field-requires
-    add-words-requires
-    (λ c. search needs)
-    add-requires-2
-    (λ c. search needs)
-    returns)
+    (tie.spec (λ c. search needs) (λ c κs. search needs) (λ c κs. search needs) (λ c. search needs) add-field-requires
+    add-words-requires (λ c. search needs) add-requires-2 (λ c. search needs) returns)

@@ -48,23 +48,7 @@ returns c =
 pub add-word-spec : {M : Type 1} → statement M
 add-word-spec =
     tie.close
-    (tie.spec
-    (λ c. search needs)
-    (λ c. search needs)
-    (λ c. search needs)
-    (λ c. search needs)
-    (λ c. search needs)
-    (λ c. search needs)
-    (λ c. search needs)
-    digit-requires
-    (λ c κs. search needs)
-    digit-requires-3
-    (λ c κs. search needs)
-    digit-requires-5
-    (λ c κs. search needs)
-    digit-requires-7
-    (λ c κs. search needs)
-    (λ c. search needs)
-    (λ c κs. search needs)
-    (λ c. search needs)
-    returns)
+    (tie.spec (λ c. search needs) (λ c. search needs) (λ c. search needs) (λ c. search needs) (λ c. search needs)
+    (λ c. search needs) (λ c. search needs) digit-requires (λ c κs. search needs) digit-requires-3
+    (λ c κs. search needs) digit-requires-5 (λ c κs. search needs) digit-requires-7 (λ c κs. search needs)
+    (λ c. search needs) (λ c κs. search needs) (λ c. search needs) returns)

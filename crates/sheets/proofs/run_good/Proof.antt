@@ -43,13 +43,12 @@ cast-fill-report c =
 
 fill-report-requires : tie.Need-fill-report-requires
 fill-report-requires c κs =
-    let at-run = c .before .before .before .before .before .before .before .before .before .before .before .before .before .before in
+    let at-run = c .before .before .before .before .before .before .before .before .before .before .before .before in
     at-run .before .before .before .before .before .before .before .before .before .before .pre .2
 
 same-length-2 : tie.Need-same-length-2
 same-length-2 c =
-    let at-run = c .before .before .before .before .before .before .before .before .before .before .before .before .before .before .before .before .before
-    .before in
+    let at-run = c .before .before .before .before .before .before .before .before .before .before .before .before .before .before .before .before in
     let held = at-run .before .before .before .before .before .before .before .before .before .before .pre .1 in
     let sheets = at-run .run-lines .last .1 .1 .1 .0 in
     let long : length sheets ≡ sheetsBytes = search needs in
@@ -57,21 +56,18 @@ same-length-2 c =
 
 same-length-3 : tie.Need-same-length-3
 same-length-3 c =
-    let at-run = c .before .before .before .before .before .before .before .before .before .before .before .before .before .before .before .before .before
-    .before in
+    let at-run = c .before .before .before .before .before .before .before .before .before .before .before .before .before .before .before .before in
     same-room (at-run .run-lines .ensures)
 
 same-length-4 : tie.Need-same-length-4
 same-length-4 c =
-    let at-run = c .before .before .before .before .before .before .before .before .before .before .before .before .before .before .before .before .before
-    .before in
+    let at-run = c .before .before .before .before .before .before .before .before .before .before .before .before .before .before .before .before in
     ap length (c .before .before .before .fill-report .ensures) ∙ sym (at-run .before .before .before .before .before .before .before .before .before .before
     .pre .2)
 
 returns : tie.Need-returns
 returns c =
-    let at-run = c .before .before .before .before .before .before .before .before .before .before .before .before .before .before .before .before .before
-    .before in
+    let at-run = c .before .before .before .before .before .before .before .before .before .before .before .before .before .before .before .before in
     let a = at-run .before .before .before .before .before .before .before .before .before .before .args in
     let on = given (a .mode) (a .rule) in
     let l = now (a .state) in
@@ -86,11 +82,11 @@ returns c =
     (read .1)) (r .ensures) in
     called (length l) (runOf (held (cardIn on l) (now (a .sheets))) input (length replies)) (o .refusal) (cardUnder on (o .card)) (o .place .taken)
     (o .place .written) input replies
-    left _ sheets _ ran (c .before .before .before .before .before .before .before .before .before .before .put-card .ensures)
+    left _ sheets _ ran (c .before .before .before .before .before .before .before .before .put-card .ensures)
     (c .before .before .before .fill-report .ensures)
 
 pub run-good-spec : {M : Type 1} → statement M
 run-good-spec =
     tie.close
-    (tie.spec card-in-requires run-lines-requires put-card-requires cast-fill-report (λ c. search needs) (λ c. search needs) fill-report-requires
-    (λ c. search needs) (λ c. search needs) same-length-2 same-length-3 same-length-4 returns)
+    (tie.spec card-in-requires run-lines-requires put-card-requires cast-fill-report fill-report-requires (λ c. search needs)
+    (λ c. search needs) same-length-2 same-length-3 same-length-4 returns)

@@ -42,15 +42,5 @@ returns c =
 pub fill-report-spec : {M : Type 1} → statement M
 fill-report-spec =
     tie.close
-    (tie.spec
-    (λ c. search needs)
-    (λ c. search needs)
-    (λ c. search needs)
-    part-put-word-end
-    (λ c κs. search needs)
-    (λ c. search needs)
-    (λ c. search needs)
-    part-put-word-end-2
-    (λ c κs. search needs)
-    same-length
-    returns)
+    (tie.spec (λ c. search needs) (λ c. search needs) (λ c. search needs) part-put-word-end (λ c κs. search needs)
+    (λ c. search needs) (λ c. search needs) part-put-word-end-2 (λ c κs. search needs) same-length returns)

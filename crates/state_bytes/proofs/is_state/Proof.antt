@@ -22,18 +22,10 @@ returns-3 c =
 returns-4 : tie.Need-returns-4
 returns-4 c =
     let l = now (c .before .before .before .before .before .args .state) in
-    sym (long-bad l (c .before .before .if2 .left) (sym (c .before .is-chip2 .ensures) ∙ c .if3 .left))
+    c .if3 .left ∙ sym (long-bad l (c .before .before .if2 .left) (sym (c .before .is-chip2 .ensures) ∙ c .if3 .left))
 
 pub is-state-spec : {M : Type 1} → statement M
 is-state-spec =
     tie.close
-    (tie.spec
-    (λ c κs. search needs)
-    returns
-    returns-2
-    (λ c κs. search needs)
-    (λ c. search needs)
-    (λ c. search needs)
-    (λ c κs. search needs)
-    returns-3
-    returns-4)
+    (tie.spec (λ c κs. search needs) returns returns-2 (λ c κs. search needs) (λ c. search needs) (λ c. search needs)
+    (λ c κs. search needs) returns-3 returns-4)

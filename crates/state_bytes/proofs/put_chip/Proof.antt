@@ -10,7 +10,7 @@ use Rattle.stack.proofs.TwoWords.{is-stack}
 use Rattle.chip.specs.Held.{held}
 use Rattle.state_bytes.specs.Bytes.{memoryIn, laid}
 use Rattle.state_bytes.proofs.States.{least}
-use Rattle.state_bytes.proofs.Laid.{chip-laid}
+use Rattle.state_bytes.proofs.Laid.{as-flag, chip-laid}
 use borrow.Author.Needs.{needs}
 use Rattle.state_bytes.proofs.put_chip.Statement.{statement}
 use Rattle.state_bytes.proofs.put_chip.Tie as tie
@@ -53,11 +53,11 @@ returns c =
     let l = now (e .args .state) in
     let put = c .before .before .before .before .store in
     chip-laid l (put .last .0) (s .pending) (s .status) (s .service) (e .pre) (ap length (put .ensures) ∙ is-stack (s .stack .top) (s .stack .rest) .sixteen)
-    (c .before .flag .ensures) (c .flag2 .ensures)
+    (as-flag (s .pending)) (as-flag (s .service))
     ∙ ap (λ (x : List ℕ). laid (length l) (held x (s .pending) (s .status) (s .service)) (memoryIn l)) (put .ensures)
 
 pub put-chip-spec : {M : Type 1} → statement M
 put-chip-spec =
     tie.close
-    (tie.spec slice-relend-prefix-store slice-aggregate-store store-requires (λ c κs. search needs) slice-write-state slice-write-state-2
-    (λ c κs. search needs) slice-write-state-3 (λ c. search needs) returns)
+    (tie.spec slice-relend-prefix-store slice-aggregate-store store-requires (λ c. search needs) slice-write-state
+    slice-write-state-2 (λ c. search needs) slice-write-state-3 (λ c. search needs) returns)

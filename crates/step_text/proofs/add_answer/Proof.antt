@@ -2,7 +2,7 @@
 use mathlib.Core.Path.{sym, ap}
 use borrow.Author.Needs.{needs}
 use Rattle.step_text.specs.Lines.{answerLine}
-use Rattle.step_text.proofs.Hex.{told-as}
+use Rattle.listing.proofs.Adding.{told-as}
 use Rattle.step_text.proofs.add_answer.Statement.{statement}
 use Rattle.step_text.proofs.add_answer.Tie as tie
 
@@ -21,12 +21,5 @@ returns-2 c =
 pub add-answer-spec : {M : Type 1} → statement M
 add-answer-spec =
     tie.close
-    (tie.spec
-    (λ c. search needs)
-    (λ c κs. search needs)
-    (λ c. search needs)
-    (λ c κs. search needs)
-    (λ c. search needs)
-    returns
-    (λ c. search needs)
-    returns-2)
+    (tie.spec (λ c. search needs) (λ c κs. search needs) (λ c. search needs) (λ c κs. search needs) (λ c. search needs)
+    returns (λ c. search needs) returns-2)

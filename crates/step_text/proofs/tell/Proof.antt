@@ -4,7 +4,7 @@ use borrow.Author.Needs.{needs}
 use Rattle.listing.proofs.Adding.{both, counted}
 use Rattle.step_text.specs.Lines.{answerLine}
 use Rattle.step_text.specs.Steps.{stepLines}
-use Rattle.step_text.proofs.Hex.{told-as}
+use Rattle.listing.proofs.Adding.{told-as}
 use Rattle.step_text.proofs.tell.Statement.{statement}
 use Rattle.step_text.proofs.tell.Tie as tie
 
@@ -19,10 +19,5 @@ returns c =
 pub tell-spec : {M : Type 1} → statement M
 tell-spec =
     tie.close
-    (tie.spec
-    (λ c κs. search needs)
-    (λ c κs. search needs)
-    (λ c κs. search needs)
-    (λ c κs. search needs)
-    (λ c κs. search needs)
-    returns)
+    (tie.spec (λ c κs. search needs) (λ c κs. search needs) (λ c κs. search needs) (λ c κs. search needs)
+    (λ c κs. search needs) returns)

@@ -41,13 +41,4 @@ returns-2 c = let l = c .before .before .before .before .bits in ends-early _ _ 
 pub divided-spec : {M : Type 1} → statement M
 divided-spec =
     tie.close
-    (tie.spec
-    Inv-bits
-    μ-bits
-    (λ c κs. tt)
-    bits-holds
-    subtracted-requires
-    bits-less
-    bits-again
-    returns
-    returns-2)
+    (tie.spec Inv-bits μ-bits (λ c κs. tt) bits-holds subtracted-requires bits-less bits-again returns returns-2)

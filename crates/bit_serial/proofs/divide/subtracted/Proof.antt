@@ -27,12 +27,5 @@ returns-2 c =
 pub subtracted-spec : {M : Type 1} → statement M
 subtracted-spec =
     tie.close
-    (tie.spec
-    (λ c. search needs)
-    (λ c. search needs)
-    (λ c. search needs)
-    (λ c. search needs)
-    (λ c. search needs)
-    add-t11
-    returns
-    returns-2)
+    (tie.spec (λ c. search needs) (λ c. search needs) (λ c. search needs) (λ c. search needs) (λ c. search needs)
+    add-t11 returns returns-2)

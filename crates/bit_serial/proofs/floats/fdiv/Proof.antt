@@ -31,7 +31,7 @@ mark-requires c κs = rw (raised c) (digits 26 (c .before .mantissa-of2 .result 
 
 sub-t14 : tie.Need-sub-t14
 sub-t14 c =
-    let m = c .before .before .before .before .before .before .before .before in
+    let m = c .before .before .before .before .before .before .before in
     omega (
       arith,
       ap (λ (s : Division). s .left) (raised m),
@@ -43,38 +43,21 @@ returns-3 : tie.Need-returns-3
 returns-3 c =
     let e = c .before .before in
     let s = e .before .before in
-    let m = s .before .before .before .before in
+    let m = s .before .before .before in
     let t = m .before .before .before .before in
     fdiv-rest _ _ _ _ (t .before .both-proper .ensures) (not-false _ (t .if1 .left)) _ _ _ _ _
-    (s .unlike-signs .ensures ∙ ap₂ unlike (s .before .before .is-negative .ensures) (s .before .is-negative2 .ensures))
+    (ap₂ unlike (s .before .is-negative .ensures) (s .is-negative2 .ensures))
     (m .before .mantissa-of2 .ensures .0)
     (m .before .before .before .mantissa-of .ensures .0)
     (e .before .biased-of .ensures .0)
     (e .biased-of2 .ensures .0)
-    (m .divided .result) (s .before .before .before .mark .result) (c .before .cut-word .result) (m .before .before .if2 .left) (e .biased-of2 .ensures .1)
-    (raised m) (s .before .before .before .mark .ensures) (c .before .cut-word .ensures)
+    (m .divided .result) (s .before .before .mark .result) (c .before .cut-word .result) (m .before .before .if2 .left) (e .biased-of2 .ensures .1)
+    (raised m) (s .before .before .mark .ensures) (c .before .cut-word .ensures)
 
 pub fdiv-spec : {M : Type 1} → statement M
 fdiv-spec =
     tie.close
-    (tie.spec
-    (λ c κs. search needs)
-    returns
-    (λ c κs. search needs)
-    returns-2
-    (λ c κs. search needs)
-    (λ c. search needs)
-    (λ c. search needs)
-    (λ c. search needs)
-    (λ c κs. search needs)
-    mark-requires
-    (λ c κs. search needs)
-    (λ c κs. search needs)
-    (λ c κs. search needs)
-    (λ c κs. search needs)
-    (λ c. search needs)
-    (λ c κs. search needs)
-    (λ c. search needs)
-    (λ c κs. search needs)
-    sub-t14
-    returns-3)
+    (tie.spec (λ c κs. search needs) returns (λ c κs. search needs) returns-2 (λ c κs. search needs) (λ c. search needs)
+    (λ c. search needs) (λ c. search needs) (λ c κs. search needs) mark-requires (λ c κs. search needs)
+    (λ c κs. search needs) (λ c κs. search needs) (λ c. search needs) (λ c κs. search needs)
+    (λ c. search needs) (λ c κs. search needs) sub-t14 returns-3)

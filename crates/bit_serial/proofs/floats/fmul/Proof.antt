@@ -14,10 +14,10 @@ returns-2 : tie.Need-returns-2
 returns-2 c =
     let e = c .before in
     let s = e .before .before in
-    let m = s .before .before .before in
+    let m = s .before .before in
     let t = m .before .before .before in
     fmul-rest _ _ _ _ (t .before .both-proper .ensures) (not-false _ (t .if1 .left)) _ _ _ _ _
-    (s .unlike-signs .ensures ∙ ap₂ unlike (s .before .before .is-negative .ensures) (s .before .is-negative2 .ensures))
+    (ap₂ unlike (s .before .is-negative .ensures) (s .is-negative2 .ensures))
     (m .before .before .mantissa-of .ensures .0)
     (m .before .mantissa-of2 .ensures .0)
     (e .before .biased-of .ensures .0)
@@ -27,18 +27,6 @@ returns-2 c =
 pub fmul-spec : {M : Type 1} → statement M
 fmul-spec =
     tie.close
-    (tie.spec
-    (λ c κs. search needs)
-    returns
-    (λ c κs. search needs)
-    (λ c κs. search needs)
-    (λ c κs. search needs)
-    (λ c κs. search needs)
-    (λ c κs. search needs)
-    (λ c κs. search needs)
-    (λ c κs. search needs)
-    (λ c κs. search needs)
-    (λ c. search needs)
-    (λ c. search needs)
-    (λ c κs. search needs)
-    returns-2)
+    (tie.spec (λ c κs. search needs) returns (λ c κs. search needs) (λ c κs. search needs) (λ c κs. search needs)
+    (λ c κs. search needs) (λ c κs. search needs) (λ c κs. search needs) (λ c κs. search needs) (λ c. search needs)
+    (λ c. search needs) (λ c κs. search needs) returns-2)

@@ -8,7 +8,7 @@ use lib.Count.{leadingZeros, leading-le, leading-length}
 use lib.Ieee.{size}
 use lib.Ieee.Digits.{size-lt, size-le}
 use lib.Pow.{pow-mono}
-use Rattle.whole.proofs.Differences.{either}
+use Rattle.numbers.proofs.Differences.{either}
 use Rattle.bit_serial.proofs.Subtracting.{halves}
 use Rattle.bit_serial.proofs.multiply.bits_in.Statement.{statement}
 use Rattle.bit_serial.proofs.multiply.bits_in.Tie as tie

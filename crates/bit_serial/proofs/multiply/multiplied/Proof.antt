@@ -40,13 +40,4 @@ returns-2 c = let l = c .before .before .before .before .bits in ends-early _ _ 
 pub multiplied-spec : {M : Type 1} → statement M
 multiplied-spec =
     tie.close
-    (tie.spec
-    Inv-bits
-    μ-bits
-    (λ c κs. tt)
-    bits-holds
-    added-requires
-    bits-less
-    bits-again
-    returns
-    returns-2)
+    (tie.spec Inv-bits μ-bits (λ c κs. tt) bits-holds added-requires bits-less bits-again returns returns-2)

@@ -1,84 +1,56 @@
 -- `bit_serial::tasks::task_of` meets its contract: each operation's own task, on words of its width. Assumes nothing.
-use mathlib.Core.Path.{ap₂, _∙_}
-use Prim.Native.Nat.{ℕ}
+use mathlib.Core.Path.{_≡_, refl, ap, _∙_}
+use mathlib.Core.Bool.{true, false}
+use Prim.Native.Nat.{ℕ, _≤_}
 use borrow.Author.Needs.{needs}
-use Rattle.bit_serial.specs.Work.{mulTask, divTask}
+use Rattle.terms.specs.declared.Width.{Width}
+use Rattle.terms.specs.Width.{bitsOf}
+use Rattle.fixed.specs.Fixed.{half}
+use Rattle.fixed.specs.Parts.{Words}
+use Rattle.bit_serial.specs.declared.Operation.{Operation}
+use Rattle.bit_serial.specs.declared.tasks.Task.{Task}
+use Rattle.bit_serial.specs.Work.{widthOf, Narrow, sizesTask, mantissasTask, taskOf}
 use Rattle.bit_serial.proofs.Cases.{words, tasked}
 use Rattle.bit_serial.proofs.tasks.task_of.Statement.{statement}
 use Rattle.bit_serial.proofs.tasks.task_of.Tie as tie
 
-sizes-multiplied-requires : tie.Need-sizes-multiplied-requires
-sizes-multiplied-requires c κs =
-    let o = c .before .before .before in
-    let a = o .before .before in
-    (words _ (a .args .b) (a .args .a) (o .operation .given .1) (c .before .half-of .ensures) (a .pre), c .bits-of .ensures .1)
+module _ (p : tie.After-bits-of) where
+  abbrev op : Operation
+  op = p .before .before .before .args .operation
 
-sizes-multiplied-requires-2 : tie.Need-sizes-multiplied-requires-2
-sizes-multiplied-requires-2 c κs =
-    let o = c .before .before .before in
-    let a = o .before .before in
-    (words _ (a .args .b) (a .args .a) (o .operation2 .given .1) (c .before .half-of2 .ensures) (a .pre), c .bits-of2 .ensures .1)
+  abbrev b : ℕ
+  b = p .before .before .before .args .b
 
-sizes-divided-requires : tie.Need-sizes-divided-requires
-sizes-divided-requires c κs =
-    let o = c .before .before .before in
-    let a = o .before .before in
-    (words _ (a .args .b) (a .args .a) (o .operation3 .given .1) (c .before .half-of3 .ensures) (a .pre), c .bits-of3 .ensures .1)
+  abbrev a : ℕ
+  a = p .before .before .before .args .a
 
-returns : tie.Need-returns
-returns c =
-    let o = c .before .before .before .before in
-    let a = o .before .before .args in
-    let r = c .sizes-multiplied in
-    tasked (a .b) (a .a) (r .result) (o .operation .given .1)
-    (r .ensures .0 ∙ ap₂ (λ (h n : ℕ). mulTask h n (a .b) (a .a)) (c .before .before .half-of .ensures) (c .before .bits-of .ensures .0), r .ensures .1)
+  abbrev h : ℕ
+  h = p .before .half-of .result
 
-returns-2 : tie.Need-returns-2
-returns-2 c =
-    let o = c .before .before .before .before in
-    let a = o .before .before .args in
-    let r = c .sizes-multiplied2 in
-    tasked (a .b) (a .a) (r .result) (o .operation2 .given .1)
-    (r .ensures .0 ∙ ap₂ (λ (h n : ℕ). mulTask h n (a .b) (a .a)) (c .before .before .half-of2 .ensures) (c .before .bits-of2 .ensures .0), r .ensures .1)
+  abbrev n : ℕ
+  n = p .bits-of .result
 
-returns-3 : tie.Need-returns-3
-returns-3 c =
-    let o = c .before .before .before .before in
-    let a = o .before .before .args in
-    let r = c .sizes-divided in
-    tasked (a .b) (a .a) (r .result) (o .operation3 .given .1)
-    (r .ensures .0 ∙ ap₂ (λ (h n : ℕ). divTask h n (a .b) (a .a)) (c .before .before .half-of3 .ensures) (c .before .bits-of3 .ensures .0), r .ensures .1)
+  half-is : h ≡ half (bitsOf (widthOf op))
+  half-is = p .before .half-of .ensures ∙ ap (λ (w : Width). half (bitsOf w)) (p .before .before .width-of .ensures)
 
-returns-4 : tie.Need-returns-4
-returns-4 c = let a = c .before .before .before .args in tasked (a .b) (a .a) (c .mantissas-multiplied .result) (c .before .enum-told .given .1)
-    (c .mantissas-multiplied .ensures)
+  -- words of the operation's width
+  given : Words h b a × (n ≤ 32)
+  given = (words op h b a half-is (p .before .before .before .pre), p .bits-of .ensures .1)
 
-returns-5 : tie.Need-returns-5
-returns-5 c = let a = c .before .before .before .args in tasked (a .b) (a .a) (c .mantissas-divided .result) (c .before .enum-told2 .given .1)
-    (c .mantissas-divided .ensures)
+  -- what its case says
+  said : {k : Operation} → op ≡ k → (f : ℕ → ℕ → ℕ → ℕ → Task) → f (half (bitsOf (widthOf k))) (bitsOf (widthOf k)) b a ≡ taskOf k b a
+      → {r : Task} → (r ≡ f h n b a) × Narrow r → (r ≡ taskOf op b a) × Narrow r
+  said is f e {r} = tasked is half-is (p .bits-of .ensures .0 ∙ ap bitsOf (p .before .before .width-of .ensures)) b a (λ h n. f h n b a) e r
 
 pub task-of-spec : {M : Type 1} → statement M
 task-of-spec =
     tie.close
-    (tie.spec
-    (λ c. search needs)
-    (λ c κs. search needs)
-    (λ c κs. search needs)
-    sizes-multiplied-requires
-    (λ c. search needs)
-    (λ c κs. search needs)
-    (λ c κs. search needs)
-    sizes-multiplied-requires-2
-    (λ c. search needs)
-    (λ c κs. search needs)
-    (λ c κs. search needs)
-    sizes-divided-requires
-    (λ c. search needs)
-    (λ c κs. search needs)
-    (λ c. search needs)
-    (λ c κs. search needs)
-    returns
-    returns-2
-    returns-3
-    returns-4
-    returns-5)
+    (tie.spec (λ c κs. search needs) (λ c κs. search needs) (λ c κs. search needs)
+    (λ c. search needs) (λ c κs. given (c .before .before)) (λ c. search needs) (λ c κs. given (c .before .before))
+    (λ c. search needs) (λ c κs. given (c .before .before)) (λ c. search needs) (λ c κs. search needs)
+    (λ c. search needs) (λ c κs. search needs)
+    (λ c. said (c .before .before .before) (c .before .enum-told .given .1) (sizesTask false) refl (c .sizes .ensures))
+    (λ c. said (c .before .before .before) (c .before .enum-told2 .given .1) (sizesTask false) refl (c .sizes2 .ensures))
+    (λ c. said (c .before .before .before) (c .before .enum-told3 .given .1) (sizesTask true) refl (c .sizes3 .ensures))
+    (λ c. said (c .before .before .before) (c .before .enum-told4 .given .1) (λ h n. mantissasTask false) refl (c .mantissas .ensures))
+    (λ c. said (c .before .before .before) (c .before .enum-told5 .given .1) (λ h n. mantissasTask true) refl (c .mantissas2 .ensures)))

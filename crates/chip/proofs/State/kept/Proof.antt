@@ -12,13 +12,13 @@ returns c = rw (c .before .enum-told .given .1) (c .cleared .ensures)
 
 returns-2 : tie.Need-returns-2
 returns-2 c =
-    let s = bytesIn (c .before .before .before .before .before .args .self .stack) in
+    let s = bytesIn (c .before .before .before .before .args .self .stack) in
     rw (c .before .before .enum-told2 .given .1) (c .realigned .ensures ∙ ap (λ (p : Bool). keptStack p s) (sym (c .before .if1 .taken)))
 
 returns-3 : tie.Need-returns-3
 returns-3 c =
     let s = bytesIn (c .before .before .before .before .args .self .stack) in
-    rw (c .before .enum-told2 .given .1) (ap (λ (p : Bool). keptStack p s) (sym (c .if1 .left)))
+    rw (c .before .before .enum-told2 .given .1) (ap (λ (p : Bool). keptStack p s) (sym (c .before .if1 .left)))
 
 pub kept-spec : {M : Type 1} → statement M
 kept-spec = tie.close (tie.spec (λ c. search needs) (λ c κs. search needs) (λ c. search needs) (λ c κs. search needs) returns returns-2 returns-3)

@@ -1,9 +1,10 @@
 -- `chip::State::obeyed` meets its contract: what became of a code is its answer. Assumes nothing.
 use mathlib.Core.Path.{refl, sym, ap, _∙_}
-use mathlib.Core.Bool.{Bool}
 use Rattle.terms.specs.declared.Refusal.{Refusal}
 use Rattle.stack.specs.Words.{bytesIn}
-use Rattle.chip.specs.Step.{done, refused}
+use Rattle.codes.specs.Codes.{sr}
+use Rattle.chip.specs.State.{State}
+use Rattle.chip.specs.Step.{done, refused, unlessBusy}
 use Rattle.chip.specs.Held.{held, stateIn}
 use Rattle.chip.proofs.Answers.{when-ready}
 use Rattle.chip.proofs.Held.{as-done, as-refused}
@@ -23,17 +24,19 @@ returns c =
 
 returns-2 : tie.Need-returns-2
 returns-2 c =
+    let v = c .before .before .service in
     let entry = c .before .before .before .before in
     let a = entry .args in
     let s = stateIn (a .self) in
-    let v = c .before .service in
+    let after = c .before .of .ensures ∙ ap (held (bytesIn (a .o .stack)) (a .self .pending) (a .o .answer)) (v .ensures) in
     c .answer .ensures
-    ∙ sym (when-ready s (done 0 (held (bytesIn (a .o .stack)) (a .self .pending) (a .o .answer) (v .result))) (entry .pre .0) refl)
-    ∙ ap (λ (x : Bool). done 0 (held (bytesIn (a .o .stack)) (a .self .pending) (a .o .answer) x)) (v .ensures)
+    ∙ ap (λ (t : State). unlessBusy s (done 0 t)) after
+    ∙ sym (when-ready s (done 0 (held (bytesIn (a .o .stack)) (a .self .pending) (a .o .answer) (sr (a .code)))) (entry .pre .0) refl)
     ∙ sym (as-done s (a .code) (a .o) (search needs))
     ∙ entry .pre .1 s refl refl (entry .pre .0)
 
 pub obeyed-spec : {M : Type 1} → statement M
 obeyed-spec =
     tie.close
-    (tie.spec (λ c κs. search needs) (λ c κs. search needs) returns (λ c. search needs) (λ c κs. search needs) (λ c κs. search needs) returns-2)
+    (tie.spec (λ c κs. search needs) (λ c κs. search needs) returns (λ c. search needs) (λ c κs. search needs) (λ c κs. search needs)
+    (λ c κs. search needs) returns-2)

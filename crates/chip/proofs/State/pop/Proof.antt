@@ -11,7 +11,7 @@ use Rattle.chip.proofs.State.pop.Tie as tie
 returns : tie.Need-returns
 unfolding popOf
 returns c =
-    let s = stateIn (c .before .before .before .before .before .args .self) in
+    let s = stateIn (c .before .before .before .before .args .self) in
     c .answer .ensures
     ∙ ap₂ (λ (b : ℕ) (t : State). unlessBusy s (done b t)) (c .before .before .before .top-byte .ensures)
     (c .before .moved .ensures ∙ ap (moved s) (c .before .before .turn .ensures))

@@ -7,7 +7,7 @@ use Rattle.chip.proofs.State.pop_all.Tie as tie
 
 returns : tie.Need-returns
 returns c =
-    let a = c .before .before .before .before .before .before .before .args in
+    let a = c .before .before .before .before .before .before .args in
     let e = c .before .before .before .pop-all .ensures in
     (c .moved .ensures ∙ ap (blockMoved (a .self) (a .n)) (e .0), e .1)
 

@@ -12,7 +12,7 @@ use Rattle.chip.proofs.State.push.Tie as tie
 returns : tie.Need-returns
 unfolding pushOf
 returns c =
-    let a = c .before .before .before .before .args in
+    let a = c .before .before .before .args in
     let s = stateIn (a .self) in
     let stack = c .before .before .push .ensures ∙ one-byte (bytesIn (a .self .stack)) (a .byte) (search needs) in
     c .answer .ensures ∙ ap (λ (t : State). unlessBusy s (done 0 t)) (c .before .moved .ensures ∙ ap (moved s) stack)

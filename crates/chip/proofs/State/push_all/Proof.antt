@@ -9,7 +9,7 @@ use Rattle.chip.proofs.State.push_all.Tie as tie
 
 returns : tie.Need-returns
 returns c =
-    let a = c .before .before .before .before .args in
+    let a = c .before .before .before .args in
     c .moved .ensures ∙ ap (blockMoved (a .self) (length (now (a .bytes)))) (c .before .push-all .ensures)
 
 pub push-all-spec : {M : Type 1} → statement M

@@ -11,9 +11,9 @@ use Rattle.chip.proofs.State.reset.Tie as tie
 returns : tie.Need-returns
 unfolding resetOf
 returns c =
-    let a = c .before .before .args in
+    let a = c .before .before .before .args in
     let s = stateIn (a .self) in
-    c .answer .ensures ∙ ap (λ (t : State). unlessBusy s (done 0 t)) (reset-held (a .mode) s (c .before .kept .ensures))
+    c .answer .ensures ∙ ap (λ (t : State). unlessBusy s (done 0 t)) (c .before .of .ensures ∙ reset-held (a .mode) s (c .before .before .kept .ensures))
 
 pub reset-spec : {M : Type 1} → statement M
-reset-spec = tie.close (tie.spec (λ c κs. search needs) (λ c κs. search needs) returns)
+reset-spec = tie.close (tie.spec (λ c κs. search needs) (λ c κs. search needs) (λ c κs. search needs) returns)

@@ -38,11 +38,4 @@ returns c = let l = c .before .before .loop in record { same = l .inv .same; bel
 pub carried-spec : {M : Type 1} → statement M
 carried-spec =
     tie.close
-    (tie.spec
-    Inv-loop
-    μ-loop
-    loop-holds
-    next-bit-requires
-    loop-less
-    loop-again
-    returns)
+    (tie.spec Inv-loop μ-loop loop-holds next-bit-requires loop-less loop-again returns)

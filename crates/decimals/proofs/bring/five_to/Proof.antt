@@ -30,12 +30,5 @@ returns c =
 pub five-to-spec : {M : Type 1} → statement M
 five-to-spec =
     tie.close
-    (tie.spec
-    Inv-loop
-    μ-loop
-    (λ c. (omega arith, refl))
-    mul-power
-    (λ c. search needs)
-    (λ c. search needs)
-    loop-again
+    (tie.spec Inv-loop μ-loop (λ c. (omega arith, refl)) mul-power (λ c. search needs) (λ c. search needs) loop-again
     returns)

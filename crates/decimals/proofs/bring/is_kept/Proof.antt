@@ -33,13 +33,5 @@ returns-4 c =
 pub is-kept-spec : {M : Type 1} → statement M
 is-kept-spec =
     tie.close
-    (tie.spec
-    returns
-    returns-2
-    (λ c. search needs)
-    (λ c. search needs)
-    returns-3
-    (λ c. search needs)
-    (λ c. search needs)
-    rem-result
-    returns-4)
+    (tie.spec returns returns-2 (λ c. search needs) (λ c. search needs) returns-3 (λ c. search needs)
+    (λ c. search needs) rem-result returns-4)

@@ -16,6 +16,4 @@ returns-2 c = let a = c .before .args in sym (ne-eqb (a .whole + a .fraction) 0 
 pub is-nothing-spec : {M : Type 1} → statement M
 is-nothing-spec =
     tie.close
-    (tie.spec
-    returns
-    returns-2)
+    (tie.spec returns returns-2)

@@ -58,16 +58,7 @@ returns-2 c =
 pub stand-for-spec : {M : Type 1} → statement M
 stand-for-spec =
     tie.close
-    (tie.spec
-    (λ c κs. search needs)
-    returns
-    (λ c κs. search needs)
-    (λ c. search needs)
-    (λ c. search needs)
-    add-carried
-    (λ c. search needs)
-    carried-requires
-    (λ c κs. search needs)
+    (tie.spec (λ c κs. search needs) returns (λ c κs. search needs) (λ c. search needs) (λ c. search needs) add-carried
+    (λ c. search needs) carried-requires (λ c κs. search needs)
     (λ c. omega (arith, c .before .before .carried .ensures .few))
-    (λ c. omega (arith, c .before .before .carried .ensures .few))
-    returns-2)
+    (λ c. omega (arith, c .before .before .carried .ensures .few)) returns-2)

@@ -75,11 +75,5 @@ returns c =
 pub add-exact-spec : {M : Type 1} → statement M
 add-exact-spec =
     tie.close
-    (tie.spec
-    (λ c κs. search needs)
-    add-whole-requires
-    (λ c. search needs)
-    add-requires
-    add-places-requires
-    (λ c. search needs)
-    returns)
+    (tie.spec (λ c κs. search needs) add-whole-requires (λ c. search needs) add-requires add-places-requires
+    (λ c. search needs) returns)

@@ -27,11 +27,5 @@ returns-3 c =
 pub add-sign-spec : {M : Type 1} → statement M
 add-sign-spec =
     tie.close
-    (tie.spec
-    returns
-    (λ c κs. search needs)
-    returns-2
-    (λ c. search needs)
-    (λ c κs. search needs)
-    (λ c. search needs)
+    (tie.spec returns (λ c κs. search needs) returns-2 (λ c. search needs) (λ c κs. search needs) (λ c. search needs)
     returns-3)

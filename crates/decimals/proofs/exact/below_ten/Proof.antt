@@ -5,15 +5,8 @@ use Rattle.decimals.proofs.Tests.{low-below, high-beyond}
 use Rattle.decimals.proofs.exact.below_ten.Statement.{statement}
 use Rattle.decimals.proofs.exact.below_ten.Tie as tie
 
-returns : tie.Need-returns
-returns c = let w = c .before .before .before .args .w in low-below (w .high) (w .low) (omega arith)
-
-returns-2 : tie.Need-returns-2
-returns-2 c = let w = c .before .before .args .w in high-beyond (w .high) (w .low) (c .if1 .left)
-
 pub below-ten-spec : {M : Type 1} → statement M
 below-ten-spec =
     tie.close
-    (tie.spec
-    returns
-    returns-2)
+    (tie.spec (λ c. let w = c .before .before .before .args .w in low-below (w .high) (w .low) (omega arith))
+    (λ c. let w = c .before .before .args .w in high-beyond (w .high) (w .low) (c .if1 .left)))

@@ -22,8 +22,4 @@ returns-3 c = let m = c .before .before .args .m in whole-some (m .whole .high) 
 pub is-zero-spec : {M : Type 1} → statement M
 is-zero-spec =
     tie.close
-    (tie.spec
-    (λ c κs. search needs)
-    returns
-    returns-2
-    returns-3)
+    (tie.spec (λ c κs. search needs) returns returns-2 returns-3)

@@ -17,9 +17,4 @@ returns-2 c = (minus-none (c .before .before .args .neg) _ _ (c .if1 .left), ome
 pub add-minus-spec : {M : Type 1} → statement M
 add-minus-spec =
     tie.close
-    (tie.spec
-    (λ c. search needs)
-    (λ c κs. search needs)
-    (λ c. search needs)
-    returns
-    returns-2)
+    (tie.spec (λ c. search needs) (λ c κs. search needs) (λ c. search needs) returns returns-2)

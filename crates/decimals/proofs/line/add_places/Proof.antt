@@ -3,7 +3,7 @@ use native.Mathlib.Omega.{arith}
 use borrow.Author.Needs.{needs}
 use Rattle.listing.proofs.Adding.{both}
 use Rattle.listing.proofs.Decimal.{at-most}
-use Rattle.decimals.proofs.Lines.{digits-length}
+use Rattle.listing.proofs.Digits.{digits-length}
 use Rattle.decimals.proofs.line.add_places.Statement.{statement}
 use Rattle.decimals.proofs.line.add_places.Tie as tie
 
@@ -62,11 +62,5 @@ returns c =
 pub add-places-spec : {M : Type 1} → statement M
 add-places-spec =
     tie.close
-    (tie.spec
-    (λ c κs. search needs)
-    add-decimal-requires
-    (λ c. search needs)
-    add-requires
-    add-digits-requires
-    (λ c. search needs)
-    returns)
+    (tie.spec (λ c κs. search needs) add-decimal-requires (λ c. search needs) add-requires add-digits-requires
+    (λ c. search needs) returns)

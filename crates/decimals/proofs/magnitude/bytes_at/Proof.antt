@@ -27,17 +27,10 @@ returns c = let l = c .before .loop in gathers-end _ _ _ (l .value) (l .left) (o
 pub bytes-at-spec : {M : Type 1} → statement M
 bytes-at-spec =
     tie.close
-    (tie.spec
-    Inv-loop
-    μ-loop
-    loop-holds
-    (λ c. search needs)
+    (tie.spec Inv-loop μ-loop loop-holds (λ c. search needs)
     (λ c. let l = c .before .loop in let n = gathers-narrow _ _ _ (l .value) (l .left) (omega arith) (l .inv) in omega arith)
     (λ c. let i = c .before .loop .inv in omega (arith, i .within, i .left-in))
-    (λ c. let i = c .before .loop .inv in omega (arith, i .within, i .left-in, i .size))
-    (λ c. search needs)
+    (λ c. let i = c .before .loop .inv in omega (arith, i .within, i .left-in, i .size)) (λ c. search needs)
     (λ c. let l = c .before .loop in let n = gathers-narrow _ _ _ (l .value) (l .left) (omega arith) (l .inv) in let b = l .inv .bytes-small in omega
     (arith, b (c .before .before .args .at + (l .left - 1))))
-    (λ c. search needs)
-    loop-again
-    returns)
+    (λ c. search needs) loop-again returns)

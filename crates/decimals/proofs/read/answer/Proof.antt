@@ -8,10 +8,7 @@ use Rattle.decimals.proofs.read.answer.Tie as tie
 pub answer-spec : {M : Type 1} → statement M
 answer-spec =
     tie.close
-    (tie.spec
-    (λ c. search needs)
-    (λ c. search needs)
-    (λ c. search needs)
+    (tie.spec (λ c. search needs) (λ c. search needs) (λ c. search needs)
     (λ c. (ap answered (sym (c .before .brought .given .1)), tt))
     (λ c. (ap answered (sym (c .before .brought2 .given .1)), tt))
     (λ c. (ap answered (sym (c .before .brought3 .given .1)), tt)))

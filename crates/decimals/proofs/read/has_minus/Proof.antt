@@ -15,7 +15,4 @@ returns-2 c = first-minus (now (c .before .before .args .text)) (c .before .if1 
 pub has-minus-spec : {M : Type 1} → statement M
 has-minus-spec =
     tie.close
-    (tie.spec
-    returns
-    (λ c. search needs)
-    returns-2)
+    (tie.spec returns (λ c. search needs) returns-2)

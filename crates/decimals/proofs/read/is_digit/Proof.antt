@@ -13,6 +13,4 @@ returns-2 c = rw (le-ltb (c .before .args .c) 48 (c .if1 .left))
 pub is-digit-spec : {M : Type 1} → statement M
 is-digit-spec =
     tie.close
-    (tie.spec
-    returns
-    returns-2)
+    (tie.spec returns returns-2)

@@ -29,9 +29,4 @@ returns-2 c =
 pub parse-spec : {M : Type 1} → statement M
 parse-spec =
     tie.close
-    (tie.spec
-    (λ c κs. search needs)
-    whole-at-requires
-    returns
-    (λ c κs. search needs)
-    returns-2)
+    (tie.spec (λ c κs. search needs) whole-at-requires returns (λ c κs. search needs) returns-2)

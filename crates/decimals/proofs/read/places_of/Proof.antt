@@ -24,8 +24,7 @@ returns-3 c =
       rw (
         ne-eqb (a .count) 0 (c .before .before .if1 .left),
         le-ltb 27 (a .count) (c .before .if2 .left),
-        lt-ltb (a .at + a .count) (a .length)
-            (c .if3 .taken),
+        lt-ltb (a .at + a .count) (a .length) (c .if3 .taken),
       ),
       omega (arith, start .pre .2, start .pre .3),
     )
@@ -37,8 +36,7 @@ returns-4 c =
       rw (
         ne-eqb (a .count) 0 (c .before .before .if1 .left),
         le-ltb 27 (a .count) (c .before .if2 .left),
-        le-ltb (a .at + a .count) (a .length)
-            (c .if3 .left),
+        le-ltb (a .at + a .count) (a .length) (c .if3 .left),
       ),
       (c .before .if2 .left, s .pre .0, s .pre .1),
     )
@@ -46,12 +44,5 @@ returns-4 c =
 pub places-of-spec : {M : Type 1} → statement M
 places-of-spec =
     tie.close
-    (tie.spec
-    returns
-    (λ c. search needs)
-    returns-2
-    (λ c. search needs)
-    (λ c. search needs)
-    returns-3
-    (λ c. search needs)
-    returns-4)
+    (tie.spec returns (λ c. search needs) returns-2 (λ c. search needs) (λ c. search needs) returns-3
+    (λ c. search needs) returns-4)

@@ -46,21 +46,11 @@ returns-3 c =
 pub scan-spec : {M : Type 1} → statement M
 scan-spec =
     tie.close
-    (tie.spec
-    Inv-loop
-    μ-loop
-    (λ c. starts _)
-    (λ c. search needs)
-    (λ c κs. search needs)
-    returns
-    returns-2
+    (tie.spec Inv-loop μ-loop (λ c. starts _) (λ c. search needs) (λ c κs. search needs) returns returns-2
     (λ c. let l = c .before .before .before .before .before .loop in omega (arith, c .if2 .left))
     (λ c. digit-within _ (not-false _ _ (c .before .before .is-digit .ensures) (c .before .if1 .left)) .0)
     (λ c. record { fits = digit-small _ (not-false _ _ (c .before .before .is-digit .ensures) (c .before .if1 .left)) })
     (λ c.
     let at-loop = c .before .before .before .before .before in
     record { fits = digit-room (at-loop .loop .value) _ (c .if2 .left) (not-false _ _ (c .before .before .is-digit .ensures) (c .before .if1 .left)) })
-    (λ c. search needs)
-    (λ c. search needs)
-    loop-again
-    returns-3)
+    (λ c. search needs) (λ c. search needs) loop-again returns-3)

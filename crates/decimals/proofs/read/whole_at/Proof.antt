@@ -52,14 +52,5 @@ returns-2 c =
 pub whole-at-spec : {M : Type 1} → statement M
 whole-at-spec =
     tie.close
-    (tie.spec
-    (λ c. search needs)
-    (λ c. search needs)
-    (λ c. search needs)
-    (λ c κs. search needs)
-    (λ c. search needs)
-    whole-of-requires
-    (λ c. search needs)
-    add-t
-    returns
-    returns-2)
+    (tie.spec (λ c. search needs) (λ c. search needs) (λ c. search needs) (λ c κs. search needs) (λ c. search needs)
+    whole-of-requires (λ c. search needs) add-t returns returns-2)

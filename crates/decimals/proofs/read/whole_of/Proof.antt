@@ -14,8 +14,4 @@ returns-2 c = (rw (ne-eqb (c .before .before .before .args .count) 0 (c .before 
 pub whole-of-spec : {M : Type 1} → statement M
 whole-of-spec =
     tie.close
-    (tie.spec
-    returns
-    (λ c. search needs)
-    (λ c κs. search needs)
-    returns-2)
+    (tie.spec returns (λ c. search needs) (λ c κs. search needs) returns-2)

@@ -19,8 +19,4 @@ returns-2 c = let s = c .before .before in (ap (λ (x : Short). orElse x (s .arg
 pub first-of-spec : {M : Type 1} → statement M
 first-of-spec =
     tie.close
-    (tie.spec
-    (λ c. search needs)
-    (λ c. search needs)
-    returns
-    returns-2)
+    (tie.spec (λ c. search needs) (λ c. search needs) returns returns-2)

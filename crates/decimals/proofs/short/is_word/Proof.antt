@@ -14,10 +14,4 @@ returns-2 c = ap (givesWord (c .before .before .before .args .word)) (sym (c .be
 pub is-word-spec : {M : Type 1} → statement M
 is-word-spec =
     tie.close
-    (tie.spec
-    (λ c. search needs)
-    (λ c. search needs)
-    (λ c. search needs)
-    returns
-    returns-2
-    (λ c. search needs))
+    (tie.spec (λ c. search needs) (λ c. search needs) (λ c. search needs) returns returns-2 (λ c. search needs))

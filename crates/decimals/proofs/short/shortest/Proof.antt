@@ -90,21 +90,7 @@ returns-3 c = let l = c .before .loop in (ends _ _ _ _ (l .fraction) (l .places)
 pub shortest-spec : {M : Type 1} → statement M
 shortest-spec =
     tie.close
-    (tie.spec
-    Inv-loop
-    μ-loop
-    loop-holds
-    returns
-    (λ c κs. c .before .before .loop .inv .1)
-    (λ c. omega (arith, c .before .before .if1 .left))
-    (λ c. search needs)
-    add-fraction
-    (λ c. search needs)
-    (λ c κs. search needs)
-    around-requires
-    (λ c. search needs)
-    returns-2
-    (λ c. search needs)
-    (λ c. search needs)
-    loop-again
-    returns-3)
+    (tie.spec Inv-loop μ-loop loop-holds returns (λ c κs. c .before .before .loop .inv .1)
+    (λ c. omega (arith, c .before .before .if1 .left)) (λ c. search needs) add-fraction (λ c. search needs)
+    (λ c κs. search needs) around-requires (λ c. search needs) returns-2 (λ c. search needs) (λ c. search needs)
+    loop-again returns-3)

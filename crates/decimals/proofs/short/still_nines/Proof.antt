@@ -16,6 +16,4 @@ returns-2 c = no-nines (c .before .args .nines) (eqb (c .before .args .digit) 9)
 pub still-nines-spec : {M : Type 1} → statement M
 still-nines-spec =
     tie.close
-    (tie.spec
-    returns
-    returns-2)
+    (tie.spec returns returns-2)

@@ -36,10 +36,5 @@ returns-2 c =
 pub tried-above-spec : {M : Type 1} → statement M
 tried-above-spec =
     tie.close
-    (tie.spec
-    (λ c. omega arith)
-    (λ c κs. let s = c .before in (s .pre .0, ten-pos (s .args .places), omega arith))
-    returns
-    (λ c. omega arith)
-    tried-requires-2
-    returns-2)
+    (tie.spec (λ c. omega arith) (λ c κs. let s = c .before in (s .pre .0, ten-pos (s .args .places), omega arith))
+    returns (λ c. omega arith) tried-requires-2 returns-2)

@@ -55,28 +55,10 @@ returns-3 c =
 pub read-bytes-spec : {M : Type 1} → statement M
 read-bytes-spec =
     tie.close
-    (tie.spec
-    Inv-loop
-    μ-loop
-    loop-holds
+    (tie.spec Inv-loop μ-loop loop-holds
     (λ c. let l = c .before .before .loop in omega (arith, l .inv .places, c .before .before .before .before .pre .0, c .before .loop-test .taken))
-    (λ c κs. search needs)
-    (λ c. omega (arith, c .before .before .before .loop .inv .places))
-    (λ c. let at-test = c .before .before .before in omega (
-      arith,
-      at-test .before .loop .inv .places,
-      at-test .before .before .before .pre .0,
-      at-test
-          .loop-test .taken,
-    ))
-    (λ c κs. search needs)
-    returns
-    returns-2
-    (λ c. search needs)
-    (λ c. search needs)
-    (λ c. search needs)
-    element-write-bytes
-    (λ c. omega (arith, c .before .before .before .before .before .before .before .loop .inv .places))
-    (λ c. search needs)
-    loop-again
-    returns-3)
+    (λ c κs. search needs) (λ c. omega (arith, c .before .before .before .loop .inv .places))
+    (λ c. let t = c .before .before .before in omega (arith, t .before .loop .inv .places, t .before .before .before .pre .0, t .loop-test .taken))
+    (λ c κs. search needs) returns returns-2 (λ c. search needs) (λ c. search needs) (λ c. search needs) element-write-bytes
+    (λ c. omega (arith, c .before .before .before .before .before .before .before .loop .inv .places)) (λ c. search needs)
+    loop-again returns-3)

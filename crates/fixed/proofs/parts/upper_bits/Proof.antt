@@ -31,15 +31,5 @@ returns-3 c = upper-pos _ _ _ (c .if2 .left) (c .before .before .pre .0) (c .bef
 pub upper-bits-spec : {M : Type 1} → statement M
 upper-bits-spec =
     tie.close
-    (tie.spec
-    (λ c. search needs)
-    returns
-    (λ c. search needs)
-    (λ c. search needs)
-    (λ c. search needs)
-    sub-result-3
-    (λ c. search needs)
-    returns-2
-    (λ c. search needs)
-    cast-result-2
-    returns-3)
+    (tie.spec (λ c. search needs) returns (λ c. search needs) (λ c. search needs) (λ c. search needs) sub-result-3
+    (λ c. search needs) returns-2 (λ c. search needs) cast-result-2 returns-3)

@@ -5,8 +5,8 @@ use Rattle.fixed.proofs.sum.subtracted.Statement.{statement}
 use Rattle.fixed.proofs.sum.subtracted.Tie as tie
 
 returns : tie.Need-returns
-returns c = diff-all _ _ _ _ (c .before .before .pre .0) (c .before .before .pre .1) (c .before .before .pre .2) _ _ (c .overflow-bit .ensures)
-    (c .before .difference-overflows .ensures)
+returns c = let p = c .before .before .before .pre in diff-all _ _ _ _ (p .0) (p .1) (p .2) _ _ _ (c .before .before .unlike-signs .ensures)
+    (c .before .unlike-signs2 .ensures) (c .overflow-bit .ensures)
 
 pub subtracted-spec : {M : Type 1} → statement M
-subtracted-spec = tie.close (tie.spec (λ c κs. search needs) (λ c κs. search needs) returns)
+subtracted-spec = tie.close (tie.spec (λ c κs. search needs) (λ c κs. search needs) (λ c κs. search needs) returns)

@@ -5,7 +5,8 @@ use Rattle.fixed.proofs.sum.summed.Statement.{statement}
 use Rattle.fixed.proofs.sum.summed.Tie as tie
 
 returns : tie.Need-returns
-returns c = sum-all _ _ _ _ (c .before .before .pre .0) (c .before .before .pre .1) _ _ (c .overflow-bit .ensures) (c .before .sum-overflows .ensures)
+returns c = let p = c .before .before .before .pre in sum-all _ _ _ _ (p .0) (p .1) _ _ _ (c .before .before .unlike-signs .ensures)
+    (c .before .unlike-signs2 .ensures) (c .overflow-bit .ensures)
 
 pub summed-spec : {M : Type 1} → statement M
-summed-spec = tie.close (tie.spec (λ c κs. search needs) (λ c κs. search needs) returns)
+summed-spec = tie.close (tie.spec (λ c κs. search needs) (λ c κs. search needs) (λ c κs. search needs) returns)

@@ -4,7 +4,7 @@ use mathlib.Core.Bool.{true, false}
 use Prim.Native.Nat.{ℕ, _-_, _*_, _<_}
 use native.Mathlib.Nat.{mod-lt}
 use native.Mathlib.Omega.{arith}
-use Rattle.float.proofs.Fix.{fix-over, fix-within}
+use Rattle.float.proofs.convert.Fix.{fix-over, fix-within}
 use borrow.Author.Needs.{needs}
 use Rattle.float.proofs.convert.fix_below.Statement.{statement}
 use Rattle.float.proofs.convert.fix_below.Tie as tie
@@ -39,15 +39,5 @@ returns-3 c =
 pub fix-below-spec : {M : Type 1} → statement M
 fix-below-spec =
     tie.close
-    (tie.spec
-    (λ c κs. search needs)
-    returns
-    (λ c κs. search needs)
-    (λ c. search needs)
-    (λ c. search needs)
-    (λ c. search needs)
-    (λ c. search needs)
-    cast-t10
-    returns-2
-    (λ c. search needs)
-    returns-3)
+    (tie.spec (λ c κs. search needs) returns (λ c κs. search needs) (λ c. search needs) (λ c. search needs)
+    (λ c. search needs) (λ c. search needs) cast-t10 returns-2 (λ c. search needs) returns-3)

@@ -2,7 +2,7 @@
 -- nothing.
 use mathlib.Core.Path.{refl, _∙_}
 use Rattle.float.specs.Convert.{fltd}
-use Rattle.float.proofs.Fix.{integer-below, integer-above}
+use Rattle.float.proofs.convert.Fix.{integer-below, integer-above}
 use borrow.Author.Needs.{needs}
 use Rattle.float.proofs.convert.fltd.Statement.{statement}
 use Rattle.float.proofs.convert.fltd.Tie as tie

@@ -3,7 +3,7 @@
 use mathlib.Core.Path.{refl, _∙_}
 use Rattle.terms.specs.declared.Rule.the-variants.{Cut}
 use Rattle.float.specs.Convert.{flts}
-use Rattle.float.proofs.Fix.{integer-below, integer-above}
+use Rattle.float.proofs.convert.Fix.{integer-below, integer-above}
 use borrow.Author.Needs.{needs}
 use Rattle.float.proofs.convert.flts.Statement.{statement}
 use Rattle.float.proofs.convert.flts.Tie as tie

@@ -1,6 +1,6 @@
 -- `float::convert::whole_part` meets its contract: a shift up, a shift down, or nothing left. Assumes nothing.
 use borrow.Author.Needs.{needs}
-use Rattle.float.proofs.Fix.{part-up, part-down, part-none}
+use Rattle.float.proofs.convert.Fix.{part-up, part-down, part-none}
 use Rattle.float.proofs.convert.whole_part.Statement.{statement}
 use Rattle.float.proofs.convert.whole_part.Tie as tie
 
@@ -19,14 +19,5 @@ returns-3 c = part-none (c .before .before .before .before .args .w) _ _ (c .bef
 pub whole-part-spec : {M : Type 1} → statement M
 whole-part-spec =
     tie.close
-    (tie.spec
-    (λ c κs. search needs)
-    (λ c κs. search needs)
-    (λ c. search needs)
-    (λ c. search needs)
-    returns
-    (λ c. search needs)
-    (λ c. search needs)
-    (λ c. search needs)
-    returns-2
-    returns-3)
+    (tie.spec (λ c κs. search needs) (λ c κs. search needs) (λ c. search needs) (λ c. search needs) returns
+    (λ c. search needs) (λ c. search needs) (λ c. search needs) returns-2 returns-3)

@@ -6,8 +6,8 @@ use native.Mathlib.Omega.{arith}
 use Rattle.terms.specs.declared.Rule.{Rule}
 use Rattle.terms.specs.declared.Rule.the-variants.{Cut, Nearest}
 use Rattle.float.specs.Cut.{cutSize}
-use Rattle.float.proofs.Pair.{cut-zero}
-use Rattle.float.proofs.Values.{settled-same, top-le, top-cut}
+use Rattle.float.proofs.cut.Pair.{cut-zero}
+use Rattle.float.proofs.cut.Values.{settled-same, top-le, top-cut}
 use borrow.Author.Needs.{needs}
 use Rattle.float.proofs.cut.cut_word.Statement.{statement}
 use Rattle.float.proofs.cut.cut_word.Tie as tie
@@ -46,20 +46,6 @@ returns-3 c =
 pub cut-word-spec : {M : Type 1} → statement M
 cut-word-spec =
     tie.close
-    (tie.spec
-    returns
-    (λ c κs. search needs)
-    (λ c. search needs)
-    (λ c. search needs)
-    (λ c. search needs)
-    (λ c. search needs)
-    (λ c. search needs)
-    (λ c. search needs)
-    (λ c. search needs)
-    (λ c. search needs)
-    (λ c κs. search needs)
-    (λ c. search needs)
-    (λ c κs. search needs)
-    settle-requires
-    returns-2
-    returns-3)
+    (tie.spec returns (λ c κs. search needs) (λ c. search needs) (λ c. search needs) (λ c. search needs)
+    (λ c. search needs) (λ c. search needs) (λ c. search needs) (λ c. search needs) (λ c. search needs)
+    (λ c κs. search needs) (λ c. search needs) (λ c κs. search needs) settle-requires returns-2 returns-3)

@@ -2,7 +2,7 @@
 use mathlib.Core.Path.{refl, sym}
 use Prim.Native.Nat.{_^_}
 use lib.Pow.{pow-pos}
-use Rattle.float.proofs.NearWhole.{closest-up, closest-stays}
+use Rattle.float.proofs.cut.NearWhole.{closest-up, closest-stays}
 use borrow.Author.Needs.{needs}
 use Rattle.float.proofs.cut.nearest.Statement.{statement}
 use Rattle.float.proofs.cut.nearest.Tie as tie

@@ -1,6 +1,6 @@
 -- `float::cut::settle` meets its contract: 2 ^ 24 steps are 2 ^ 23 steps of the next place. Assumes nothing.
 use mathlib.Core.Path.{sym, _∙_}
-use Rattle.float.proofs.Values.{settled-same, settled-up}
+use Rattle.float.proofs.cut.Values.{settled-same, settled-up}
 use borrow.Author.Needs.{needs}
 use Rattle.float.proofs.cut.settle.Statement.{statement}
 use Rattle.float.proofs.cut.settle.Tie as tie

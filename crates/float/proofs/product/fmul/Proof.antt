@@ -4,7 +4,7 @@ use native.Mathlib.Nat.{lt-of-lt-of-le}
 use lib.Dec.{lit≤}
 use lib.Ieee.{unlike}
 use Rattle.float.proofs.Powers.{mul-digits}
-use Rattle.float.proofs.ProductCut.{mul-law}
+use Rattle.float.proofs.product.ProductCut.{mul-law}
 use borrow.Author.Needs.{needs}
 use Rattle.float.proofs.product.fmul.Statement.{statement}
 use Rattle.float.proofs.product.fmul.Tie as tie
@@ -15,11 +15,11 @@ mul-p c =
 
 returns : tie.Need-returns
 returns c =
-    let s = c .before .before .before .before .before .before .before .before in
+    let n = c .before .before .before .before .before in
+    let s = n .before .before in
     c .cut-word .ensures
     ∙ mul-law (s .args .rule) (s .args .b) (s .args .a) _ _ _ _ _
-    (c .before .before .before .before .before .unlike-signs .ensures ∙ ap₂ unlike (c .before .before .before .before .before .before .before .is-negative
-    .ensures) (c .before .before .before .before .before .before .is-negative2 .ensures))
+    (ap₂ unlike (n .before .is-negative .ensures) (n .is-negative2 .ensures))
     (c .before .before .before .before .mantissa-of .ensures .0)
     (c .before .before .before .mantissa-of2 .ensures .0)
     (c .before .before .biased-of .ensures .0)
@@ -28,16 +28,5 @@ returns c =
 pub fmul-spec : {M : Type 1} → statement M
 fmul-spec =
     tie.close
-    (tie.spec
-    (λ c κs. search needs)
-    (λ c κs. search needs)
-    (λ c κs. search needs)
-    (λ c κs. search needs)
-    (λ c κs. search needs)
-    mul-p
-    (λ c κs. search needs)
-    (λ c κs. search needs)
-    (λ c. search needs)
-    (λ c. search needs)
-    (λ c κs. search needs)
-    returns)
+    (tie.spec (λ c κs. search needs) (λ c κs. search needs) (λ c κs. search needs) (λ c κs. search needs) mul-p
+    (λ c κs. search needs) (λ c κs. search needs) (λ c. search needs) (λ c. search needs) (λ c κs. search needs) returns)

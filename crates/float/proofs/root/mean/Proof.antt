@@ -4,7 +4,7 @@ use native.Mathlib.Nat.{lt-of-lt-of-le}
 use native.Mathlib.Omega.{arith}
 use lib.Dec.{lit≤}
 use borrow.Author.Needs.{needs}
-use Rattle.float.proofs.Means.{mean-beyond, mean-few, mean-some}
+use Rattle.float.proofs.root.Means.{mean-beyond, mean-few, mean-some}
 use Rattle.float.proofs.root.mean.Statement.{statement}
 use Rattle.float.proofs.root.mean.Tie as tie
 

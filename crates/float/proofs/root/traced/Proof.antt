@@ -1,6 +1,6 @@
 -- `float::root::traced` meets its contract: a root is above s and a half exactly where more than s is left over the square. Assumes nothing.
 use borrow.Author.Needs.{needs}
-use Rattle.float.proofs.Means.{trace-whole, trace-low, trace-high}
+use Rattle.float.proofs.root.Means.{trace-whole, trace-low, trace-high}
 use Rattle.float.proofs.root.traced.Statement.{statement}
 use Rattle.float.proofs.root.traced.Tie as tie
 
@@ -16,14 +16,5 @@ returns-3 c = let s = c .before .before in trace-high (s .args .v) (s .args .s) 
 pub traced-spec : {M : Type 1} → statement M
 traced-spec =
     tie.close
-    (tie.spec
-    (λ c. search needs)
-    (λ c. search needs)
-    (λ c. search needs)
-    returns
-    (λ c. search needs)
-    (λ c. search needs)
-    returns-2
-    (λ c. search needs)
-    (λ c. search needs)
-    returns-3)
+    (tie.spec (λ c. search needs) (λ c. search needs) (λ c. search needs) returns (λ c. search needs)
+    (λ c. search needs) returns-2 (λ c. search needs) (λ c. search needs) returns-3)

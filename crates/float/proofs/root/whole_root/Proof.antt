@@ -1,6 +1,6 @@
 -- `float::root::whole_root` meets its contract: a mean is never below the root, and where it does not fall the last one is the root. Assumes nothing.
 use lib.Dec.{lit<}
-use Rattle.float.proofs.Means.{Falling}
+use Rattle.float.proofs.root.Means.{Falling}
 use Rattle.float.proofs.root.whole_root.Statement.{statement}
 use Rattle.float.proofs.root.whole_root.Tie as tie
 
@@ -42,13 +42,4 @@ returns c = let l = c .before .loop .inv in (l .next .last (c .loop-test .left),
 pub whole-root-spec : {M : Type 1} → statement M
 whole-root-spec =
     tie.close
-    (tie.spec
-    Inv-loop
-    μ-loop
-    mean-requires
-    mean-requires-2
-    loop-holds
-    mean-requires-3
-    loop-less
-    loop-again
-    returns)
+    (tie.spec Inv-loop μ-loop mean-requires mean-requires-2 loop-holds mean-requires-3 loop-less loop-again returns)

@@ -1,7 +1,7 @@
 -- `float::sum::addend_of` meets its contract: a zero is the least. Assumes nothing.
 use mathlib.Core.Path.{refl}
 use borrow.Author.Needs.{needs}
-use Rattle.float.proofs.SumCut.{addend-zero, addend-word}
+use Rattle.float.proofs.sum.SumCut.{addend-zero, addend-word}
 use Rattle.float.proofs.sum.addend_of.Statement.{statement}
 use Rattle.float.proofs.sum.addend_of.Tie as tie
 

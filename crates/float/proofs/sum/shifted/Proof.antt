@@ -3,7 +3,7 @@ use borrow.Author.Needs.{needs}
 use mathlib.Core.Path.{sym, subst}
 use Prim.Native.Nat.{ℕ, _<_}
 use lib.Pow.{pow-pos}
-use Rattle.float.proofs.SumCut.{one-shifted, jam-near, jam-far}
+use Rattle.float.proofs.sum.SumCut.{one-shifted, jam-near, jam-far}
 use Rattle.float.proofs.sum.shifted.Statement.{statement}
 use Rattle.float.proofs.sum.shifted.Tie as tie
 

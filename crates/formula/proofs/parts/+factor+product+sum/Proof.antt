@@ -15,8 +15,7 @@ use Rattle.formula.specs.Told.{atOf, endOf}
 use Rattle.formula.proofs.Measure.{leftOver, same-place, later-place}
 use Rattle.formula.proofs.Places.{next-at, next-end}
 use Rattle.formula.proofs.Reading.{stands, next-asks, reads-as, no-level, at-minus, at-bracket, at-leaf, minus-reads, brackets-read}
-use Rattle.formula.proofs.Going.{Going, ends-code, joins-code, going-starts, going-ends, going-on, going-asks, going-later, going-less, reads-small}
-use Rattle.formula.proofs.Going.{asks-small}
+use Rattle.formula.proofs.Going.{Going, ends-code, going-starts, going-ends, going-on, going-less, turn, reads-small, asks-small}
 use Rattle.formula.proofs.parts.factor.Reads as factor
 use Rattle.formula.proofs.parts.factor.Kinds as factor-kinds
 use Rattle.formula.proofs.parts.+factor+product+sum.Lts-factor as factor-lts
@@ -31,8 +30,7 @@ use Rattle.formula.proofs.parts.bracketed.Reads as bracketed-reads
 use Rattle.formula.proofs.parts.joined.Reads as joined-reads
 use Rattle.formula.proofs.parts.leaf.Reads as leaf-reads
 use Rattle.formula.proofs.words.byte_at.Reads as byte-at-reads
-use Rattle.formula.proofs.words.product_code.Reads as product-code-reads
-use Rattle.formula.proofs.words.sum_code.Reads as sum-code-reads
+use Rattle.formula.proofs.parts.sign_at.Reads as sign-at-reads
 use Rattle.formula.proofs.parts.+factor+product+sum.{statement}
 use Rattle.formula.proofs.parts.+factor+product+sum.Tie.{close}
 
@@ -181,143 +179,107 @@ pub +factor+product+sum-spec : {M : Type 1} → statement M
     (λ t. product-lts.spec (
       factor-below t,
       factor.Post,
-      at-of-reads.Asked,
-      at-of-reads.Learnt,
-      byte-at-reads.Asked,
-      byte-at-reads.Learnt,
-      product-code-reads.Asked,
-      product-code-reads.Learnt,
+      sign-at-reads.Asked,
+      sign-at-reads.Learnt,
       joined-reads.Asked,
       joined-reads.Learnt,
     )
     (product-at t) product.Post product-Inv-loop product-μ-loop
     -- the first operand
     (λ c κs. let s = c .before .before in (same-place 0 (now (s .args .text)) (atOf (s .args .place)) (s .args .depth) t (s .pre .0), s .pre .1))
-    (λ c. going-starts (c .before .before .before .pre .1 .short) (c .factor .ensures))
-    (λ c κs. search needs)
-    (λ c κs. search needs)
-    (λ c κs. search needs)
+    (λ c. going-starts (c .before .before .before .pre .1 .short) (c .factor .ensures)) (λ c κs. search needs)
     -- no sign follows
     (λ c.
-    let l = c .before .before .before .before .loop in
-    let text = now (c .before .before .before .before .before .before .before .before .args .text) in
-    going-ends (c .before .before .before .before .before .before .before .before .pre .1 .short) (c .before .before .before .before .before .factor .ensures)
-    (l .inv)
-    (ends-code productSign text (atOf (l .left)) _ _ (c .before .before .byte-at .ensures ∙ ap (λ (i : ℕ). getD text i 0) (c .before .before .before .at-of
-    .ensures)) (c .before .product-code .ensures) (c .if1 .taken)))
+    let l = c .before .before in
+    going-ends (l .before .before .before .before .pre .1 .short) (l .before .factor .ensures) (l .loop .inv)
+    (ends-code productSign (getD (now (l .before .before .before .before .args .text)) (atOf (l .loop .left)) 0) _ (c .before .sign-at .ensures)
+    (c .if1 .taken)))
     -- a sign and its right operand
     (λ c.
-    let s = c .before .before .before .before .before .before .before .before .before in
-    let l = c .before .before .before .before .before .loop in
-    let text = now (s .args .text) in
-    let J = joins-code productSign text (atOf (l .left)) _ _ refl (c .before .before .before .byte-at .ensures ∙ ap (λ (i : ℕ). getD text i 0)
-    (c .before .before .before .before .at-of .ensures)) (c .before .before .product-code .ensures) (c .before .if1 .left) in
-    let z = asks-small (going-asks (s .pre .1 .short) (s .pre .1) (l .inv) J) in
+    let u = c .before in
+    let l = u .before .before in
+    let s = l .before .before .before .before in
+    let T = turn (s .pre .1) (l .loop .inv) refl (u .before .sign-at .ensures) (u .if1 .left) in
+    let z = asks-small (T .asks) in
     omega arith)
     (λ c κs.
-    let s = c .before .before .before .before .before .before .before .before .before in
-    let l = c .before .before .before .before .before .loop in
-    let text = now (s .args .text) in
-    let J = joins-code productSign text (atOf (l .left)) _ _ refl (c .before .before .before .byte-at .ensures ∙ ap (λ (i : ℕ). getD text i 0)
-    (c .before .before .before .before .at-of .ensures)) (c .before .before .product-code .ensures) (c .before .if1 .left) in
-    let L = going-later (s .pre .1 .short) (s .pre .1) (l .inv) J in (
-      later-place 1 0 text (atOf (s .args .place)) _ (s .args .depth) _ t (s .pre .0) (omega arith) (L .0) (L .1) (omega arith),
-      going-asks (s .pre .1 .short)
-          (s .pre .1) (l .inv) J,
+    let u = c .before in
+    let l = u .before .before in
+    let s = l .before .before .before .before in
+    let T = turn (s .pre .1) (l .loop .inv) refl (u .before .sign-at .ensures) (u .if1 .left) in (
+      later-place 1 0 (now (s .args .text)) (atOf (s .args .place)) _ (s .args .depth) _ t (s .pre .0) (omega arith) (T .later .0) (T .later .1)
+          (omega arith),
+      T .asks,
     ))
     (λ c κs.
-    let s = c .before .before .before .before .before .before .before .before .before .before .before in
-    let l = c .before .before .before .before .before .before .before .loop in
-    let text = now (s .args .text) in
-    let J = joins-code productSign text (atOf (l .left)) _ _ refl (c .before .before .before .before .before .byte-at .ensures ∙ ap (λ (i : ℕ). getD text i 0)
-    (c .before .before .before .before .before .before .at-of .ensures)) (c .before .before .before .before .product-code .ensures)
-    (c .before .before .before .if1 .left) in
-    reads-small _ (s .pre .1 .short) (going-later (s .pre .1 .short) (s .pre .1) (l .inv) J .2) (c .before .factor2 .ensures))
+    let u = c .before .before .before in
+    let l = u .before .before in
+    let s = l .before .before .before .before in
+    let T = turn (s .pre .1) (l .loop .inv) refl (u .before .sign-at .ensures) (u .if1 .left) in
+    reads-small _ (s .pre .1 .short) (T .later .2) (c .before .factor2 .ensures))
     (λ c.
-    let s = c .before .before .before .before .before .before .before .before .before .before .before .before in
-    let l = c .before .before .before .before .before .before .before .before .loop in
-    let text = now (s .args .text) in
-    let J = joins-code productSign text (atOf (l .left)) _ _ refl (c .before .before .before .before .before .before .byte-at .ensures
-    ∙ ap (λ (i : ℕ). getD text i 0) (c .before .before .before .before .before .before .before .at-of .ensures)) (c .before .before .before .before .before
-    .product-code .ensures) (c .before .before .before .before .if1 .left) in
-    going-less (l .left) (s .pre .1 .short) J (c .before .before .factor2 .ensures) (c .joined .ensures .0))
+    let u = c .before .before .before .before in
+    let l = u .before .before in
+    let s = l .before .before .before .before in
+    let T = turn (s .pre .1) (l .loop .inv) refl (u .before .sign-at .ensures) (u .if1 .left) in
+    going-less (l .loop .left) (s .pre .1 .short) (T .joining) (c .before .before .factor2 .ensures) (c .joined .ensures .0))
     (λ c.
-    let s = c .before .before .before .before .before .before .before .before .before .before .before .before in
-    let l = c .before .before .before .before .before .before .before .before .loop in
-    let text = now (s .args .text) in
-    let J = joins-code productSign text (atOf (l .left)) _ _ refl (c .before .before .before .before .before .before .byte-at .ensures
-    ∙ ap (λ (i : ℕ). getD text i 0) (c .before .before .before .before .before .before .before .at-of .ensures)) (c .before .before .before .before .before
-    .product-code .ensures) (c .before .before .before .before .if1 .left) in
-    going-on (s .pre .1 .short) (l .inv) J (c .before .before .factor2 .ensures) (c .joined .ensures .1) (c .joined .ensures .0)))
+    let u = c .before .before .before .before in
+    let l = u .before .before in
+    let s = l .before .before .before .before in
+    let T = turn (s .pre .1) (l .loop .inv) refl (u .before .sign-at .ensures) (u .if1 .left) in
+    going-on (s .pre .1 .short) (l .loop .inv) (T .joining) (c .before .before .factor2 .ensures) (c .joined .ensures .1) (c .joined .ensures .0)))
     -- ---- sum
     (λ t. sum-lts.spec (
       product-below t,
       product.Post,
-      at-of-reads.Asked,
-      at-of-reads.Learnt,
-      byte-at-reads.Asked,
-      byte-at-reads.Learnt,
-      sum-code-reads.Asked,
-      sum-code-reads.Learnt,
+      sign-at-reads.Asked,
+      sign-at-reads.Learnt,
       joined-reads.Asked,
       joined-reads.Learnt,
     )
     (sum-at t) sum.Post sum-Inv-loop sum-μ-loop
     -- the first operand
     (λ c κs. let s = c .before .before in (same-place 1 (now (s .args .text)) (atOf (s .args .place)) (s .args .depth) t (s .pre .0), s .pre .1))
-    (λ c. going-starts (c .before .before .before .pre .1 .short) (c .product .ensures))
-    (λ c κs. search needs)
-    (λ c κs. search needs)
-    (λ c κs. search needs)
+    (λ c. going-starts (c .before .before .before .pre .1 .short) (c .product .ensures)) (λ c κs. search needs)
     -- no sign follows
     (λ c.
-    let l = c .before .before .before .before .loop in
-    let text = now (c .before .before .before .before .before .before .before .before .args .text) in
-    going-ends (c .before .before .before .before .before .before .before .before .pre .1 .short) (c .before .before .before .before .before .product .ensures)
-    (l .inv)
-    (ends-code sumSign text (atOf (l .left)) _ _ (c .before .before .byte-at .ensures ∙ ap (λ (i : ℕ). getD text i 0) (c .before .before .before .at-of
-    .ensures)) (c .before .sum-code .ensures) (c .if1 .taken)))
+    let l = c .before .before in
+    going-ends (l .before .before .before .before .pre .1 .short) (l .before .product .ensures) (l .loop .inv)
+    (ends-code sumSign (getD (now (l .before .before .before .before .args .text)) (atOf (l .loop .left)) 0) _ (c .before .sign-at .ensures)
+    (c .if1 .taken)))
     -- a sign and its right operand
     (λ c.
-    let s = c .before .before .before .before .before .before .before .before .before in
-    let l = c .before .before .before .before .before .loop in
-    let text = now (s .args .text) in
-    let J = joins-code sumSign text (atOf (l .left)) _ _ refl (c .before .before .before .byte-at .ensures ∙ ap (λ (i : ℕ). getD text i 0)
-    (c .before .before .before .before .at-of .ensures)) (c .before .before .sum-code .ensures) (c .before .if1 .left) in
-    let z = asks-small (going-asks (s .pre .1 .short) (s .pre .1) (l .inv) J) in
+    let u = c .before in
+    let l = u .before .before in
+    let s = l .before .before .before .before in
+    let T = turn (s .pre .1) (l .loop .inv) refl (u .before .sign-at .ensures) (u .if1 .left) in
+    let z = asks-small (T .asks) in
     omega arith)
     (λ c κs.
-    let s = c .before .before .before .before .before .before .before .before .before in
-    let l = c .before .before .before .before .before .loop in
-    let text = now (s .args .text) in
-    let J = joins-code sumSign text (atOf (l .left)) _ _ refl (c .before .before .before .byte-at .ensures ∙ ap (λ (i : ℕ). getD text i 0)
-    (c .before .before .before .before .at-of .ensures)) (c .before .before .sum-code .ensures) (c .before .if1 .left) in
-    let L = going-later (s .pre .1 .short) (s .pre .1) (l .inv) J in (
-      later-place 2 1 text (atOf (s .args .place)) _ (s .args .depth) _ t (s .pre .0) (omega arith) (L .0) (L .1) (omega arith),
-      going-asks (s .pre .1 .short)
-          (s .pre .1) (l .inv) J,
+    let u = c .before in
+    let l = u .before .before in
+    let s = l .before .before .before .before in
+    let T = turn (s .pre .1) (l .loop .inv) refl (u .before .sign-at .ensures) (u .if1 .left) in (
+      later-place 2 1 (now (s .args .text)) (atOf (s .args .place)) _ (s .args .depth) _ t (s .pre .0) (omega arith) (T .later .0) (T .later .1)
+          (omega arith),
+      T .asks,
     ))
     (λ c κs.
-    let s = c .before .before .before .before .before .before .before .before .before .before .before in
-    let l = c .before .before .before .before .before .before .before .loop in
-    let text = now (s .args .text) in
-    let J = joins-code sumSign text (atOf (l .left)) _ _ refl (c .before .before .before .before .before .byte-at .ensures ∙ ap (λ (i : ℕ). getD text i 0)
-    (c .before .before .before .before .before .before .at-of .ensures)) (c .before .before .before .before .sum-code .ensures)
-    (c .before .before .before .if1 .left) in
-    reads-small _ (s .pre .1 .short) (going-later (s .pre .1 .short) (s .pre .1) (l .inv) J .2) (c .before .product2 .ensures))
+    let u = c .before .before .before in
+    let l = u .before .before in
+    let s = l .before .before .before .before in
+    let T = turn (s .pre .1) (l .loop .inv) refl (u .before .sign-at .ensures) (u .if1 .left) in
+    reads-small _ (s .pre .1 .short) (T .later .2) (c .before .product2 .ensures))
     (λ c.
-    let s = c .before .before .before .before .before .before .before .before .before .before .before .before in
-    let l = c .before .before .before .before .before .before .before .before .loop in
-    let text = now (s .args .text) in
-    let J = joins-code sumSign text (atOf (l .left)) _ _ refl (c .before .before .before .before .before .before .byte-at .ensures
-    ∙ ap (λ (i : ℕ). getD text i 0) (c .before .before .before .before .before .before .before .at-of .ensures)) (c .before .before .before .before .before
-    .sum-code .ensures) (c .before .before .before .before .if1 .left) in
-    going-less (l .left) (s .pre .1 .short) J (c .before .before .product2 .ensures) (c .joined .ensures .0))
+    let u = c .before .before .before .before in
+    let l = u .before .before in
+    let s = l .before .before .before .before in
+    let T = turn (s .pre .1) (l .loop .inv) refl (u .before .sign-at .ensures) (u .if1 .left) in
+    going-less (l .loop .left) (s .pre .1 .short) (T .joining) (c .before .before .product2 .ensures) (c .joined .ensures .0))
     (λ c.
-    let s = c .before .before .before .before .before .before .before .before .before .before .before .before in
-    let l = c .before .before .before .before .before .before .before .before .loop in
-    let text = now (s .args .text) in
-    let J = joins-code sumSign text (atOf (l .left)) _ _ refl (c .before .before .before .before .before .before .byte-at .ensures
-    ∙ ap (λ (i : ℕ). getD text i 0) (c .before .before .before .before .before .before .before .at-of .ensures)) (c .before .before .before .before .before
-    .sum-code .ensures) (c .before .before .before .before .if1 .left) in
-    going-on (s .pre .1 .short) (l .inv) J (c .before .before .product2 .ensures) (c .joined .ensures .1) (c .joined .ensures .0)))
+    let u = c .before .before .before .before in
+    let l = u .before .before in
+    let s = l .before .before .before .before in
+    let T = turn (s .pre .1) (l .loop .inv) refl (u .before .sign-at .ensures) (u .if1 .left) in
+    going-on (s .pre .1 .short) (l .loop .inv) (T .joining) (c .before .before .product2 .ensures) (c .joined .ensures .1) (c .joined .ensures .0)))

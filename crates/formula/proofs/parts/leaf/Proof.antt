@@ -50,12 +50,6 @@ returns-3 c =
 pub leaf-spec : {M : Type 1} → statement M
 leaf-spec =
     tie.close
-    (tie.spec
-    (λ c κs. search needs)
-    (λ c κs. search needs)
-    (λ c κs. search needs)
-    letter-requires
-    returns
+    (tie.spec (λ c κs. search needs) (λ c κs. search needs) (λ c κs. search needs) letter-requires returns
     (λ c κs. (c .before .before .before .before .before .before .before .pre, sym (byte-is (c .before .before .before)) ∙ c .before .if2 .taken))
-    returns-2
-    returns-3)
+    returns-2 returns-3)

@@ -46,14 +46,5 @@ returns-2 c = sym (c .before .loop .inv .1 ∙ ap areDigits (drop-of-length-le (
 pub are-digits-spec : {M : Type 1} → statement M
 are-digits-spec =
     tie.close
-    (tie.spec
-    Inv-loop
-    μ-loop
-    loop-holds
-    (λ c. search needs)
-    (λ c κs. search needs)
-    returns
-    (λ c. search needs)
-    (λ c. search needs)
-    loop-again
-    returns-2)
+    (tie.spec Inv-loop μ-loop loop-holds (λ c. search needs) (λ c κs. search needs) returns (λ c. search needs)
+    (λ c. search needs) loop-again returns-2)

@@ -57,18 +57,6 @@ returns c =
 pub hex-word-spec : {M : Type 1} → statement M
 hex-word-spec =
     tie.close
-    (tie.spec
-    (λ c. search needs)
-    (λ c. search needs)
-    pair-requires
-    (λ c. search needs)
-    (λ c. search needs)
-    pair-requires-2
-    (λ c. search needs)
-    (λ c. search needs)
-    pair-requires-3
-    (λ c. search needs)
-    (λ c. search needs)
-    pair-requires-4
-    (λ c κs. search needs)
-    returns)
+    (tie.spec (λ c. search needs) (λ c. search needs) pair-requires (λ c. search needs) (λ c. search needs)
+    pair-requires-2 (λ c. search needs) (λ c. search needs) pair-requires-3 (λ c. search needs) (λ c. search needs)
+    pair-requires-4 (λ c κs. search needs) returns)

@@ -51,15 +51,5 @@ returns-4 c =
 pub f64-to-word-spec : {M : Type 1} → statement M
 f64-to-word-spec =
     tie.close
-    (tie.spec
-    (λ c κs. search needs)
-    (λ c. search needs)
-    (λ c κs. search needs)
-    returns-2
-    returns-3
-    (λ c. search needs)
-    (λ c. search needs)
-    (λ c. search needs)
-    word-at-requires
-    judge-requires
-    returns-4)
+    (tie.spec (λ c κs. search needs) (λ c. search needs) (λ c κs. search needs) returns-2 returns-3 (λ c. search needs)
+    (λ c. search needs) (λ c. search needs) word-at-requires judge-requires returns-4)

@@ -5,7 +5,7 @@ use lib.Pow.{pow-pos}
 use borrow.Author.Needs.{needs}
 use Rattle.terms.specs.declared.Rule.{Rule}
 use Rattle.float.specs.Cut.{whole}
-use Rattle.float.proofs.NearWhole.{closest-up, closest-stays}
+use Rattle.float.proofs.cut.NearWhole.{closest-up, closest-stays}
 use Rattle.host_floats.proofs.entry.steps.Statement.{statement}
 use Rattle.host_floats.proofs.entry.steps.Tie as tie
 
@@ -25,13 +25,5 @@ returns-3 c =
 pub steps-spec : {M : Type 1} → statement M
 steps-spec =
     tie.close
-    (tie.spec
-    (λ c. search needs)
-    (λ c. search needs)
-    (λ c. search needs)
-    (λ c. search needs)
-    (λ c. search needs)
-    (λ c. search needs)
-    returns
-    returns-2
-    returns-3)
+    (tie.spec (λ c. search needs) (λ c. search needs) (λ c. search needs) (λ c. search needs) (λ c. search needs)
+    (λ c. search needs) returns returns-2 returns-3)

@@ -22,10 +22,4 @@ returns c =
 pub add-decimal-spec : {M : Type 1} → statement M
 add-decimal-spec =
     tie.close
-    (tie.spec
-    (λ c κs. search needs)
-    (λ c. search needs)
-    (λ c. search needs)
-    add-requires
-    (λ c. search needs)
-    returns)
+    (tie.spec (λ c κs. search needs) (λ c. search needs) (λ c. search needs) add-requires (λ c. search needs) returns)

@@ -1,6 +1,6 @@
 -- `record_runs::run::counted` meets its contract: all of the room, or as much as is as good. Assumes nothing.
 use borrow.Author.Tests.{lt-ltb, le-ltb}
-use Rattle.record_runs.specs.Pass.{mostReplies}
+use Rattle.record_runs.specs.Held.{mostReplies}
 use borrow.Author.Needs.{needs}
 use Rattle.record_runs.proofs.run.counted.Statement.{statement}
 use Rattle.record_runs.proofs.run.counted.Tie as tie

@@ -15,7 +15,7 @@ use Rattle.record_files.proofs.Running.{Going, starts, goes-on, stops, ends, al
 use Rattle.record_runs.specs.declared.step.Place.{Place}
 use Rattle.record_runs.specs.Record.{turnOf}
 use Rattle.record_runs.specs.Run.{runOf}
-use Rattle.record_runs.specs.Pass.{countedIn, Stands, Passed}
+use Rattle.record_runs.specs.Held.{countedIn, Stands, Passed}
 use Rattle.record_runs.proofs.Writes.{all-rest, back}
 use Rattle.record_runs.proofs.Prefix.{lawful}
 use Rattle.record_runs.proofs.Places.{standing, stays-there}
@@ -103,7 +103,7 @@ pass-record-requires c κs =
 
 same-length : tie.Need-same-length Inv-loop μ-loop
 same-length c =
-    let k = c .before .before .before .before .before .before .before in
+    let k = c .before .before .before .before in
     let l = loop-of k .loop in
     let a = loop-of k .before .before .before .before .args in
     let on = given (a .mode) (a .rule) in
@@ -117,7 +117,7 @@ same-length c =
 
 returns : tie.Need-returns Inv-loop μ-loop
 returns c =
-    let k = c .before .before .before .before .before .before .before in
+    let k = c .before .before .before .before in
     let l = loop-of k .loop in
     let a = loop-of k .before .before .before .before .args in
     let on = given (a .mode) (a .rule) in
@@ -134,7 +134,7 @@ returns c =
 loop-less : tie.Need-loop-less Inv-loop μ-loop
 loop-less c =
     let k = c .before .before .before .before .before .before .before in
-    let moved = turn k .1 .moves (c .if2 .left) in
+    let moved = turn k .1 .moves (c .before .before .before .if2 .left) in
     omega (arith, ap (λ (q : Place). q .taken) (turn k .0), moved, more k)
 
 loop-again : tie.Need-loop-again Inv-loop μ-loop
@@ -150,12 +150,12 @@ loop-again c =
     let room = length (drop (p .written) (l .replies)) in
     let t = turnOf (now-at k) file room in
     let ready : Ready (stateIn (l .card .chip)) = record { stack = is-stack (l .card .chip .stack .top) (l .card .chip .stack .rest); ready = l .inv .1 } in
-    let few = lawful .few (now-at k) file room (sym (turn k .1 .refusal-is) ∙ c .if2 .left) in
+    let few = lawful .few (now-at k) file room (sym (turn k .1 .refusal-is) ∙ c .before .before .before .if2 .left) in
     let replies = take (p .written) (l .replies) ++ left in
     rw (back (l .replies) (p .written) left)
     (subst (λ (q : Place). Inv-loop (a .mode) (a .rule) (now (a .input)) (now (a .replies)) (a .start) q replies (r .card) q) (sym (turn k .0)) (
       goes-on lawful (cardUnder on (a .start)) (now (a .input)) (now (a .replies)) (now-at k) (p .taken) (p .written) (l .replies) (l .inv .0)
-          (more k) (r .refusal) (cardUnder on (r .card)) (t .size) (length (t .reply)) left (turn k .1) (c .if2 .left),
+          (more k) (r .refusal) (cardUnder on (r .card)) (t .size) (length (t .reply)) left (turn k .1) (c .before .before .before .if2 .left),
       subst (λ (x : Card). x .chip .status < 128) (sym (turn k .1 .state-is)) (calm-turn (now-at k) file room ready),
       l .inv .2,
       l .inv .3,

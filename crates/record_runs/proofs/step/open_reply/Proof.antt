@@ -5,7 +5,7 @@ use Prim.Native.Nat.{ℕ, _+_, _/_, _%_}
 use native.Mathlib.Omega.{arith}
 use lib.ListN.{drop, length-set}
 use denote.Ref.{now}
-use Rattle.little.proofs.Exact.{le2-small}
+use Rattle.numbers.proofs.Exact.{le2-small}
 use Rattle.record_runs.specs.Record.{le2}
 use Rattle.record_runs.proofs.Writes.{front}
 use borrow.Author.Needs.{needs}
@@ -30,15 +30,5 @@ returns c =
 pub open-reply-spec : {M : Type 1} → statement M
 open-reply-spec =
     tie.close
-    (tie.spec
-    (λ c. search needs)
-    (λ c. search needs)
-    (λ c. search needs)
-    slice-write-room-2
-    (λ c. search needs)
-    slice-write-room-3
-    (λ c. search needs)
-    slice-write-room-4
-    (λ c. search needs)
-    (λ c. search needs)
-    returns)
+    (tie.spec (λ c. search needs) (λ c. search needs) (λ c. search needs) slice-write-room-2 (λ c. search needs)
+    slice-write-room-3 (λ c. search needs) slice-write-room-4 (λ c. search needs) (λ c. search needs) returns)

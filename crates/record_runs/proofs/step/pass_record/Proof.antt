@@ -7,9 +7,10 @@ use lib.ListN.{drop, length-drop}
 use lib.Seq.{length-take-le}
 use denote.Ref.{now}
 use Rattle.terms.specs.Limits.{mostPayload}
+use Rattle.terms.specs.Kind.{kindNamed}
 use Rattle.chip.specs.Step.{given}
 use Rattle.record_runs.specs.declared.head.Frame.the-variants.{Framed}
-use Rattle.record_runs.specs.Record.{kindNamed, frameUnder}
+use Rattle.record_runs.specs.Record.{frameUnder}
 use Rattle.record_runs.proofs.Heads.{Fits, fits}
 use Rattle.record_runs.proofs.Turning.{framed, broken}
 use borrow.Author.Needs.{needs}
@@ -30,11 +31,11 @@ fit k = fits mostPayload (now (k .before .before .before .before .before .before
 add-end : tie.Need-add-end
 add-end c = let f = fit c in omega (arith, f .small)
 
-shared-slice-read-word : tie.Need-shared-slice-read-word
-shared-slice-read-word c = let f = fit (c .before) in omega (arith, f .there)
+shared-slice-read-two : tie.Need-shared-slice-read-two
+shared-slice-read-two c = let f = fit (c .before) in omega (arith, f .there)
 
-shared-slice-read-word-2 : tie.Need-shared-slice-read-word-2
-shared-slice-read-word-2 c = let f = fit (c .before .before) in omega (arith, f .there)
+shared-slice-read-two-2 : tie.Need-shared-slice-read-two-2
+shared-slice-read-two-2 c = let f = fit (c .before .before) in omega (arith, f .there)
 
 part-pass-kind-end : tie.Need-part-pass-kind-end
 part-pass-kind-end c = let f = fit (c .before .before .before .before) in omega (arith, f .there)
@@ -57,7 +58,7 @@ returns c =
     let n = k .before .n .given .0 .0 in
     let on = given (a .mode) (a .rule) in
     let w = c .before .before .pass-kind in
-    let kind = c .before .before .before .before .before .kind-of .ensures ∙ ap kindNamed (c .before .before .before .before .before .before .word .ensures) in
+    let kind = c .before .before .before .before .before .kind-of .ensures ∙ ap kindNamed (c .before .before .before .before .before .before .two .ensures) in
     framed on (a .place) (a .card) l (now (a .room)) _ n _ (w .result) (fit k .there) kind (frame k) (rw (add-sub-cancel-left 4 n) at (w .ensures))
 
 returns-2 : tie.Need-returns-2
@@ -70,6 +71,6 @@ returns-2 c =
 pub pass-record-spec : {M : Type 1} → statement M
 pass-record-spec =
     tie.close
-    (tie.spec (λ c κs. c .before .before .pre .1) (λ c. search needs) (λ c. search needs) add-end shared-slice-read-word shared-slice-read-word-2
+    (tie.spec (λ c κs. c .before .before .pre .1) (λ c. search needs) (λ c. search needs) add-end shared-slice-read-two shared-slice-read-two-2
     (λ c κs. search needs) (λ c. search needs) (λ c κs. search needs) (λ c. search needs) (λ c. search needs) part-pass-kind-end pass-kind-requires
     (λ c. search needs) (λ c κs. search needs) (λ c. search needs) returns returns-2)

@@ -1,79 +1,82 @@
--- `record_runs::step::pass_status` meets its contract: a payload, no room, or the status byte in the reply. Assumes nothing.
-use mathlib.Core.Path.{refl, ap, _∙_}
+-- `record_runs::step::pass_status` meets its contract: held up, or the status byte in the reply. Assumes nothing.
+use mathlib.Core.Path.{_≡_, refl, sym, ap, _∙_}
+use mathlib.Core.Bool.{true}
+use Prim.Native.Nat.{_≤_}
 use native.Mathlib.Omega.{arith}
-use lib.Dec.{lit≤}
+use lib.Dec.{eqb, lit≤}
 use lib.ListN.{length, set, length-set, length-drop}
 use denote.Ref.{now}
 use Rattle.chip.specs.State.{Answer}
 use Rattle.chip.specs.Event.{Status as StatusEvent}
-use Rattle.chip.specs.Held.{answerIn}
+use Rattle.chip.specs.Step.{done}
+use Rattle.chip.specs.Held.{stateIn}
+use Rattle.chip.proofs.Held.{read-done}
 use Rattle.error_memory.specs.Memory.{answerWith}
 use Rattle.error_memory.specs.Held.{cardUnder}
-use Rattle.record_runs.specs.Record.{Status}
-use Rattle.record_runs.proofs.Turning.{other-size, that-size, no-room, took, status-data}
+use Rattle.record_runs.specs.Record.{Status, exactly}
+use Rattle.record_runs.proofs.Turning.{cleared, held-up, took, status-data}
 use borrow.Author.Needs.{needs}
 use Rattle.record_runs.proofs.step.pass_status.Statement.{statement}
 use Rattle.record_runs.proofs.step.pass_status.Tie as tie
 
 returns : tie.Need-returns
 returns c =
-    let a = c .before .before .before .before .args in
-    λ on file there same. other-size on (a .place) (a .card) file (now (a .room)) 0 _ Status (c .before .if1 .taken) (c .stop .ensures)
-
-add-if2 : tie.Need-add-if2
-add-if2 c = omega (arith, c .before .before .before .before .pre .1 .low)
-
-returns-2 : tie.Need-returns-2
-returns-2 c =
-    let entry = c .before .before .before .before .before .before .before in
+    let entry = c .before .before .before .before .before .before in
     let a = entry .args in
+    let n = length (now (a .payload)) in
     λ on file there same.
-    that-size on (a .place) (a .card) file (now (a .room)) 0 _ Status (c .stop2 .result) (c .before .before .before .before .if1 .left)
-    (no-room on (a .place) (a .card) file (now (a .room)) Status (c .stop2 .ensures) (entry .pre .1 .none 6 (lit≤ tt) (c .before .if2 .taken)))
+    held-up on (a .place) (a .card) file (now (a .room)) (eqb n 0) Status (exactly 0 n Status) (λ z. rw z) (λ z. rw z)
+    (entry .pre .1) (lit≤ tt) (c .before .before .before .ready .ensures)
+    (λ z. (c .before .if1 .taken) (c .before .before .number .ensures .0 ∙ z)) (c .stop .ensures)
+
+-- not held up
+clear : (k : tie.Else1) → let a = k .before .before .before .before .before .args in (eqb (length (now (a .payload))) 0 ≡ true) × (6 ≤ length (now (a .room)))
+clear k =
+    let e = k .before .before .before .before .before in
+    let z = sym (k .before .number .ensures .0) ∙ k .if1 .left in
+    cleared _ (e .args .place) 6 (e .pre .1) (λ right. lit≤ tt) (k .before .before .ready .ensures) z
 
 slice-write-room : tie.Need-slice-write-room
-slice-write-room c =
-    let s = c .before .before .before .before .before .before .before .before .before .before .pre .1 in
-    omega (arith, s .some 6 (lit≤ tt) (c .before .before .before .before .if2 .left))
+slice-write-room c = omega (arith, clear (c .before .before) .1)
 
 open-reply-requires : tie.Need-open-reply-requires
-open-reply-requires c κs =
-    let s = c .before .before .before .before .before .before .before .before .before .before .before .before .pre .1 in
-    (lit≤ tt, simp length-set (omega (arith, s .some 6 (lit≤ tt) (c .before .before .before .before .before .before .if2 .left))))
+open-reply-requires c κs = (lit≤ tt, simp length-set (omega (arith, clear (c .before .before .before) .1)))
 
 finish-requires : tie.Need-finish-requires
 finish-requires c κs =
-    let s = c .before .before .before .before .before .before .before .before .before .before .before .before .before .before .before .pre .1 in
+    let s = c .before .before .before .before .before .before .before .before .before .before .before .pre .1 in
     (s .early, s .low, lit≤ tt, lit≤ tt)
 
 same-length : tie.Need-same-length
 same-length c =
-    let entry = c .before .before .before .before .before .before .before .before .before .before .before .before .before .before .before .before in
-    let room = now (entry .args .room) in
-    let b = c .before .before .before .before .before .before .before .read .result .byte in
-    let room-left = c .before .before .before .before .before .before .before .before .before .before .if2 .left in
-    ap length (c .before .before .before .open-reply .ensures)
-    ∙ omega (arith, length-drop 5 (set room 5 b), length-set room 5 b, entry .pre .1 .some 6 (lit≤ tt) room-left)
-
-returns-3 : tie.Need-returns-3
-returns-3 c =
-    let entry = c .before .before .before .before .before .before .before .before .before .before .before .before .before .before .before .before in
-    let a = entry .args in
-    let e = c .before .before .before .before .before .before .before .read in
-    let m = a .card .memory in
+    let a = c .before .before .before .before .before .before .before .before .before .before .before .before .args in
     let room = now (a .room) in
-    let none = c .before .before .before .before .before .before .before .before .before .before .before .before .before .if1 .left in
-    let room-left = c .before .before .before .before .before .before .before .before .before .before .if2 .left in
-    let fits = entry .pre .1 .some 6 (lit≤ tt) room-left in
+    let s = a .card .chip .status in
+    ap length (c .before .before .before .open-reply .ensures) ∙ omega (
+      arith,
+      length-drop 5 (set room 5 s),
+      length-set room 5 s,
+      clear
+          (c .before .before .before .before .before .before .before) .1,
+    )
+
+returns-2 : tie.Need-returns-2
+returns-2 c =
+    let entry = c .before .before .before .before .before .before .before .before .before .before .before .before in
+    let a = entry .args in
+    let s = stateIn (a .card .chip) in
+    let m = a .card .memory in
+    let go = clear (c .before .before .before .before .before .before .before) in
+    let is = read-done s (entry .pre .0) in
     λ on file there same.
-    that-size on (a .place) (a .card) file room 0 _ Status (c .finish .result) none
-    (took on (a .place) (a .card) file room Status (answerWith on m StatusEvent (answerIn (e .result))) (e .result .state) m (c .finish .ensures)
-    (ap (answerWith on m StatusEvent) (e .ensures)) refl (c .before .before .before .before .number .ensures .0)
-    (status-data (cardUnder on (a .card)) room (e .result .byte) (ap (λ (x : Answer). x .byte) (e .ensures)) fits)
-    (c .before .before .before .open-reply .ensures) (omega (arith, there)) fits)
+    rw (go .0)
+    (took on (a .place) (a .card) file (now (a .room)) Status (answerWith on m StatusEvent (done (s .status) s)) (a .card .chip) m (c .finish .ensures)
+    (ap (answerWith on m StatusEvent) (sym is)) refl refl
+    (status-data (cardUnder on (a .card)) (now (a .room)) (s .status) (ap (λ (x : Answer). x .byte) (sym is)) (go .1))
+    (c .before .before .before .open-reply .ensures) (omega (arith, there)) (go .1))
 
 pub pass-status-spec : {M : Type 1} → statement M
 pass-status-spec =
     tie.close
-    (tie.spec (λ c κs. search needs) returns add-if2 (λ c κs. search needs) returns-2 (λ c κs. search needs) slice-write-room (λ c κs. search needs)
-    open-reply-requires finish-requires same-length returns-3)
+    (tie.spec (λ c κs. search needs) (λ c κs. search needs) (λ c κs. search needs) returns slice-write-room
+    open-reply-requires finish-requires same-length returns-2)

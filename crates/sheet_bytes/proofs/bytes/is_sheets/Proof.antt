@@ -24,12 +24,5 @@ returns-5 c = good (now (c .before .before .before .before .before .before .befo
 pub is-sheets-spec : {M : Type 1} → statement M
 is-sheets-spec =
     tie.close
-    (tie.spec
-    returns
-    (λ c. search needs)
-    returns-2
-    (λ c. search needs)
-    returns-3
-    (λ c. search needs)
-    returns-4
+    (tie.spec returns (λ c. search needs) returns-2 (λ c. search needs) returns-3 (λ c. search needs) returns-4
     returns-5)

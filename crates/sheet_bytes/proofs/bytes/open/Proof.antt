@@ -2,7 +2,7 @@
 use mathlib.Core.Path.{ap, _∙_}
 use denote.Ref.{now}
 use Rattle.sheet_bytes.specs.Ledger.{openAt, laidAt}
-use Rattle.sheet_bytes.proofs.Ledgers.{fresh}
+use Rattle.sheet_bytes.proofs.Ledgers.{opened-bytes}
 use borrow.Author.Needs.{needs}
 use Rattle.sheet_bytes.proofs.bytes.open.Statement.{statement}
 use Rattle.sheet_bytes.proofs.bytes.open.Tie as tie
@@ -10,17 +10,11 @@ use Rattle.sheet_bytes.proofs.bytes.open.Tie as tie
 returns : tie.Need-returns
 returns c =
     let st = c .before .before .before .before .before .before .before .before .before .before in
-    c .before .before .lay2 .ensures ∙ ap (laidAt (now (st .args .sheets)) openAt) (fresh (now (st .args .serial)) _ (st .pre .1)
+    c .before .before .lay2 .ensures ∙ ap (laidAt (now (st .args .sheets)) openAt) (opened-bytes (now (st .args .serial)) _ (st .pre .1)
     (c .before .before .before .before .before .before .lay .ensures))
 
 pub open-spec : {M : Type 1} → statement M
 open-spec =
     tie.close
-    (tie.spec
-    (λ c. search needs)
-    (λ c. search needs)
-    (λ c κs. search needs)
-    (λ c. search needs)
-    (λ c κs. search needs)
-    (λ c. search needs)
-    returns)
+    (tie.spec (λ c. search needs) (λ c. search needs) (λ c κs. search needs) (λ c. search needs) (λ c κs. search needs)
+    (λ c. search needs) returns)

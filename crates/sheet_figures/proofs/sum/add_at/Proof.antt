@@ -54,18 +54,5 @@ returns c =
 pub add-at-spec : {M : Type 1} → statement M
 add-at-spec =
     tie.close
-    (tie.spec
-    Inv-loop
-    μ-loop
-    loop-holds
-    (λ c. search needs)
-    cast-here
-    cast-here-2
-    add-here
-    (λ c. search needs)
-    (λ c. search needs)
-    cast-left
-    (λ c. search needs)
-    (λ c. search needs)
-    loop-again
-    returns)
+    (tie.spec Inv-loop μ-loop loop-holds (λ c. search needs) cast-here cast-here-2 add-here (λ c. search needs)
+    (λ c. search needs) cast-left (λ c. search needs) (λ c. search needs) loop-again returns)

@@ -36,15 +36,5 @@ returns c = let l = c .before .loop in gather-ends (now (c .before .before .befo
 pub gather-all-spec : {M : Type 1} → statement M
 gather-all-spec =
     tie.close
-    (tie.spec
-    Inv-loop
-    μ-loop
-    (λ c. search needs)
-    (λ c. search needs)
-    loop-holds
-    (λ c κs. search needs)
-    gather-requires
-    (λ c. search needs)
-    (λ c. search needs)
-    loop-again
-    returns)
+    (tie.spec Inv-loop μ-loop (λ c. search needs) (λ c. search needs) loop-holds (λ c κs. search needs) gather-requires
+    (λ c. search needs) (λ c. search needs) loop-again returns)

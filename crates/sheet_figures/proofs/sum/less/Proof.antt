@@ -71,21 +71,6 @@ returns c =
 pub less-spec : {M : Type 1} → statement M
 less-spec =
     tie.close
-    (tie.spec
-    Inv-loop
-    μ-loop
-    loop-holds
-    (λ c. search needs)
-    cast-here
-    add-here
-    (λ c. search needs)
-    cast-here-2
-    sub-here
-    sub-here-2
-    (λ c. search needs)
-    (λ c. search needs)
-    sub-borrowed
-    (λ c. search needs)
-    (λ c. search needs)
-    loop-again
+    (tie.spec Inv-loop μ-loop loop-holds (λ c. search needs) cast-here add-here (λ c. search needs) cast-here-2 sub-here
+    sub-here-2 (λ c. search needs) (λ c. search needs) sub-borrowed (λ c. search needs) (λ c. search needs) loop-again
     returns)

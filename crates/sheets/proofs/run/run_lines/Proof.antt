@@ -12,7 +12,7 @@ use Rattle.chip.proofs.Ready.{Ready}
 use Rattle.error_memory.specs.Held.{cardUnder}
 use Rattle.record_files.proofs.Running.{Going, starts, goes-on, stops, ends, all-length}
 use Rattle.record_runs.specs.declared.step.Place.{Place}
-use Rattle.record_runs.specs.Pass.{countedIn, Stands}
+use Rattle.record_runs.specs.Held.{countedIn, Stands}
 use Rattle.record_runs.proofs.Writes.{all-rest, back}
 use Rattle.record_runs.proofs.Places.{standing}
 use Rattle.sheet_bytes.specs.Ledger.{sheetsBytes}

@@ -14,11 +14,11 @@ add-if1 c = let e = c .before .before in omega (arith, e .pre .0, e .pre .1)
 returns : tie.Need-returns
 returns c = let e = c .before .before .before .before in sym (not-own (now (e .args .rest)) (λ o. omega (arith, e .pre .0, o .in-range, o .there)))
 
-shared-slice-read-word : tie.Need-shared-slice-read-word
-shared-slice-read-word c = omega (arith, c .before .before .before .before .before .pre .0)
+shared-slice-read-two : tie.Need-shared-slice-read-two
+shared-slice-read-two c = omega (arith, c .before .before .before .before .before .pre .0)
 
-shared-slice-read-word-2 : tie.Need-shared-slice-read-word-2
-shared-slice-read-word-2 c = omega (arith, c .before .before .before .before .before .before .pre .0)
+shared-slice-read-two-2 : tie.Need-shared-slice-read-two-2
+shared-slice-read-two-2 c = omega (arith, c .before .before .before .before .before .before .pre .0)
 
 returns-2 : tie.Need-returns-2
 returns-2 c = let e = c .before .before .before .before .before .before .before .before in sym (not-own (now (e .args .rest)) (λ o. omega (arith, o .least)))
@@ -40,5 +40,5 @@ returns-5 c =
 pub is-own-spec : {M : Type 1} → statement M
 is-own-spec =
     tie.close
-    (tie.spec add-if1 returns shared-slice-read-word shared-slice-read-word-2 (λ c κs. search needs) returns-2 returns-3 (λ c κs. search needs)
+    (tie.spec add-if1 returns shared-slice-read-two shared-slice-read-two-2 (λ c κs. search needs) returns-2 returns-3 (λ c κs. search needs)
     (λ c. search needs) (λ c. search needs) returns-4 returns-5)

@@ -4,7 +4,7 @@ use Prim.Native.Nat.{_≤_}
 use native.Mathlib.Omega.{arith}
 use lib.ListN.{length}
 use denote.Ref.{now}
-use Rattle.little.specs.Little.{wordAt}
+use Rattle.numbers.specs.Little.{wordAt}
 use Rattle.chip.specs.Step.{given}
 use Rattle.error_memory.specs.Held.{cardUnder}
 use Rattle.record_runs.specs.Record.{turnOf}
@@ -46,11 +46,11 @@ four k =
     let took = core-took (cardUnder on (a .card)) (now (a .rest)) (length (now (a .room))) (sym (r .refusal-is) ∙ k .if1 .left) in
     omega (arith, r .within, took .four)
 
-shared-slice-read-word : tie.Need-shared-slice-read-word
-shared-slice-read-word c = omega (arith, four (c .before))
+shared-slice-read-two : tie.Need-shared-slice-read-two
+shared-slice-read-two c = omega (arith, four (c .before))
 
-shared-slice-read-word-2 : tie.Need-shared-slice-read-word-2
-shared-slice-read-word-2 c = omega (arith, four (c .before .before))
+shared-slice-read-two-2 : tie.Need-shared-slice-read-two-2
+shared-slice-read-two-2 c = omega (arith, four (c .before .before))
 
 returns-2 : tie.Need-returns-2
 returns-2 c =
@@ -62,7 +62,7 @@ returns-2 c =
     let t = turnOf (cardUnder on (a .card)) l (length (now (a .room))) in (
       r .ensures .0,
       core-turns (held (cardUnder on (a .card)) (now (a .sheets))) (wordAt l 2) t _ _ _ _ _ _ _ _ (r .ensures .1) (other-keeps (now (a .sheets))
-          (wordAt l 2) (t .refusal) (λ z. c .if2 .taken (c .before .word .ensures ∙ z))),
+          (wordAt l 2) (t .refusal) (λ z. c .if2 .taken (c .before .two .ensures ∙ z))),
     )
 
 returns-3 : tie.Need-returns-3
@@ -76,11 +76,11 @@ returns-3 c =
       r .ensures .0,
       core-turns (held (cardUnder on (a .card)) (now (a .sheets))) (wordAt l 2) t _ _ _ _ _ _ _ _ (r .ensures .1) (c .before .before .drop-open .ensures
           ∙ reset-drops (now (a .sheets)) (wordAt l 2) (t .refusal) (sym (r .ensures .1 .refusal-is) ∙ c .before .before .before .before .before .before .before
-          .before .if1 .left) (sym (c .before .before .before .before .before .word .ensures) ∙ c .before .before .before .before .if2 .left)),
+          .before .if1 .left) (sym (c .before .before .before .before .before .two .ensures) ∙ c .before .before .before .before .if2 .left)),
     )
 
 pub pass-core-spec : {M : Type 1} → statement M
 pass-core-spec =
     tie.close
-    (tie.spec pass-record-requires (λ c. search needs) returns shared-slice-read-word shared-slice-read-word-2 (λ c κs. search needs)
+    (tie.spec pass-record-requires (λ c. search needs) returns shared-slice-read-two shared-slice-read-two-2 (λ c κs. search needs)
     (λ c. search needs) returns-2 (λ c κs. search needs) (λ c. search needs) (λ c. search needs) returns-3)

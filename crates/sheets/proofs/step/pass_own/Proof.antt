@@ -7,7 +7,7 @@ use native.Mathlib.Nat.{add-sub-cancel-left}
 use lib.Dec.{lit≤}
 use lib.ListN.{take, drop}
 use denote.Ref.{now}
-use Rattle.little.specs.Little.{wordAt, le2}
+use Rattle.numbers.specs.Little.{wordAt, le2}
 use Rattle.sheet_bytes.specs.Entering.{payloadFor}
 use Rattle.sheets.proofs.Lines.{owns}
 use Rattle.sheets.proofs.Turning.{own-bad, own-full, own-done}
@@ -15,19 +15,19 @@ use borrow.Author.Needs.{needs}
 use Rattle.sheets.proofs.step.pass_own.Statement.{statement}
 use Rattle.sheets.proofs.step.pass_own.Tie as tie
 
-shared-slice-read-word : tie.Need-shared-slice-read-word
-shared-slice-read-word c = let e = c .before .before .before .before in let o = owns (now (e .args .rest)) (e .pre .1) in omega (arith, o .there, o .in-range)
+shared-slice-read-two : tie.Need-shared-slice-read-two
+shared-slice-read-two c = let e = c .before .before .before .before in let o = owns (now (e .args .rest)) (e .pre .1) in omega (arith, o .there, o .in-range)
 
-shared-slice-read-word-2 : tie.Need-shared-slice-read-word-2
-shared-slice-read-word-2 c = let e = c .before .before .before .before .before in let o = owns (now (e .args .rest)) (e .pre .1)
+shared-slice-read-two-2 : tie.Need-shared-slice-read-two-2
+shared-slice-read-two-2 c = let e = c .before .before .before .before .before in let o = owns (now (e .args .rest)) (e .pre .1)
     in omega (arith, o .there, o .in-range)
 
-shared-slice-read-word-3 : tie.Need-shared-slice-read-word-3
-shared-slice-read-word-3 c = let e = c .before .before .before .before .before .before .before .before in let o = owns (now (e .args .rest)) (e .pre .1)
+shared-slice-read-two-3 : tie.Need-shared-slice-read-two-3
+shared-slice-read-two-3 c = let e = c .before .before .before .before .before .before .before .before in let o = owns (now (e .args .rest)) (e .pre .1)
     in omega (arith, o .there, o .in-range)
 
-shared-slice-read-word-4 : tie.Need-shared-slice-read-word-4
-shared-slice-read-word-4 c = let e = c .before .before .before .before .before .before .before .before .before in let o = owns (now (e .args .rest)) (e .pre .1)
+shared-slice-read-two-4 : tie.Need-shared-slice-read-two-4
+shared-slice-read-two-4 c = let e = c .before .before .before .before .before .before .before .before .before in let o = owns (now (e .args .rest)) (e .pre .1)
     in omega (arith, o .there, o .in-range)
 
 returns : tie.Need-returns
@@ -35,7 +35,7 @@ returns c =
     let a = c .before .before .before .before .before .before .before .before .before .before .before .before .args in
     let at-word = c .before .before .before .before .before .before in
     λ on. own-bad on (a .place) (a .card) (now (a .sheets)) (now (a .rest)) (now (a .room)) (c .stop .ensures)
-    (λ z. c .before .if1 .taken (c .before .before .word2 .ensures ∙ z ∙ ap (λ (k : ℕ). 2 + payloadFor k) (sym (at-word .word .ensures))
+    (λ z. c .before .if1 .taken (c .before .before .two2 .ensures ∙ z ∙ ap (λ (k : ℕ). 2 + payloadFor k) (sym (at-word .two .ensures))
     ∙ ap (λ (k : ℕ). 2 + k) (sym (c .before .before .before .before .before .payload-for .ensures .0))))
 
 add-if2 : tie.Need-add-if2
@@ -47,10 +47,10 @@ returns-2 c =
     let entry = at-if .before .before .before .before .before .before .before .before .before .before .before in
     let a = entry .args in
     let n = at-if .before .before .before .before .payload-for .ensures .0 in
-    let w = at-if .before .before .before .before .before .word .ensures in
+    let w = at-if .before .before .before .before .before .two .ensures in
     λ on.
     own-full on (a .place) (a .card) (now (a .sheets)) (now (a .rest)) (now (a .room)) (c .stop2 .ensures)
-    (sym (at-if .before .word2 .ensures) ∙ at-if .if1 .left ∙ ap (λ (k : ℕ). 2 + k) n ∙ ap (λ (k : ℕ). 2 + payloadFor k) w)
+    (sym (at-if .before .two2 .ensures) ∙ at-if .if1 .left ∙ ap (λ (k : ℕ). 2 + k) n ∙ ap (λ (k : ℕ). 2 + payloadFor k) w)
     (entry .pre .2 .none 5 (lit≤ tt) (c .before .if2 .taken))
 
 part-enter-end : tie.Need-part-enter-end
@@ -58,7 +58,7 @@ part-enter-end c =
     let at-if = c .before .before .before .before .before .before .before .before in
     let e = at-if .before .before .before .before .before .before .before .before .before .before .before in
     let o = owns (now (e .args .rest)) (e .pre .1) in
-    omega (arith, o .there, at-if .before .word2 .ensures, at-if .if1 .left)
+    omega (arith, o .there, at-if .before .two2 .ensures, at-if .if1 .left)
 
 add-open-reply : tie.Need-add-open-reply
 add-open-reply c =
@@ -66,7 +66,7 @@ add-open-reply c =
     let at-word = at-if2 .before .before .before .before .before .before .before .before in
     let e = at-word .before .before .before .before .before .before in
     let o = owns (now (e .args .rest)) (e .pre .1) in
-    omega (arith, o .most, at-word .word .ensures)
+    omega (arith, o .most, at-word .two .ensures)
 
 open-reply-requires : tie.Need-open-reply-requires
 open-reply-requires c κs =
@@ -95,14 +95,14 @@ returns-3 c =
     let l = now (a .rest) in
     let room = now (a .room) in
     let n = at-if .before .before .before .before .payload-for in
-    let w = at-if .before .before .before .before .before .word in
+    let w = at-if .before .before .before .before .before .two in
     let m : n .result ≡ payloadFor (wordAt l 2) = n .ensures .0 ∙ ap payloadFor (w .ensures) in
     let e = c .before .before .before .before .before .before .before .before .enter in
     let q : take (4 + n .result - 4) (drop 4 l) ≡ take (payloadFor (wordAt l 2)) (drop 4 l) =
     ap (λ (k : ℕ). take k (drop 4 l)) (add-sub-cancel-left 4 (n .result) ∙ m) in
     let top = c .before .before .before .before .before .before .before .before .before .before .before .tos .ensures .0 in
     let entered = rw (w .ensures, q, top) at (e .ensures) in
-    let sized = sym (at-if .before .word2 .ensures) ∙ at-if .if1 .left ∙ ap (λ (k : ℕ). 2 + k) m in
+    let sized = sym (at-if .before .two2 .ensures) ∙ at-if .if1 .left ∙ ap (λ (k : ℕ). 2 + k) m in
     let number = c .before .before .before .before .number in
     let replied = c .before .before .before .open-reply .ensures
     ∙ ap (λ (k : ℕ). le2 3 ++ (le2 (k + 32768) ++ (number .result ∷ drop 5 room))) (w .ensures)
@@ -114,7 +114,7 @@ returns-3 c =
 pub pass-own-spec : {M : Type 1} → statement M
 pass-own-spec =
     tie.close
-    (tie.spec shared-slice-read-word shared-slice-read-word-2 (λ c κs. search needs) (λ c κs. search needs) shared-slice-read-word-3
-    shared-slice-read-word-4 (λ c κs. search needs) (λ c. search needs) (λ c. search needs) (λ c κs. search needs) returns add-if2 (λ c κs. search needs)
+    (tie.spec shared-slice-read-two shared-slice-read-two-2 (λ c κs. search needs) (λ c κs. search needs) shared-slice-read-two-3
+    shared-slice-read-two-4 (λ c κs. search needs) (λ c. search needs) (λ c. search needs) (λ c κs. search needs) returns add-if2 (λ c κs. search needs)
     returns-2 (λ c. search needs) (λ c κs. search needs) (λ c. search needs) (λ c. search needs) part-enter-end (λ c κs. search needs) add-open-reply
     (λ c κs. search needs) open-reply-requires cast-finish finish-requires (λ c. search needs) (λ c. search needs) returns-3)

@@ -1,5 +1,5 @@
 -- `stack::Stack::copy` meets its contract: the bytes of A pushed. Assumes nothing.
-use mathlib.Core.Path.{ap, _∙_}
+use mathlib.Core.Path.{ap, ap₂, _∙_}
 use mathlib.Core.List.{_++_}
 use Prim.Native.Nat.{ℕ, _-_}
 use lib.ListN.{take}
@@ -14,12 +14,11 @@ use Rattle.stack.proofs.Stack.copy.Tie as tie
 
 returns : tie.Need-returns
 returns c =
-    let a = c .before .before .args in
+    let a = c .before .before .before .args in
     let s = a .self in
-    let n = sizeOf (a .width) in
-    c .push-word .ensures
-    ∙ ap (λ (r : ℕ). bytesOf n r ++ take (16 - n) (bytesIn s)) (c .before .tos .ensures .0)
-    ∙ copy-law n (bytesIn s) (is-stack (s .top) (s .rest)) (two-fit (a .width))
+    c .push .ensures
+    ∙ ap₂ (λ (n r : ℕ). bytesOf n r ++ take (16 - n) (bytesIn s)) (c .before .size .ensures .0) (c .before .before .tos .ensures .0)
+    ∙ copy-law (sizeOf (a .width)) (bytesIn s) (is-stack (s .top) (s .rest)) (two-fit (a .width))
 
 pub copy-spec : {M : Type 1} → statement M
-copy-spec = tie.close (tie.spec (λ c κs. search needs) (λ c κs. search needs) returns)
+copy-spec = tie.close (tie.spec (λ c κs. search needs) (λ c. search needs) (λ c κs. search needs) (λ c κs. search needs) returns)

@@ -14,13 +14,21 @@ use Rattle.stack.proofs.Stack.exchange.Tie as tie
 
 returns : tie.Need-returns
 returns c =
-    let a = c .before .before .before .before .args in
+    let z = c .before in
+    let at-over = z .before .before in
+    let a = at-over .before .before .args in
     let s = a .self in
     let n = sizeOf (a .width) in
-    let below = c .before .before .over-a .ensures ∙ ap (overA n (bytesIn s)) (c .before .before .before .tos .ensures .0) in
-    c .push-word .ensures
-    ∙ ap₂ (λ (r : ℕ) (l : List ℕ). bytesOf n r ++ take (16 - n) l) (c .before .nos .ensures .0) below
+    let below = at-over .over-a .ensures ∙ ap (overA n (bytesIn s)) (at-over .before .tos .ensures .0) in
+    let b = z .before .nos in
+    let under = at-over .over-a .result in
+    c .push .ensures
+    ∙ ap (λ (k : ℕ). bytesOf k (b .result) ++ take (16 - k) (bytesIn under)) (z .size .ensures .0)
+    ∙ ap₂ (λ (r : ℕ) (l : List ℕ). bytesOf n r ++ take (16 - n) l) (b .ensures .0) below
     ∙ exchange-law n (bytesIn s) (is-stack (s .top) (s .rest)) (two-fit (a .width))
 
 pub exchange-spec : {M : Type 1} → statement M
-exchange-spec = tie.close (tie.spec (λ c κs. search needs) (λ c κs. search needs) (λ c κs. search needs) (λ c κs. search needs) returns)
+exchange-spec =
+    tie.close
+    (tie.spec (λ c κs. search needs) (λ c κs. search needs) (λ c κs. search needs) (λ c. search needs) (λ c κs. search needs)
+    (λ c κs. search needs) returns)

@@ -10,21 +10,42 @@ use lib.Seq.{paste}
 use denote.Ref.{now}
 use Rattle.stack.specs.Stack.{handedOut}
 use Rattle.stack.specs.Words.{bytesIn}
+use Rattle.numbers.proofs.Laid.{part-laid}
 use Rattle.stack.proofs.Several.{length-handed}
+use Rattle.stack.proofs.Reversed.{high-4, high-8}
 use Rattle.stack.proofs.TwoWords.{turn-eight}
-use Rattle.stack.proofs.Blocks.{left, eight-handed, word-handed, part-laid, byte-laid, Popped, pop-none, pop-more, pop-not, pop-all}
+use Rattle.stack.proofs.Blocks.{left, eight-handed, word-handed, byte-laid, Popped, pop-none, pop-more, pop-not, pop-all}
 use Rattle.stack.proofs.Stack.pop_all.Reads as reads
 use Rattle.stack.proofs.Stack.pop_all.Lts as lts
-use Rattle.little.proofs.put_eight.Reads as put-eight-reads
-use Rattle.stack.proofs.Stack.top_byte.Reads as top-byte-reads
-use Rattle.stack.proofs.Stack.tos.Reads as tos-reads
-use Rattle.stack.proofs.Stack.turn.Reads as turn-reads
-use Rattle.stack.proofs.lent.put_2.Reads as put-2-reads
-use Rattle.stack.proofs.lent.put_4.Reads as put-4-reads
-use Rattle.stack.proofs.lent.reversed_8.Reads as reversed-8-reads
+use Rattle.numbers.proofs.put_eight.Reads as put-8
+use Rattle.numbers.proofs.put_high_2.Reads as put-2
+use Rattle.numbers.proofs.put_high_4.Reads as put-4
+use Rattle.numbers.proofs.reversed_8.Reads as reversed
+use Rattle.stack.proofs.Stack.top_byte.Reads as top
+use Rattle.stack.proofs.Stack.tos.Reads as tos
+use Rattle.stack.proofs.Stack.turn.Reads as turn
 use borrow.Author.Needs.{needs}
 use Rattle.stack.proofs.Stack.pop_all.Statement.{statement}
 use Rattle.stack.proofs.Stack.pop_all.Tie as tie
+
+-- what is asked and learnt at each call
+abbrev contracts : lts.Claims
+contracts = (
+  reversed.Asked,
+  reversed.Learnt,
+  put-8.Asked,
+  put-8.Learnt,
+  tos.Asked,
+  tos.Learnt,
+  put-4.Asked,
+  put-4.Learnt,
+  turn.Asked,
+  turn.Learnt,
+  put-2.Asked,
+  put-2.Learnt,
+  top.Asked,
+  top.Learnt,
+)
 
 abbrev Inv-loop : tie.InvT-loop
 Inv-loop n room₀ s₀ i₀ room s i = Popped n n (bytesIn s₀) room₀ (bytesIn s) i room
@@ -44,28 +65,13 @@ loop-again c =
     let l = at-loop .loop in
     let s = bytesIn (l .s) in
     let put = at-put .put-eight in
-    let e = put .ensures ∙ at-put .before .reversed-8 .ensures .0 ∙ eight-handed (l .s .top) (l .s .rest) in
+    let e = put .ensures ∙ at-put .before .reversed-8 .ensures ∙ high-8 _ ∙ eight-handed (l .s .top) (l .s .rest) in
     let laid = part-laid (l .room) (put .last .0) (handedOut 8 s) (l .i) (l .i + 8 - l .i) 8 (omega arith) (length-handed 8 s) e in
     pop-more (a .n) (bytesIn (a .self)) (now (a .room)) s (l .i) (l .room) 8 (a .n) (a .n) (entry .pre) (l .inv) (omega arith) (omega arith)
     (left (l .s .top) (l .s .rest) 8 (lit≤ tt) (turn-eight (l .s .top) (l .s .rest))) laid refl
 
 -- after four bytes, or none
-four : (c : lts.Joined1 (
-  reversed-8-reads.Asked,
-  reversed-8-reads.Learnt,
-  put-eight-reads.Asked,
-  put-eight-reads.Learnt,
-  tos-reads.Asked,
-  tos-reads.Learnt,
-  put-4-reads.Asked,
-  put-4-reads.Learnt,
-  turn-reads.Asked,
-  turn-reads.Learnt,
-  put-2-reads.Asked,
-  put-2-reads.Learnt,
-  top-byte-reads.Asked,
-  top-byte-reads.Learnt,
-) reads.Pre reads.Post Inv-loop μ-loop)
+four : (c : lts.Joined1 contracts reads.Pre reads.Post Inv-loop μ-loop)
     → let a = c .before .before .before .before .args in
     Popped 3 (a .n) (bytesIn (a .self)) (now (a .room)) (bytesIn (c .if1 .s)) (c .if1 .i) (c .if1 .room)
 four c =
@@ -81,29 +87,14 @@ four c =
     ⊎-elim
     (λ w.
     let h : i + 4 ≤ a .n = omega (arith, w .0 .taken, v .0) in
-    let handed = word-handed (s .top) (s .rest) 4 (lit≤ tt) (w .2 .result) (w .2 .ensures .0) in
+    let handed = high-4 _ ∙ word-handed (s .top) (s .rest) 4 (lit≤ tt) (w .2 .result) (w .2 .ensures .0) in
     pop-more (a .n) b (now (a .room)) (bytesIn s) i (l .room) 4 7 3 (entry .pre) start h (omega arith)
     (ap bytesIn (w .8) ∙ left (s .top) (s .rest) 4 (lit≤ tt) (w .6 .ensures)) (w .7 ∙ w .3 .ensures ∙ ap (λ (x : List ℕ). paste (l .room) i x 4) handed) (w .9))
     (λ w. pop-not (a .n) b (now (a .room)) 7 3 start (omega (arith, w .0 .left)) (ap bytesIn (w .2)) (w .1) (w .3))
     (c .if1 .came)
 
 -- after two more, or none
-two : (c : lts.Joined2 (
-  reversed-8-reads.Asked,
-  reversed-8-reads.Learnt,
-  put-eight-reads.Asked,
-  put-eight-reads.Learnt,
-  tos-reads.Asked,
-  tos-reads.Learnt,
-  put-4-reads.Asked,
-  put-4-reads.Learnt,
-  turn-reads.Asked,
-  turn-reads.Learnt,
-  put-2-reads.Asked,
-  put-2-reads.Learnt,
-  top-byte-reads.Asked,
-  top-byte-reads.Learnt,
-) reads.Pre reads.Post Inv-loop μ-loop)
+two : (c : lts.Joined2 contracts reads.Pre reads.Post Inv-loop μ-loop)
     → let a = c .before .before .before .before .before .before .args in
     Popped 1 (a .n) (bytesIn (a .self)) (now (a .room)) (bytesIn (c .if2 .s)) (c .if2 .i) (c .if2 .room)
 two c =
@@ -124,16 +115,16 @@ two c =
     (λ w. pop-not (a .n) b (now (a .room)) 3 1 v (omega (arith, w .0 .left)) (ap bytesIn (w .2)) (w .1) (w .3))
     (c .if2 .came)
 
-put-4-requires : tie.Need-put-4-requires Inv-loop μ-loop
-put-4-requires c κs =
+put-high-4-requires : tie.Need-put-high-4-requires Inv-loop μ-loop
+put-high-4-requires c κs =
     let l = c .before .before .before .before .loop in
     omega (arith, c .before .before .if1 .taken, l .inv .0, l .inv .2, c .before .before .before .before .before .before .pre)
 
 sub-if2 : tie.Need-sub-if2 Inv-loop μ-loop
 sub-if2 c = omega (arith, four (c .before) .0)
 
-put-2-requires : tie.Need-put-2-requires Inv-loop μ-loop
-put-2-requires c κs =
+put-high-2-requires : tie.Need-put-high-2-requires Inv-loop μ-loop
+put-high-2-requires c κs =
     let at-four = c .before .before .before .before in
     let v = four at-four in
     omega (arith, c .before .before .if2 .taken, v .0, v .2, at-four .before .before .before .before .pre)
@@ -178,6 +169,6 @@ pub pop-all-spec : {M : Type 1} → statement M
 pop-all-spec =
     tie.close
     (tie.spec Inv-loop μ-loop loop-holds (λ c. search needs) (λ c. search needs) (λ c. search needs) (λ c. search needs) (λ c. search needs)
-    (λ c κs. search needs) (λ c κs. search needs) (λ c. search needs) loop-again (λ c. search needs) (λ c κs. search needs) put-4-requires
-    (λ c κs. search needs) (λ c. search needs) sub-if2 (λ c κs. search needs) put-2-requires (λ c κs. search needs) (λ c. search needs)
+    (λ c κs. search needs) (λ c κs. search needs) (λ c. search needs) loop-again (λ c. search needs) (λ c κs. search needs) put-high-4-requires
+    (λ c κs. search needs) (λ c. search needs) sub-if2 (λ c κs. search needs) put-high-2-requires (λ c κs. search needs) (λ c. search needs)
     (λ c κs. search needs) slice-write-room (λ c κs. search needs) same-length returns same-length-2 returns-2)

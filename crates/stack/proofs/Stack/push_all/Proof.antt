@@ -13,13 +13,17 @@ use Rattle.stack.proofs.TwoWords.{push-eight}
 use Rattle.stack.proofs.Blocks.{by-1, by-2, by-4, by-8, Pushed, push-more, push-not}
 use Rattle.stack.proofs.Stack.push_all.Reads as reads
 use Rattle.stack.proofs.Stack.push_all.Lts as lts
-use Rattle.little.proofs.eight_at.Reads as eight-at-reads
-use Rattle.little.proofs.four_at.Reads as four-at-reads
-use Rattle.stack.proofs.Stack.push.Reads as push-reads
-use Rattle.stack.proofs.lent.two.Reads as two-reads
+use Rattle.numbers.proofs.eight_at.Reads as eight-at
+use Rattle.numbers.proofs.four_at.Reads as four-at
+use Rattle.numbers.proofs.two.Reads as two-bytes
+use Rattle.stack.proofs.Stack.push.Reads as push
 use borrow.Author.Needs.{needs}
 use Rattle.stack.proofs.Stack.push_all.Statement.{statement}
 use Rattle.stack.proofs.Stack.push_all.Tie as tie
+
+-- what is asked and learnt at each call
+abbrev contracts : lts.Claims
+contracts = (eight-at.Asked, eight-at.Learnt, four-at.Asked, four-at.Learnt, push.Asked, push.Learnt, two-bytes.Asked, two-bytes.Learnt)
 
 abbrev Inv-loop : tie.InvT-loop
 Inv-loop p s₀ i₀ s i = (i ≤ length p) × (pushedAll (bytesIn s) (drop i p) ≡ pushedAll (bytesIn s₀) p)
@@ -42,16 +46,7 @@ loop-again c =
     (omega arith, ap (λ (t : List ℕ). pushedAll t (drop (l .i + 8) p)) e ∙ push-on s p (l .i) 8 ∙ l .inv .1)
 
 -- after four bytes, or none
-four : (c : lts.Joined1 (
-  eight-at-reads.Asked,
-  eight-at-reads.Learnt,
-  four-at-reads.Asked,
-  four-at-reads.Learnt,
-  push-reads.Asked,
-  push-reads.Learnt,
-  two-reads.Asked,
-  two-reads.Learnt,
-) reads.Pre reads.Post Inv-loop μ-loop)
+four : (c : lts.Joined1 contracts reads.Pre reads.Post Inv-loop μ-loop)
     → let a = c .before .before .before .before .args in
     Pushed 3 (now (a .p)) (pushedAll (bytesIn (a .self)) (now (a .p))) (bytesIn (c .if1 .s)) (c .if1 .i)
 four c =
@@ -72,16 +67,7 @@ four c =
     (c .if1 .came)
 
 -- after two more, or none
-two : (c : lts.Joined2 (
-  eight-at-reads.Asked,
-  eight-at-reads.Learnt,
-  four-at-reads.Asked,
-  four-at-reads.Learnt,
-  push-reads.Asked,
-  push-reads.Learnt,
-  two-reads.Asked,
-  two-reads.Learnt,
-) reads.Pre reads.Post Inv-loop μ-loop)
+two : (c : lts.Joined2 contracts reads.Pre reads.Post Inv-loop μ-loop)
     → let a = c .before .before .before .before .before .before .args in
     Pushed 1 (now (a .p)) (pushedAll (bytesIn (a .self)) (now (a .p))) (bytesIn (c .if2 .s)) (c .if2 .i)
 two c =

@@ -1,13 +1,14 @@
 -- `stack::lent::load` meets its contract: two words of eight bytes. Assumes nothing.
-use mathlib.Core.Path.{ap, ap₂, _∙_}
+use mathlib.Core.Path.{sym, ap, ap₂, _∙_}
 use Prim.Native.Nat.{ℕ, _<_}
 use mathlib.Core.List.{List, _++_}
 use native.Mathlib.Omega.{arith}
 use lib.ListN.{getD}
 use denote.Ref.{now}
-use Rattle.little.specs.Little.{le8}
-use Rattle.little.proofs.Exact.{le8-of}
-use Rattle.stack.proofs.Reversed.{halves}
+use Rattle.numbers.specs.Little.{le8}
+use Rattle.numbers.proofs.Exact.{le8-of}
+use Rattle.numbers.proofs.Reversed.{back}
+use Rattle.stack.proofs.Reversed.{high-8, halves}
 use borrow.Author.Needs.{needs}
 use Rattle.stack.proofs.lent.load.Statement.{statement}
 use Rattle.stack.proofs.lent.load.Tie as tie
@@ -17,9 +18,11 @@ returns c =
     let s = now (c .before .before .before .before .before .args .s) in
     let h = c .before .before .before .before .before .pre in
     let b : (j : ℕ) → getD s j 0 < 256 = λ j. omega (arith, c .before .before .before .before .shared-slice-known .given j) in
-    ap₂ (λ (x y : List ℕ). x ++ y)
-    (c .before .before .reversed-8 .ensures .1 ∙ ap le8 (c .before .before .before .eight-at .ensures) ∙ le8-of s 0 (omega arith) b)
-    (c .reversed-82 .ensures .1 ∙ ap le8 (c .before .eight-at2 .ensures) ∙ le8-of s 8 (omega arith) b)
+    let x = c .before .before .reversed-8 in
+    let y = c .reversed-82 in
+    ap₂ (λ (k l : List ℕ). k ++ l)
+    (sym (high-8 (x .result)) ∙ back _ _ (x .ensures) ∙ ap le8 (c .before .before .before .eight-at .ensures) ∙ le8-of s 0 (omega arith) b)
+    (sym (high-8 (y .result)) ∙ back _ _ (y .ensures) ∙ ap le8 (c .before .eight-at2 .ensures) ∙ le8-of s 8 (omega arith) b)
     ∙ halves s h
 
 pub load-spec : {M : Type 1} → statement M

@@ -4,7 +4,7 @@ use Prim.Native.Nat.{ℕ}
 use mathlib.Core.List.{List, _++_}
 use lib.ListN.{length}
 use denote.Ref.{now}
-use Rattle.stack.proofs.Reversed.{laid}
+use Rattle.stack.proofs.Reversed.{high-8, laid}
 use borrow.Author.Needs.{needs}
 use Rattle.stack.proofs.lent.store.Statement.{statement}
 use Rattle.stack.proofs.lent.store.Tie as tie
@@ -16,8 +16,8 @@ returns c =
     let y = c .before .before .put-eight2 in
     laid (now (s .args .s)) (x .last .0) (y .last .0) (s .pre) (ap length (x .ensures))
     ∙ ap₂ (λ (k l : List ℕ). k ++ l)
-    (x .ensures ∙ c .before .before .before .before .before .before .before .before .reversed-8 .ensures .0)
-    (y .ensures ∙ c .before .before .before .reversed-82 .ensures .0)
+    (x .ensures ∙ c .before .before .before .before .before .before .before .before .reversed-8 .ensures ∙ high-8 _)
+    (y .ensures ∙ c .before .before .before .reversed-82 .ensures ∙ high-8 _)
 
 pub store-spec : {M : Type 1} → statement M
 store-spec =

@@ -9,7 +9,7 @@ use Rattle.chip.specs.Step.{given}
 use Rattle.error_memory.specs.Memory.{Card, cardWith}
 use Rattle.error_memory.specs.Held.{cardUnder}
 use Rattle.record_runs.specs.Run.{runOf}
-use Rattle.record_runs.specs.Pass.{Ran}
+use Rattle.record_runs.specs.Held.{Ran}
 use Rattle.record_runs.proofs.Ready.{run-small}
 use Rattle.state_bytes.specs.Bytes.{cardIn}
 use Rattle.state_bytes.proofs.States.{state-sized, state-ready}
@@ -40,22 +40,22 @@ cast-fill-report c =
 
 fill-report-requires : tie.Need-fill-report-requires
 fill-report-requires c κs =
-    let at-run = c .before .before .before .before .before .before .before .before .before .before .before .before in
+    let at-run = c .before .before .before .before .before .before .before .before .before .before in
     at-run .before .before .before .before .before .before .before .before .pre .1
 
 same-length-2 : tie.Need-same-length-2
 same-length-2 c =
-    let at-run = c .before .before .before .before .before .before .before .before .before .before .before .before .before .before .before .before in
+    let at-run = c .before .before .before .before .before .before .before .before .before .before .before .before .before .before in
     same-room (at-run .run-all .ensures)
 
 same-length-3 : tie.Need-same-length-3
 same-length-3 c =
-    let at-run = c .before .before .before .before .before .before .before .before .before .before .before .before .before .before .before .before in
+    let at-run = c .before .before .before .before .before .before .before .before .before .before .before .before .before .before in
     ap length (c .before .before .before .fill-report .ensures) ∙ sym (at-run .before .before .before .before .before .before .before .before .pre .1)
 
 returns : tie.Need-returns
 returns c =
-    let at-run = c .before .before .before .before .before .before .before .before .before .before .before .before .before .before .before .before in
+    let at-run = c .before .before .before .before .before .before .before .before .before .before .before .before .before .before in
     let a = at-run .before .before .before .before .before .before .before .before .args in
     let on = given (a .mode) (a .rule) in
     let l = now (a .state) in
@@ -69,10 +69,10 @@ returns c =
     subst (λ (k : Card). Ran on (runOf k input (length replies)) o input replies left) (ap₂ (cardWith on) (held .0) (held .1)) (r .ensures) in
     called (length l) (runOf (cardIn on l) input (length replies)) (o .refusal) (cardUnder on (o .card)) (o .place .taken) (o .place .written) input replies
     left _ _
-    ran (c .before .before .before .before .before .before .before .before .before .before .put-card .ensures) (c .before .before .before .fill-report .ensures)
+    ran (c .before .before .before .before .before .before .before .before .put-card .ensures) (c .before .before .before .fill-report .ensures)
 
 pub run-good-spec : {M : Type 1} → statement M
 run-good-spec =
     tie.close
-    (tie.spec card-in-requires run-all-requires put-card-requires cast-fill-report (λ c. search needs) (λ c. search needs) fill-report-requires
+    (tie.spec card-in-requires run-all-requires put-card-requires cast-fill-report fill-report-requires
     (λ c. search needs) (λ c. search needs) same-length-2 same-length-3 returns)

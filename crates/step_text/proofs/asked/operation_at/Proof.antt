@@ -1,95 +1,30 @@
--- `step_text::asked::operation_at` is its definition, by the same tests. Assumes nothing.
-use borrow.Author.Tests.{eq-eqb, ne-eqb}
+-- `step_text::asked::operation_at` is its definition: at each arm the code is that of an operation. Assumes nothing.
+use borrow.Author.Tests.{ne-eqb}
 use Rattle.step_text.specs.Asked.{operationAt}
 use Rattle.step_text.proofs.asked.operation_at.Statement.{statement}
 use Rattle.step_text.proofs.asked.operation_at.Tie as tie
 
-returns : tie.Need-returns
-unfolding operationAt
-returns c = rw (eq-eqb _ _ (c .if1 .taken))
-
-returns-2 : tie.Need-returns-2
-unfolding operationAt
-returns-2 c = rw (ne-eqb _ _ (c .before .if1 .left), eq-eqb _ _ (c .if2 .taken))
-
-returns-3 : tie.Need-returns-3
-unfolding operationAt
-returns-3 c = rw (ne-eqb _ _ (c .before .before .if1 .left), ne-eqb _ _ (c .before .if2 .left), eq-eqb _ _ (c .if3 .taken))
-
-returns-4 : tie.Need-returns-4
-unfolding operationAt
-returns-4 c = rw (
-  ne-eqb _ _ (c .before .before .before .if1 .left),
-  ne-eqb _ _ (c .before .before .if2 .left),
-  ne-eqb _ _ (c .before .if3 .left),
-  eq-eqb _ _
-      (c .if4 .taken),
-)
-
-returns-5 : tie.Need-returns-5
-unfolding operationAt
-returns-5 c = rw (
-  ne-eqb _ _ (c .before .before .before .before .if1 .left),
-  ne-eqb _ _ (c .before .before .before .if2 .left),
-  ne-eqb _ _
-      (c .before .before .if3 .left),
-  ne-eqb _ _ (c .before .if4 .left),
-  eq-eqb _ _ (c .if5 .taken),
-)
-
-returns-6 : tie.Need-returns-6
-unfolding operationAt
-returns-6 c = rw (
-  ne-eqb _ _ (c .before .before .before .before .before .if1 .left),
-  ne-eqb _ _ (c .before .before .before .before .if2 .left),
-  ne-eqb _ _
-      (c .before .before .before .if3 .left),
-  ne-eqb _ _ (c .before .before .if4 .left),
-  ne-eqb _ _ (c .before .if5 .left),
-  eq-eqb _ _ (c .if6 .taken),
-)
-
-returns-7 : tie.Need-returns-7
-unfolding operationAt
-returns-7 c = rw (
-  ne-eqb _ _ (c .before .before .before .before .before .before .if1 .left),
-  ne-eqb _ _ (c .before .before .before .before .before .if2 .left),
-  ne-eqb _ _ (c .before .before .before .before .if3 .left),
-  ne-eqb _ _ (c .before .before .before .if4 .left),
-  ne-eqb _ _ (c .before .before .if5 .left),
-  ne-eqb _ _ (c .before .if6 .left),
-  eq-eqb _ _ (c .if7 .taken),
-)
-
-returns-8 : tie.Need-returns-8
-unfolding operationAt
-returns-8 c = rw (
-  ne-eqb _ _ (c .before .before .before .before .before .before .before .if1 .left),
-  ne-eqb _ _ (c .before .before .before .before .before
-      .before .if2 .left),
-  ne-eqb _ _ (c .before .before .before .before .before .if3 .left),
-  ne-eqb _ _ (c .before .before .before .before .if4 .left),
-  ne-eqb _
-      _ (c .before .before .before .if5 .left),
-  ne-eqb _ _ (c .before .before .if6 .left),
-  ne-eqb _ _ (c .before .if7 .left),
-  eq-eqb _ _ (c .if8 .taken),
-)
-
+-- none of the eight
 returns-9 : tie.Need-returns-9
 unfolding operationAt
-returns-9 c = rw (
-  ne-eqb _ _ (c .before .before .before .before .before .before .before .if1 .left),
-  ne-eqb _ _ (c .before .before .before .before .before
-      .before .if2 .left),
-  ne-eqb _ _ (c .before .before .before .before .before .if3 .left),
-  ne-eqb _ _ (c .before .before .before .before .if4 .left),
-  ne-eqb _
-      _ (c .before .before .before .if5 .left),
-  ne-eqb _ _ (c .before .before .if6 .left),
-  ne-eqb _ _ (c .before .if7 .left),
-  ne-eqb _ _ (c .if8 .left),
-)
+returns-9 c =
+    let k = c .before .args .code in
+    let r = c .match .rest in
+    let s = r .0 .0 .0 .0 in
+    rw (
+      ne-eqb k 0x6E (s .0 .0 .0 .1),
+      ne-eqb k 0x76 (s .0 .0 .1),
+      ne-eqb k 0x6F (s .0 .1),
+      ne-eqb k 0x2E (s .1),
+      ne-eqb k 0x36 (r .0 .0 .0 .1),
+      ne-eqb k 0x2F (r .0 .0 .1),
+      ne-eqb k 0x12 (r .0 .1),
+      ne-eqb k 0x13 (r .1),
+    )
 
 pub operation-at-spec : {M : Type 1} → statement M
-operation-at-spec = tie.close (tie.spec returns returns-2 returns-3 returns-4 returns-5 returns-6 returns-7 returns-8 returns-9)
+unfolding operationAt
+operation-at-spec =
+    tie.close
+    (tie.spec (λ c. rw (c .match .keys1)) (λ c. rw (c .match .keys2)) (λ c. rw (c .match .keys3)) (λ c. rw (c .match .keys4))
+    (λ c. rw (c .match .keys5)) (λ c. rw (c .match .keys6)) (λ c. rw (c .match .keys7)) (λ c. rw (c .match .keys8)) returns-9)

@@ -6,10 +6,10 @@ use Rattle.step_text.proofs.asked.operation_in.Statement.{statement}
 use Rattle.step_text.proofs.asked.operation_in.Tie as tie
 
 returns : tie.Need-returns
-returns c = let r = c .before .before in c .operation-at .ensures ∙ ap operationIn (sym (r .read .given .1) ∙ r .before .before .read-hex .ensures .0)
+returns c = let r = c .before .before in c .operation-at .ensures ∙ ap operationIn (sym (r .read .given .1) ∙ r .before .before .read-digits .ensures .0)
 
 returns-2 : tie.Need-returns-2
-returns-2 c = ap operationIn (sym (c .enum-told .given .1) ∙ c .before .before .read-hex .ensures .0)
+returns-2 c = ap operationIn (sym (c .enum-told .given .1) ∙ c .before .before .read-digits .ensures .0)
 
 pub operation-in-spec : {M : Type 1} → statement M
 operation-in-spec =

@@ -2,8 +2,9 @@
 use borrow.Author.Needs.{needs}
 use denote.Ref.{now}
 use borrow.Author.Tests.{eq-eqb, ne-eqb}
-use Rattle.step_text.specs.Asked.{ruleFor, nearestText}
-use Rattle.step_text.proofs.Reading.{is-same, is-other}
+use Rattle.listing.specs.Options.{nearestText}
+use Rattle.step_text.specs.Asked.{ruleFor}
+use Rattle.listing.proofs.Texts.{is-same, is-other}
 use Rattle.step_text.proofs.asked.rule_for.Statement.{statement}
 use Rattle.step_text.proofs.asked.rule_for.Tie as tie
 

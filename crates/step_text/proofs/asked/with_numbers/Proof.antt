@@ -1,7 +1,8 @@
 -- `step_text::asked::with_numbers` is its definition, by what was read. Assumes nothing.
 use mathlib.Core.Path.{sym, ap₂, subst}
 use borrow.Author.Needs.{needs}
-use Rattle.step_text.specs.Asked.{withNumbers, Below}
+use Rattle.listing.specs.Hex.{Below}
+use Rattle.step_text.specs.Asked.{withNumbers}
 use Rattle.step_text.proofs.asked.with_numbers.Statement.{statement}
 use Rattle.step_text.proofs.asked.with_numbers.Tie as tie
 
@@ -21,11 +22,5 @@ returns c =
 pub with-numbers-spec : {M : Type 1} → statement M
 with-numbers-spec =
     tie.close
-    (tie.spec
-    (λ c. search needs)
-    (λ c. search needs)
-    (λ c. search needs)
-    (λ c. search needs)
-    returns
-    (λ c. search needs)
-    (λ c. search needs))
+    (tie.spec (λ c. search needs) (λ c. search needs) (λ c. search needs) (λ c. search needs) returns
+    (λ c. search needs) (λ c. search needs))

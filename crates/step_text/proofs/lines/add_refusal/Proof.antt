@@ -3,9 +3,8 @@ use mathlib.Core.Path.{ap}
 use native.Mathlib.Omega.{arith}
 use borrow.Author.Needs.{needs}
 use Rattle.listing.specs.Listing.{field}
-use Rattle.listing.proofs.Adding.{both}
+use Rattle.listing.proofs.Adding.{both, told-as}
 use Rattle.listing.proofs.Decimal.{at-most}
-use Rattle.step_text.proofs.Hex.{told-as}
 use Rattle.step_text.proofs.lines.add_refusal.Statement.{statement}
 use Rattle.step_text.proofs.lines.add_refusal.Tie as tie
 
@@ -18,13 +17,7 @@ returns c =
 pub add-refusal-spec : {M : Type 1} → statement M
 add-refusal-spec =
     tie.close
-    (tie.spec
-    (λ c. search needs)
-    (λ c κs. search needs)
-    (λ c κs. search needs)
-    (λ c. search needs)
-    (λ c κs. omega (arith, at-most 20 (c .number .result)))
-    (λ c. search needs)
-    (λ c κs. omega (arith, at-most 20 (c .before .before .before .before .before .number .result)))
-    (λ c. search needs)
+    (tie.spec (λ c. search needs) (λ c κs. search needs) (λ c κs. search needs) (λ c. search needs)
+    (λ c κs. omega (arith, at-most 20 (c .number .result))) (λ c. search needs)
+    (λ c κs. omega (arith, at-most 20 (c .before .before .before .before .before .number .result))) (λ c. search needs)
     returns)

@@ -3,7 +3,7 @@ use native.Mathlib.Omega.{arith}
 use borrow.Author.Needs.{needs}
 use Rattle.listing.proofs.Adding.{both}
 use Rattle.listing.proofs.Decimal.{at-most}
-use Rattle.step_text.proofs.Hex.{hex-length}
+use Rattle.listing.proofs.Digits.{digits-length}
 use Rattle.step_text.proofs.lines.add_step.Statement.{statement}
 use Rattle.step_text.proofs.lines.add_step.Tie as tie
 
@@ -14,8 +14,8 @@ returns c =
     let f = s .before .before .before .before .before in
     let d = f .before .before .before .before in
     let a = d .before .before .before .args in (
-      both (d .add-decimal .ensures) (both (f .add-field .ensures) (both (s .add .ensures) (both (h .add-hex .ensures) (c .before .before .add2 .ensures)))),
-      omega (arith, at-most 20 (a .number), at-most 20 (a .left), hex-length 16 (a .partial)),
+      both (d .add-decimal .ensures) (both (f .add-field .ensures) (both (s .add .ensures) (both (h .add-digits .ensures) (c .before .before .add2 .ensures)))),
+      omega (arith, at-most 20 (a .number), at-most 20 (a .left), digits-length 16 16 (a .partial)),
     )
 
 pub add-step-spec : {M : Type 1} → statement M
@@ -30,11 +30,25 @@ add-step-spec =
     omega (arith, at-most 20 (a .number), at-most 20 (a .left)))
     (λ c κs.
     let a = c .before .before .before .before .before .before .before .before .before .before .before .before .before .before .before .args in
-    omega (arith, at-most 20 (a .number), at-most 20 (a .left)))
+    (omega arith, omega arith, omega (arith, at-most 20 (a .number), at-most 20 (a .left))))
     (λ c. search needs)
     (λ c κs.
     let h = c .before .before .before .before in
-    let a = h .before .before .before .before .before .before .before .before .before .before .before .before .before .before .before .before .args in
-    omega (arith, at-most 20 (a .number), at-most 20 (a .left), hex-length 16 (a .partial)))
+    let s = h .before .before .before .before in
+    let f = s .before .before .before .before .before in
+    let d = f .before .before .before .before in
+    let start = d .before .before .before in
+    let a = start .args in
+    omega (
+      arith,
+      start .pre,
+      d .add-decimal .ensures .moved,
+      f .add-field .ensures .moved,
+      s .add .ensures .moved,
+      h .add-digits .ensures .moved,
+      at-most 20 (a .number),
+      at-most 20 (a .left),
+      digits-length 16 16 (a .partial),
+    ))
     (λ c. search needs)
     returns)

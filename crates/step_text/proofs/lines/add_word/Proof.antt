@@ -3,10 +3,10 @@ use mathlib.Core.Path.{ap}
 use Prim.Native.Nat.{ℕ, _*_}
 use native.Mathlib.Omega.{arith}
 use borrow.Author.Needs.{needs}
-use Rattle.listing.proofs.Adding.{both}
+use Rattle.listing.proofs.Adding.{both, told-as}
 use Rattle.listing.proofs.Decimal.{at-most}
-use Rattle.step_text.specs.Lines.{hexOf}
-use Rattle.step_text.proofs.Hex.{hex-length, told-as}
+use Rattle.listing.specs.Hex.{digitsTo}
+use Rattle.listing.proofs.Digits.{digits-length}
 use Rattle.step_text.proofs.lines.add_word.Statement.{statement}
 use Rattle.step_text.proofs.lines.add_word.Tie as tie
 
@@ -19,7 +19,7 @@ returns c =
     let z = h .before in
     let w = z .before .before .before .before in
     let word = w .before .before .before .before .args .word in
-    both (w .add .ensures) (both (told-as (ap (λ (n : ℕ). hexOf (2 * n) word) (z .size .ensures .0)) (h .add-hex .ensures))
+    both (w .add .ensures) (both (told-as (ap (λ (n : ℕ). digitsTo 16 (2 * n) word) (z .size .ensures .0)) (h .add-digits .ensures))
     (both (e .add2 .ensures) (both (f .add-field .ensures) (s .add-status .ensures))))
 
 pub add-word-spec : {M : Type 1} → statement M
@@ -34,14 +34,14 @@ add-word-spec =
     (λ c. search needs)
     (λ c κs.
     let z = c .before .before .before .before .before in
-    omega (arith, hex-length (2 * z .size .result) (z .before .before .before .before .before .before .before .before .args .word)))
+    omega (arith, digits-length 16 (2 * z .size .result) (z .before .before .before .before .before .before .before .before .args .word)))
     (λ c κs.
     let z = c .before .before .before .before .before .before .before .before .before in
     let a = z .before .before .before .before .before .before .before .before .args in
-    omega (arith, hex-length (2 * z .size .result) (a .word), at-most 20 (a .error)))
+    omega (arith, digits-length 16 (2 * z .size .result) (a .word), at-most 20 (a .error)))
     (λ c κs.
     let z = c .before .before .before .before .before .before .before .before .before .before .before .before .before in
     let a = z .before .before .before .before .before .before .before .before .args in
-    omega (arith, hex-length (2 * z .size .result) (a .word), at-most 20 (a .error)))
+    omega (arith, digits-length 16 (2 * z .size .result) (a .word), at-most 20 (a .error)))
     (λ c. search needs)
     returns)

@@ -48,19 +48,6 @@ returns-2 c = let l = c .before .before .before .before .bits in ends (product-n
 pub add-product-spec : {M : Type 1} → statement M
 add-product-spec =
     tie.close
-    (tie.spec
-    Inv-bits
-    μ-bits
-    (λ c κs. tt)
-    bits-holds
-    added-requires
-    (λ c. search needs)
-    (λ c κs. tt)
-    (λ c. search needs)
-    add-step-requires
-    bits-less
-    bits-again
-    (λ c. c .before .before .bits .inv .lines .same)
-    returns
-    (λ c. c .before .before .before .before .bits .inv .lines .same)
-    returns-2)
+    (tie.spec Inv-bits μ-bits (λ c κs. tt) bits-holds added-requires (λ c. search needs) (λ c κs. tt)
+    (λ c. search needs) add-step-requires bits-less bits-again (λ c. c .before .before .bits .inv .lines .same) returns
+    (λ c. c .before .before .before .before .bits .inv .lines .same) returns-2)

@@ -54,19 +54,6 @@ returns-2 c = let l = c .before .before .before .before .bits in ends (quotient-
 pub add-quotient-spec : {M : Type 1} → statement M
 add-quotient-spec =
     tie.close
-    (tie.spec
-    Inv-bits
-    μ-bits
-    (λ c κs. tt)
-    bits-holds
-    subtracted-requires
-    sub-add-step
-    (λ c. search needs)
-    (λ c. search needs)
-    add-step-requires
-    bits-less
-    bits-again
-    (λ c. c .before .before .bits .inv .lines .same)
-    returns
-    (λ c. c .before .before .before .before .bits .inv .lines .same)
-    returns-2)
+    (tie.spec Inv-bits μ-bits (λ c κs. tt) bits-holds subtracted-requires sub-add-step (λ c. search needs)
+    (λ c. search needs) add-step-requires bits-less bits-again (λ c. c .before .before .bits .inv .lines .same) returns
+    (λ c. c .before .before .before .before .bits .inv .lines .same) returns-2)

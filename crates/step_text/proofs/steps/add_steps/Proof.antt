@@ -4,9 +4,8 @@ use native.Mathlib.Omega.{arith}
 use denote.Ref.{now}
 use borrow.Author.Needs.{needs}
 use Rattle.bit_serial.specs.Work.{Narrow}
-use Rattle.listing.proofs.Adding.{nothing}
+use Rattle.listing.proofs.Adding.{nothing, told-as}
 use Rattle.step_text.specs.Steps.{stepLines}
-use Rattle.step_text.proofs.Hex.{told-as}
 use Rattle.step_text.proofs.steps.add_steps.Statement.{statement}
 use Rattle.step_text.proofs.steps.add_steps.Tie as tie
 
@@ -38,14 +37,5 @@ returns-3 c =
 pub add-steps-spec : {M : Type 1} → statement M
 add-steps-spec =
     tie.close
-    (tie.spec
-    (λ c. search needs)
-    (λ c. search needs)
-    add-product-requires
-    (λ c. search needs)
-    add-quotient-requires
-    returns
-    (λ c. search needs)
-    returns-2
-    (λ c. search needs)
-    returns-3)
+    (tie.spec (λ c. search needs) (λ c. search needs) add-product-requires (λ c. search needs) add-quotient-requires
+    returns (λ c. search needs) returns-2 (λ c. search needs) returns-3)

@@ -1,0 +1,2 @@
+-- FMUL and FDIV, as the program forms them.
+pub mod ProductCut

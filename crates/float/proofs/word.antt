@@ -1,0 +1,2 @@
+-- Which words are proper.
+pub mod Proper

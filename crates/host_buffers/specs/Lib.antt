@@ -1,2 +1,0 @@
--- The book of buffers of chip words and of f64s.
-pub mod Buffers

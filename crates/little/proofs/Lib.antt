@@ -1,3 +1,0 @@
--- The laws of numbers as bytes.
-pub mod Laid
-pub mod Exact

@@ -1,2 +1,0 @@
--- The book of numbers as bytes.
-pub mod Little

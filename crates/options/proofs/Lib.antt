@@ -1,2 +1,0 @@
--- When a text is an option.
-pub mod Texts

@@ -1,4 +1,0 @@
--- Laws of records in words.
-pub mod Same
-pub mod Tables
-pub mod Telling

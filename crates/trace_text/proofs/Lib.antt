@@ -1,2 +1,0 @@
--- The laws that the proofs of the trace cite, and an example.
-pub mod Tracing

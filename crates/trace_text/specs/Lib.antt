@@ -1,2 +1,0 @@
--- What the trace program prints for an input.
-pub mod Trace

@@ -1,2 +1,0 @@
--- Whole numbers with a sign.
-pub mod Signed

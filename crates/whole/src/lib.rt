@@ -1,1 +1,0 @@
-// Whole numbers with a sign, as the definitions and the proofs of the arithmetic use them. No function.
