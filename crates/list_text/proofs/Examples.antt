@@ -9,8 +9,6 @@ use Rattle.chip.specs.Commands.{keepsA}
 use Rattle.chip.specs.Step.{pushOf, popOf, readOf, carried, commandUnder}
 use Rattle.record_files.specs.Run.{run, runBy}
 use Rattle.record_runs.specs.Record.{frameUnder, turnUnder}
-use Rattle.state_bytes.specs.Bytes.{isState}
-use Rattle.state_bytes.specs.Calls.{callOf}
 use Rattle.listing.specs.Text.{spelled}
 use Rattle.listing.specs.Listing.{hasReply, linesUpTo}
 use Rattle.listing.proofs.Examples.{exampleText}
@@ -22,5 +20,5 @@ exampleInput =
     6 ∷ 0 ∷ 1 ∷ 0 ∷ 3 ∷ 0 ∷ 5 ∷ 0 ∷ 3 ∷ 0 ∷ 3 ∷ 0 ∷ 108 ∷ 3 ∷ 0 ∷ 2 ∷ 0 ∷ 2 ∷ 2 ∷ 0 ∷ 4 ∷ 0 ∷ []
 
 pub example-printed : printoutOf exampleInput ≡ exampleText
-unfolding decoded low add statusOf keepsA pushOf popOf readOf carried commandUnder frameUnder turnUnder run runBy isState callOf spelled hasReply linesUpTo
+unfolding decoded low add statusOf keepsA pushOf popOf readOf carried commandUnder frameUnder turnUnder run runBy spelled hasReply linesUpTo
 example-printed = refl

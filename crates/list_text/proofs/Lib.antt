@@ -1,4 +1,3 @@
--- The laws that the proofs of listing and trace cite, and 01's example.
+-- The laws that the proofs of the listing cite, and 01's example.
 pub mod Printing
-pub mod Tracing
 pub mod Examples

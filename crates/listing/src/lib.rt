@@ -6,11 +6,11 @@ pub mod options;
 pub mod text;
 
 ghost use mathlib.Core.Path.{_≡_};
-ghost use Prim.Native.Nat.{_+_, _*_, _-_, _≤_, _<_, min};
+ghost use Prim.Native.Nat.{_+_, _*_, _-_, _≤_, _<_};
 ghost use lib.ListN.{length};
 ghost use Rattle.listing.specs.Text.{Adds};
 ghost use Rattle.listing.specs.Listing.{replyRoom, textRoom, field, dataText, endOf, wholeSize, kindFrom};
-ghost use Rattle.listing.specs.Listing.{Front, replyLine, linesOf, printedOf};
+ghost use Rattle.listing.specs.Listing.{Front, replyLine, linesOf, listingOf};
 use crate::text::add;
 use crate::text::add_decimal;
 use crate::text::add_hex;
@@ -121,24 +121,12 @@ fn add_lines(out: &mut [u8], replies: &[u8]) -> usize
     place
 }
 
-// The lesser of two numbers.
-fn lesser(a: usize, b: usize) -> usize
-    ensures { λ r. ⌜ (r ≡ min a b) × (r ≤ b) ⌝ }
-{
-    if a < b { a } else { b }
-}
-
-// What is printed for a run that left these replies and this report, added at the front of a longer text.
-// Of the replies it lists those that the report counts as written.
-pub fn add_printed(out: &mut [u8], replies: &[u8; REPLY_ROOM], report: &[u8; 9]) -> usize
-    requires { ⌜ textRoom ≤ length (now out) ⌝ }
-    ensures { λ r. ⌜ Adds (printedOf (now (replies .entry)) (now (report .entry))) (now (out .entry)) (now (out .exit))
-        0 r ⌝ }
+// What is printed of a run: a line for each of its replies, and the last line, added at the front of a longer text.
+pub fn add_listing(out: &mut [u8], replies: &[u8], refusal: u8, taken: u32) -> usize
+    requires { ⌜ (length (now replies) ≤ replyRoom) × (textRoom ≤ length (now out)) ⌝ }
+    ensures { λ r. ⌜ Adds (listingOf (now (replies .entry)) refusal taken) (now (out .entry)) (now (out .exit)) 0 r ⌝ }
     ensures { λ r. ⌜ r ≤ textRoom ⌝ }
 {
-    let written = four_at(report, 5);
-    let n = lesser(written as usize, REPLY_ROOM);
-    let all: &[u8] = replies;
-    let place = add_lines(out, &all[..n]);
-    add_end(out, place, report[0], four_at(report, 1))
+    let place = add_lines(out, replies);
+    add_end(out, place, refusal, taken)
 }

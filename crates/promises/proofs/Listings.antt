@@ -6,9 +6,9 @@ use mathlib.Core.List.{List, [], _∷_, _++_}
 use Prim.Native.Nat.{ℕ, zero, suc, _+_, _*_, _-_, _/_, _%_, _^_, _≤_, _<_}
 use native.Mathlib.Nat.{div-lt-iff-lt-mul, div-add-mod', mod-lt, pow-suc}
 use native.Mathlib.Omega.{arith}
-use borrow.Author.Tests.{eqb-true, ltb-true, ltb-false, lt-ltb}
+use borrow.Author.Tests.{eqb-true, ltb-true, ltb-false, lt-ltb, le-ltb}
 use lib.Dec.{eqb, ltb, lit<, lit≤}
-use lib.ListN.{length, take, drop, getD, replicate, length-replicate}
+use lib.ListN.{length, take, drop, getD}
 use lib.Seq.{take-append-seam}
 use Rattle.terms.specs.Refusal.{numberOf}
 use Rattle.error_memory.specs.Memory.{Card}
@@ -16,31 +16,25 @@ use Rattle.record_runs.specs.Record.{Event}
 use Rattle.record_runs.specs.Record.{Push, Pop, Command, Status, Reset, Acknowledge, Recall, Forget}
 use Rattle.record_runs.specs.Record.{wordAt, kindOf, answerOf, dataOf, replyOf}
 use Rattle.record_runs.specs.Run.{Outcome, runOf}
-use Rattle.record_files.proofs.Through.{tally}
-use Rattle.state_bytes.specs.Bytes.{isState}
-use Rattle.state_bytes.specs.Calls.{Called, ranOf}
-use Rattle.state_bytes.proofs.Calling.{too-long, good}
 use Rattle.listing.specs.Text.{spelled as their-spelled, decimal as their-decimal}
 use Rattle.promises.specs.PrintedText.{digit, spelled, decimal}
 use Rattle.promises.proofs.PrintedText.{decimal-is}
-use Rattle.listing.specs.Listing.{dataText, lineOf, endOf, replyKind, replyRefusal, replySize, replyData, linesUpTo, hasReply, linesOf, listingOf, printedOf}
+use Rattle.listing.specs.Listing.{dataText, lineOf, endOf, replyKind, replyRefusal, replySize, replyData, linesUpTo, hasReply, linesOf}
 use Rattle.numbers.proofs.Exact.{two-bytes}
 use Rattle.listing.proofs.Listed.{reply-listed, core-kind}
 use Rattle.listing.specs.declared.options.Asked.{Asked}
 use Rattle.listing.specs.declared.options.Asked.the-variants.{Under, Nothing}
 use Rattle.listing.specs.Options.{sameText, am9511Text, nearestText, askedOf, textFor}
 use Rattle.listing.proofs.Texts.{same-is}
-use Rattle.list_text.specs.Trace.{traceOf}
-use Rattle.list_text.specs.Printout.{callUnder, printoutUnder, traceText, isTrace, toldOf}
+use Rattle.list_text.specs.Printout.{printoutUnder, toldOf}
+use Rattle.record_text.specs.Trace.{traceOf}
 use Rattle.promises.proofs.RecordFiles.{theirs-record}
 use Rattle.promises.specs.Records.{joined, EachTaken, repliesOf, total, lengths}
 use Rattle.promises.specs.PrintedText.{written}
-use Rattle.promises.specs.Given.{Given, Chosen}
+use Rattle.promises.specs.Given.{Given}
 use Rattle.promises.specs.Listings.{valueOf, Digits, Decimal, hexText, recordLine, linesFor, lastLine}
 use Rattle.promises.specs.Listings.{Asks, neither, older, nearest, both, resetCard, Listings}
 use Rattle.promises.proofs.Records.{record-run}
-use Rattle.numbers.proofs.Exact.{le4-exact}
-use Rattle.record_runs.proofs.Prefix.{lawful}
 
 -- ---- the lines of the records
 data-same : (bytes : List ℕ) → dataText bytes ≡ hexText bytes
@@ -85,47 +79,19 @@ lines-are (r ∷ rs) s room number h =
 last-is : (refusal taken : ℕ) → endOf refusal taken ≡ lastLine refusal taken
 last-is refusal taken = ap₂ (λ (t u : List ℕ). 101 ∷ 110 ∷ 100 ∷ ((32 ∷ t) ++ ((32 ∷ u) ++ (10 ∷ [])))) (decimal-is refusal) (decimal-is taken)
 
--- ---- the call, and what is printed of it
-count-back : (n : ℕ) → n < 4294967296 → n % 256 + n / 256 % 256 * 256 + n / 65536 % 256 * 65536 + n / 16777216 % 256 * 16777216 ≡ n
-count-back n h = omega (arith, le4-exact n h)
-
-resetCard-good : isState (replicate 19 0) ≡ true
-unfolding isState
-resetCard-good = refl
-
-module _ (g : Given) (C : Chosen g) (input : List ℕ) where
+-- ---- what is printed of a run
+module _ (g : Given) (input : List ℕ) where
   abbrev run : Outcome
   run = runOf (resetCard g) input 65536
 
-  call-is : length input ≤ 12288 → callUnder (g .mode) (g .rule) input ≡ ranOf 19 run (replicate 65536 0)
-  call-is h =
-      good (g .mode) (g .rule) (replicate 19 0) input (replicate 65536 0) (replicate 9 0) refl (C .mode) (C .rule) resetCard-good h
-      ∙ ap (λ (n : ℕ). ranOf 19 (runOf (resetCard g) input n) (replicate 65536 0)) (length-replicate {A = ℕ} 65536 0)
-
   text-is : length input ≤ 12288 → printoutUnder (g .mode) (g .rule) input ≡ linesOf 1 (run .written) ++ endOf (run .refusal) (run .taken)
-  text-is h =
-      let t = tally lawful (resetCard g) input 65536 in
-      let i = t .in-file in
-      let f = t .few in
-      let w = run .written in
-      ap (λ (c : Called). printedOf (c .replies) (c .report)) (call-is h)
-      ∙ ap₂ (λ (m n : ℕ). listingOf (take m (w ++ drop (length w) (replicate 65536 0))) (run .refusal) n)
-      (count-back (length w) (omega arith)) (count-back (run .taken) (omega arith))
-      ∙ ap (λ (l : List ℕ). listingOf l (run .refusal) (run .taken)) (take-append-seam w (drop (length w) (replicate 65536 0)))
+  text-is h = rw (le-ltb 12288 (length input) h)
 
   long-is : 12288 < length input → printoutUnder (g .mode) (g .rule) input ≡ written "end 9 0" ++ (10 ∷ [])
   unfolding linesUpTo hasReply their-spelled
-  long-is h =
-      ap (λ (c : Called). printedOf (c .replies) (c .report))
-      (too-long (g .mode) (g .rule) (replicate 19 0) input (replicate 65536 0) (replicate 9 0) refl (C .mode) (C .rule) resetCard-good h)
+  long-is h = rw (lt-ltb 12288 (length input) h)
 
 -- ---- what a call asks for
-chosen : {words : ℕ} {first second : List ℕ} {g : Given} → Asks words first second g → Chosen g
-chosen (neither e) = record { mode = lit≤ tt; rule = lit≤ tt }
-chosen (older e f) = record { mode = lit≤ tt; rule = lit≤ tt }
-chosen (nearest e f) = record { mode = lit≤ tt; rule = lit≤ tt }
-chosen (both e f s) = record { mode = lit≤ tt; rule = lit≤ tt }
-
 asked : {words : ℕ} {first second : List ℕ} {g : Given} → Asks words first second g → askedOf words first second ≡ Under (g .mode) (g .rule)
 unfolding askedOf sameText
 asked (neither e) = rw e
@@ -133,30 +99,9 @@ asked (older e f) = rw (e, f)
 asked (nearest e f) = rw (e, f)
 asked (both e f s) = rw (e, f, s)
 
--- none of them is `--trace`, and behind it they ask for the same
-no-trace : {words : ℕ} {first second : List ℕ} {g : Given} → Asks words first second g → isTrace words first ≡ false
-unfolding isTrace sameText
-no-trace (neither e) = rw e
-no-trace (older e f) = rw (e, f)
-no-trace (nearest e f) = rw (e, f)
-no-trace (both e f s) = rw (e, f)
-
-told-is : {words : ℕ} {first second : List ℕ} {g : Given} → (third input : List ℕ) → Asks words first second g
-    → toldOf words first second third input ≡ printoutUnder (g .mode) (g .rule) input
-told-is third input A = rw (no-trace A) (ap (λ (a : Asked). textFor printoutUnder a input) (asked A))
-
-is-trace : {words : ℕ} {first second : List ℕ} {g : Given} → Asks words first second g → isTrace (words + 1) traceText ≡ true
-unfolding isTrace sameText
-is-trace (neither e) = rw e
-is-trace (older e f) = rw e
-is-trace (nearest e f) = rw e
-is-trace (both e f s) = rw e
-
-traced-is : {words : ℕ} {first second : List ℕ} {g : Given} → (input : List ℕ) → Asks words first second g
-    → toldOf (words + 1) traceText first second input ≡ traceOf (g .mode) (g .rule) input
-traced-is {words} input A =
-    let n : words + 1 - 1 ≡ words = omega arith in
-    rw (is-trace A, n) (ap (λ (a : Asked). textFor traceOf a input) (asked A))
+told-is : {words : ℕ} {first second : List ℕ} {g : Given} → (under : ℕ → ℕ → List ℕ → List ℕ) (input : List ℕ) → Asks words first second g
+    → textFor under (askedOf words first second) input ≡ under (g .mode) (g .rule) input
+told-is under input A = ap (λ (a : Asked). textFor under a input) (asked A)
 
 usage-is : (words : ℕ) (first second : List ℕ) → ((g : Given) → Asks words first second g → ⊥) → askedOf words first second ≡ Nothing
 unfolding askedOf
@@ -175,23 +120,6 @@ usage-is words first second h =
     by false e false f true i true j q k false l = refl
     by false e false f true i false j q k r l = refl
     by false e false f false i p j q k r l = refl
-
--- a call that is none of these, with `--trace` before them or not
-other-is : (words : ℕ) (first second third input : List ℕ) → ((g : Given) → Asks words first second g → ⊥)
-    → ((n : ℕ) (g : Given) → words ≡ n + 1 → first ≡ traceText → Asks n second third g → ⊥)
-    → toldOf words first second third input ≡ written "usage" ++ (10 ∷ [])
-unfolding isTrace
-other-is words first second third input h k = by (ltb words 2) refl (sameText first traceText) refl
-  where
-    by : (a : Bool) → ltb words 2 ≡ a → (b : Bool) → sameText first traceText ≡ b
-        → cond (cond a false b) (textFor traceOf (askedOf (words - 1) second third) input) (textFor printoutUnder (askedOf words first second) input)
-        ≡ written "usage" ++ (10 ∷ [])
-    by true e b f = ap (λ (a : Asked). textFor printoutUnder a input) (usage-is words first second h)
-    by false e false f = ap (λ (a : Asked). textFor printoutUnder a input) (usage-is words first second h)
-    by false e true f =
-        let two = ltb-false words 2 e in
-        ap (λ (a : Asked). textFor traceOf a input)
-        (usage-is (words - 1) second third (λ g. k (words - 1) g (omega arith) (same-is first traceText f)))
 
 -- ---- characters
 value-snoc : (n : ℕ) (l : List ℕ) (c : ℕ) → valueOf n (l ++ (c ∷ [])) ≡ valueOf n l * 10 + (c - 48)
@@ -249,15 +177,15 @@ read-back kind refusal bytes rest h =
 
 pub listings : Listings
 listings = record {
-  printed = λ words first second third input g A h p.
+  printed = λ words first second input g A h p.
       let r = runOf (resetCard g) input 65536 in
-      told-is third input A
-      ∙ text-is g (chosen A) input h
+      told-is printoutUnder input A
+      ∙ text-is g input h
       ∙ ap₂ (λ (l : List ℕ) (n : ℕ). linesOf 1 l ++ endOf (r .refusal) n) (p .replies) (p .taken)
       ∙ ap₂ (λ (l m : List ℕ). l ++ m) (lines-are (p .records) (resetCard g) 65536 1 (p .each)) (last-is (r .refusal) (total (lengths (p .records))));
-  long = λ words first second third input g A h. told-is third input A ∙ long-is g (chosen A) input h;
-  traced = λ words first second input g A. traced-is input A;
-  usage = λ words first second third input h k. other-is words first second third input h k;
+  long = λ words first second input g A h. told-is printoutUnder input A ∙ long-is g input h;
+  usage = λ words first second input h. ap (λ (a : Asked). textFor printoutUnder a input) (usage-is words first second h);
+  traced = λ words first second input g A. told-is traceOf input A;
   read-back = λ kind refusal bytes rest h. read-back kind refusal bytes rest h;
   characters = record { decimals = λ n h. spells 20 n h; hex-digits = refl };
 }

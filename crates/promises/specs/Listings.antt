@@ -6,8 +6,8 @@ use mathlib.Core.Path.{_≡_}
 use mathlib.Core.List.{List, [], _∷_, _++_, map}
 use lib.ListN.{length, drop, getD}
 use Rattle.listing.specs.Listing.{replyKind, replyRefusal, replySize, replyData}
-use Rattle.list_text.specs.Trace.{traceOf}
 use Rattle.list_text.specs.Printout.{toldOf}
+use Rattle.record_text.specs.Trace.{traceOf, tracedOf}
 use Rattle.promises.specs.PrintedText.{written, digit, decimal}
 use Rattle.promises.specs.Subjects.{Card, runOf}
 use Rattle.promises.specs.BusEvents.{resetState}
@@ -86,21 +86,20 @@ pub record Listings : Type 0 where
   -- an input of at most 12,288 bytes, run from reset with 65,536 bytes of room and split into the records taken and the
   -- rest (Records: every file splits so):
   -- a line for each record taken, numbered from 1, then the last line
-  pub printed : (words : ℕ) (first second third input : List ℕ) (g : Given) → Asks words first second g
+  pub printed : (words : ℕ) (first second input : List ℕ) (g : Given) → Asks words first second g
       → length input ≤ 12288 → (split : Split (resetCard g) input 65536 (runOf (resetCard g) input 65536))
-      → toldOf words first second third input
+      → toldOf words first second input
       ≡ linesFor 1 (resetCard g) (split .records) 65536
       ++ lastLine (runOf (resetCard g) input 65536 .refusal) (total (lengths (split .records)))
   -- a longer one prints only `end 9 0`
-  pub long : (words : ℕ) (first second third input : List ℕ) (g : Given) → Asks words first second g
-      → 12288 < length input → toldOf words first second third input ≡ written "end 9 0" ++ (10 ∷ [])
-  -- with `--trace` before them the same words ask for the trace under the same mode and rule
-  pub traced : (words : ℕ) (first second input : List ℕ) (g : Given) → Asks words first second g
-      → toldOf (words + 1) (written "--trace") first second input ≡ traceOf (g .mode) (g .rule) input
+  pub long : (words : ℕ) (first second input : List ℕ) (g : Given) → Asks words first second g
+      → 12288 < length input → toldOf words first second input ≡ written "end 9 0" ++ (10 ∷ [])
   -- any other call prints `usage`
-  pub usage : (words : ℕ) (first second third input : List ℕ) → ((g : Given) → Asks words first second g → ⊥)
-      → ((n : ℕ) (g : Given) → words ≡ n + 1 → first ≡ written "--trace" → Asks n second third g → ⊥)
-      → toldOf words first second third input ≡ written "usage" ++ (10 ∷ [])
+  pub usage : (words : ℕ) (first second input : List ℕ) → ((g : Given) → Asks words first second g → ⊥)
+      → toldOf words first second input ≡ written "usage" ++ (10 ∷ [])
+  -- the same words ask for the trace under the same mode and rule
+  pub traced : (words : ℕ) (first second input : List ℕ) (g : Given) → Asks words first second g
+      → tracedOf words first second input ≡ traceOf (g .mode) (g .rule) input
   -- a reply that the run writes is the reply that the listing reads, whatever follows it; its word has no bit 15, which
   -- marks the kinds of module sheets
   pub read-back : (kind refusal : ℕ) (bytes rest : List ℕ) → kind + 128 < 32768

@@ -183,7 +183,7 @@ end-is refusal n = ap₂ (λ (x y : List ℕ). 101 ∷ 110 ∷ 100 ∷ (x ++ (y 
 
 -- the listing, of any answer whose replies are listed one by one
 listing-is : (a : Called) → listing.linesOf 1 (repliesIn (a .replies) (a .report)) ≡ replyLines 1 (recordsOf (repliesIn (a .replies) (a .report)))
-    → listing.printedOf (a .replies) (a .report) ++ Rest a ≡ textOf a
+    → printout.printedOf (a .replies) (a .report) ++ Rest a ≡ textOf a
 listing-is a e =
     ap₂ (λ (x y : List ℕ). (x ++ y) ++ Rest a) e (end-is (getD (a .report) 0 0) (fourAt (a .report) 1))
     ∙ append-assoc (replyLines 1 (recordsOf (repliesIn (a .replies) (a .report)))) (endLine (getD (a .report) 0 0) (fourAt (a .report) 1)) (Rest a)
@@ -206,5 +206,5 @@ call-listed mode rule state sheets input replies report n =
 pub sheets-text : SheetsText
 sheets-text mode rule input =
     let a = printout.callUnder mode rule input in
-    ap (λ (k : List ℕ). listing.printedOf (a .replies) (a .report) ++ k) (rest-is a)
+    ap (λ (k : List ℕ). printout.printedOf (a .replies) (a .report) ++ k) (rest-is a)
     ∙ listing-is a (call-listed mode rule (zeros 19) (zeros 1303) input (zeros 65536) (zeros 9) refl)

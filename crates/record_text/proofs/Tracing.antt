@@ -15,7 +15,7 @@ use Rattle.listing.specs.Listing.{dataText}
 use Rattle.listing.proofs.Adding.{all-added, next-added}
 use Rattle.listing.proofs.Decimal.{at-most}
 use Rattle.listing.proofs.Lines.{data-length}
-use Rattle.list_text.specs.Trace.{stateText, lineRoom, callFrom, afterText, endAt, linesFrom, linesOf, lastLine, traceOf}
+use Rattle.record_text.specs.Trace.{stateText, lineRoom, callFrom, afterText, endAt, linesFrom, linesOf, lastLine, traceOf}
 
 -- a line of a state of 21 bytes or fewer has room
 pub state-length : (number : ℕ) (state : List ℕ) → length (stateText number state) ≡ length (decimal number) + 3 * length state + 1

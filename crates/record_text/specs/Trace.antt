@@ -9,6 +9,7 @@ use Rattle.terms.specs.Limits.{longStateBytes, reportBytes, mostInput}
 use Rattle.state_bytes.specs.Calls.{Called, callOf}
 use Rattle.listing.specs.Text.{decimal}
 use Rattle.listing.specs.Listing.{newline, endWord, dataText, replyRoom}
+use Rattle.listing.specs.Options.{askedOf, textFor}
 
 -- the run of a file on the state of a reset, with its error memory, in the room that the listing program lends
 abbrev pub callFrom : ℕ → ℕ → List ℕ → Called
@@ -50,3 +51,7 @@ lastLine = endWord ++ (newline ∷ [])
 -- the trace: no record is done of an input that is too long
 abbrev pub traceOf : ℕ → ℕ → List ℕ → List ℕ
 traceOf mode rule input = cond (ltb mostInput (length input)) lastLine (linesOf mode rule input ++ lastLine)
+
+-- what is written for a call of so many words, the program's own name among them, by the listing's options
+abbrev pub tracedOf : ℕ → List ℕ → List ℕ → List ℕ → List ℕ
+tracedOf words first second input = textFor traceOf (askedOf words first second) input

@@ -1,4 +1,4 @@
--- `list_text::trace::add_lines` adds the line of one record after the other: so far they are the lines of the records passed. Assumes nothing.
+-- `record_text::trace::add_lines` adds the line of one record after the other: so far they are the lines of the records passed. Assumes nothing.
 use mathlib.Core.Path.{sym}
 use Prim.Native.Nat.{_+_, _-_}
 use native.Mathlib.Omega.{arith}
@@ -6,9 +6,9 @@ use borrow.Author.Needs.{needs}
 use denote.Ref.{now}
 use lib.ListN.{length}
 use lib.Seq.{length-take-le}
-use Rattle.list_text.proofs.Tracing.{Going, starts, ends, goes-on, none-left, cut-off, end-is}
-use Rattle.list_text.proofs.trace.add_lines.Statement.{statement}
-use Rattle.list_text.proofs.trace.add_lines.Tie as tie
+use Rattle.record_text.proofs.Tracing.{Going, starts, ends, goes-on, none-left, cut-off, end-is}
+use Rattle.record_text.proofs.trace.add_lines.Statement.{statement}
+use Rattle.record_text.proofs.trace.add_lines.Tie as tie
 
 abbrev Inv-loop : tie.InvT-loop
 Inv-loop out₀ mode rule input place₀ number₀ at₀ out place number at = Going mode rule input out₀ out place number at

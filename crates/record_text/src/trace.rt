@@ -1,20 +1,24 @@
 // The trace of an input: a line for each record that the run from reset takes, with the bytes of the state that it
 // leaves. Each state is that of the run up to the record's end.
+ghost use mathlib.Core.Path.{_≡_};
 ghost use Prim.Native.Nat.{_+_, _*_, _≤_};
-ghost use lib.ListN.{length};
+ghost use lib.ListN.{length, take};
+ghost use Rattle.io.specs.Counts.{Counts};
 ghost use Rattle.terms.specs.Limits.{mostInput};
 ghost use Rattle.listing.specs.Text.{Adds};
-ghost use Rattle.listing.specs.Options.{textFor};
-ghost use Rattle.list_text.specs.Trace.{lineRoom, afterText, linesOf, traceOf};
-use crate::TEXT_ROOM;
+ghost use Rattle.record_text.specs.Trace.{lineRoom, afterText, linesOf, tracedOf};
 use listing::REPLY_ROOM;
 use listing::add_data;
 use listing::options::Asked;
+use listing::options::asked_of;
 use listing::text::add;
 use listing::text::add_decimal;
 use numbers::two;
 use terms::LONG_STATE_BYTES;
 use terms::REPORT_BYTES;
+
+// Room for the trace of any input: a line for every two bytes of it, and the last one.
+pub const TRACE_ROOM: usize = 516100;
 
 // The line of the record that a file ends with: its number, and the bytes of the state that the file's run leaves; or
 // nothing where that is stopped.
@@ -57,10 +61,20 @@ fn add_lines(out: &mut [u8], mode: u32, rule: u32, input: &[u8]) -> usize
     place
 }
 
-// The trace of an input under the mode and the rule that are asked for.
-pub fn trace(asked: Asked, input: &[u8], text: &mut [u8; TEXT_ROOM]) -> usize
-    ensures { λ r. ⌜ Adds (textFor traceOf asked (now (input .entry))) (now (text .entry)) (now (text .exit)) 0 r ⌝ }
+// The trace of an input for a call of so many words, the program's own name among them, with the first two behind it, at
+// the front of the lent text: the answer says how many bytes.
+pub fn trace(
+    words: usize,
+    first: &[u8],
+    second: &[u8],
+    input: &[u8],
+    text: &mut [u8; TRACE_ROOM],
+) -> usize
+    ensures { λ r. ⌜ Counts r (now (text .exit)) ⌝ }
+    ensures { λ r. ⌜ take r (now (text .exit)) ≡ tracedOf words (now (first .entry)) (now (second .entry))
+        (now (input .entry)) ⌝ }
 {
+    let asked = asked_of(words, first, second);
     match asked {
         Asked::Under { mode, rule } => {
             if terms::MOST_INPUT < input.len() {

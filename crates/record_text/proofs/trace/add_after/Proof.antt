@@ -1,4 +1,4 @@
--- `list_text::trace::add_after` adds the state that the run leaves, or nothing where it is stopped. Assumes nothing.
+-- `record_text::trace::add_after` adds the state that the run leaves, or nothing where it is stopped. Assumes nothing.
 use mathlib.Core.Path.{_≡_, sym}
 use native.Mathlib.Omega.{arith}
 use borrow.Author.Needs.{needs}
@@ -7,9 +7,9 @@ use denote.Ref.{now}
 use Rattle.listing.proofs.Adding.{nothing, both, told-as}
 use Rattle.listing.proofs.Decimal.{at-most}
 use Rattle.listing.proofs.Lines.{data-length}
-use Rattle.list_text.proofs.Tracing.{state-short, stopped, taken}
-use Rattle.list_text.proofs.trace.add_after.Statement.{statement}
-use Rattle.list_text.proofs.trace.add_after.Tie as tie
+use Rattle.record_text.proofs.Tracing.{state-short, stopped, taken}
+use Rattle.record_text.proofs.trace.add_after.Statement.{statement}
+use Rattle.record_text.proofs.trace.add_after.Tie as tie
 
 returns : tie.Need-returns
 returns c =
