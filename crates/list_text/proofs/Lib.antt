@@ -1,3 +1,2 @@
--- The laws that the proofs of the listing cite, and 01's example.
+-- The laws that the proofs of the listing cite.
 pub mod Printing
-pub mod Examples

@@ -22,6 +22,7 @@ pub mod EventFiles
 pub mod TwosComplement
 pub mod PrintedText
 pub mod Listings
+pub mod ListedExample
 pub mod Figures
 pub mod Format
 pub mod WrongCores
