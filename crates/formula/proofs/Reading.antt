@@ -1,16 +1,17 @@
 -- Readings: what a leaf, a minus and brackets make of a place, and where a factor begins. Assumes nothing.
 use mathlib.Core.Path.{_≡_, refl, sym, _∙_, ap, subst}
 use mathlib.Core.Bool.{Bool, true, false}
-use mathlib.Core.Logic.{_⊎_, inl, inr, ⊎-elim}
+use mathlib.Core.Logic.{⊎-elim}
 use mathlib.Core.List.{List, [], _∷_}
 use Prim.Native.Nat.{ℕ, suc, _+_, _-_, _≤_, _<_}
 use native.Mathlib.Omega.{arith}
 use native.Mathlib.Nat.{add-zero, pos-of-ne-zero}
 use native.Mathlib.Numerals.{add-one}
-use borrow.Author.Tests.{eq-eqb, ne-eqb, le-leb, lt-leb, ltb-true, ltb-false, eqb-true, eqb-false}
-use lib.Dec.{eqb, ltb}
+use borrow.Author.Tests.{eq-eqb, ne-eqb, le-leb, lt-leb, eqb-true, eqb-false}
+use lib.Dec.{eqb}
 use lib.ListN.{length, take, drop, getD, set, length-append, length-drop, drop-of-length-le, List·getD-eq-default}
 use lib.Seq.{sets, drop-cons, drop-drop, getD-drop, length-take-le}
+use Rattle.numbers.proofs.Differences.{either}
 use Rattle.formula.specs.Formula.{Formula, Letter, Constant, Minus, Brackets}
 use Rattle.formula.specs.Grammar.{areDigits}
 use Rattle.formula.specs.Reader.{Read, Found, Outside, then, isLetter, constantOf, leafOf, closed, factorOf, sumOf}
@@ -20,24 +21,18 @@ use Rattle.formula.specs.Told.{mostText, atOf, endOf, nowhere, closedAt,
 use Rattle.formula.proofs.Cases.{factor-minus, factor-bracket, factor-leaf}
 use Rattle.formula.proofs.Digits.{letter-range}
 use Rattle.formula.proofs.Stores.{sets-append}
-use Rattle.formula.proofs.Places.{nowhere-at, longer-none, longer-is, closed-is, closed-none, next-at, next-end, longer-at, longer-end, both-at}
-use Rattle.formula.proofs.Places.{both-end, nine-at, nine-end}
+use Rattle.formula.proofs.Places.{place-is, nowhere-at, longer-none, longer-is, closed-is, closed-none, next-at, next-end, longer-at, longer-end}
+use Rattle.formula.proofs.Measure.{leftOver, later-place}
+use Rattle.formula.proofs.Places.{both}
 
 -- ---- places of a text
 -- from a place on: the byte there, then the rest
 pub from : (text : List ℕ) (at : ℕ) → at < length text → drop at text ≡ getD text at 0 ∷ drop (at + 1) text
 from text at h = drop-cons text at 0 h ∙ ap (λ (n : ℕ). getD text at 0 ∷ drop n text) (sym (add-one at))
 
-pub side : (a b : ℕ) → (a < b) ⊎ (b ≤ a)
-side a b = go (ltb a b) refl
-  where
-    go : (t : Bool) → ltb a b ≡ t → (a < b) ⊎ (b ≤ a)
-    go true e = inl (ltb-true a b e)
-    go false e = inr (ltb-false a b e)
-
 -- a byte that is not 0 stands in the text
 pub stands : (text : List ℕ) (at : ℕ) → (getD text at 0 ≡ 0 → ⊥) → at < length text
-stands text at n = ⊎-elim (λ l. l) (λ l. absurd (n (List·getD-eq-default text 0 l))) (side at (length text))
+stands text at n = ⊎-elim (λ l. l) (λ l. absurd (n (List·getD-eq-default text 0 l))) (either at (length text))
 
 -- a letter stands in the text
 pub letter-stands : (text : List ℕ) (at b : ℕ) → b ≡ getD text at 0 → isLetter b ≡ true → at < length text
@@ -52,12 +47,18 @@ pub somewhere : (text : List ℕ) (p : ℕ) → length text ≤ mostText → atO
 somewhere text p s i e = let z = ap atOf e ∙ nowhere-at in omega arith
 
 -- ---- readings
--- what the reading of the next place asks
-pub next-asks : {text : List ℕ} {place : ℕ} → Asks text place → atOf place < length text → Asks text (place + 1)
-next-asks {text} {place} A h =
-    let a = next-at place (omega (arith, A .short)) in
-    let e = next-end place (omega (arith, A .short)) in
-    record { short = A .short; inside = omega arith; few = omega (arith, A .few) }
+-- a place in a text, with no more postfix than text before it, is a small number
+pub asks-small : {text : List ℕ} {place : ℕ} → Asks text place → place < 200000
+asks-small {text} {place} A = let z = place-is place in omega (arith, A .few, A .inside, A .short)
+
+-- the place after a reading that began with room for one more byte of postfix has it too
+pub reads-small : {text before after : List ℕ} {place r : ℕ} (x : Read) → length text ≤ mostText → endOf place < atOf place → Reads text place before after x r
+    → r < 131072
+reads-small {r = r} Outside short h R = omega (arith, R .told)
+reads-small {text} {place = place} {r = r} (Found f rest) short h R =
+    let T = R .told in
+    let z = place-is r in
+    omega (arith, T .few, T .inside)
 
 module _ (text : List ℕ) (place : ℕ) (before after : List ℕ) where
   -- another reader that finds the same
@@ -78,8 +79,7 @@ module _ (text : List ℕ) (place : ℕ) (before after : List ℕ) where
       let m = length-drop (atOf place + 1) text in
       let n : 8 ≤ length s = omega arith in
       let k = length-take-le 8 s n in
-      let a = nine-at place (omega arith) in
-      let b = nine-end place (omega arith) in
+      let a = both place 9 (omega arith) in
       let c = ap atOf is in
       let f = ap endOf is in
       let z : atOf place + 1 + 8 ≡ atOf r = omega arith in
@@ -100,8 +100,7 @@ module _ (text : List ℕ) (place : ℕ) (before after : List ℕ) where
       → r ≡ place + 513 → after ≡ set before (endOf place) b → Reads text place before after (leafOf (drop (atOf place) text)) r
   unfolding leafOf postfixOf
   letter-reads b {r} short h g i is e =
-      let a = both-at place (omega arith) in
-      let f = both-end place (omega arith) in
+      let a = both place 1 (omega arith) in
       let c = ap atOf is in
       let d = ap endOf is in
       let z : atOf place + 1 ≡ atOf r = omega arith in
@@ -136,14 +135,18 @@ hash-leaf text at b g i e = rw (from text at (stands text at (λ z. omega arith)
 
 pub no-leaf : (text : List ℕ) (at b : ℕ) → b ≡ getD text at 0 → isLetter b ≡ false → (b ≡ 0x23 → ⊥) → leafOf (drop at text) ≡ Outside
 unfolding leafOf
-no-leaf text at b g i e = ⊎-elim (λ h. rw (from text at h, ← g, i, ne-eqb b 0x23 e)) (λ h. rw (drop-of-length-le text h)) (side at (length text))
+no-leaf text at b g i e = ⊎-elim (λ h. rw (from text at h, ← g, i, ne-eqb b 0x23 e)) (λ h. rw (drop-of-length-le text h)) (either at (length text))
 
 -- ---- a minus
+-- a command stored behind an operand, where there is one
+abbrev pub JoinedBehind : List ℕ → ℕ → ℕ → List ℕ → ℕ → Type 0
+JoinedBehind middle p code left r = (r ≡ longerOf p) × ((p ≡ nowhere → ⊥) → left ≡ set middle (endOf p) code)
+
 module _ (text : List ℕ) (place : ℕ) (short : length text ≤ mostText) (inside : atOf place < length text) (before after left : List ℕ) where
-  pub minus-reads : (x : Read) {p r : ℕ} → Reads text (place + 1) before after x p → r ≡ longerOf p → ((p ≡ nowhere → ⊥) → left ≡ set after (endOf p) minusCode)
+  minus-reads : (x : Read) {p r : ℕ} → Reads text (place + 1) before after x p → JoinedBehind after p minusCode left r
       → Reads text place before left (then x (λ f rest. Found (Minus f) rest)) r
   unfolding postfixOf
-  minus-reads (Found f rest) {p} {r} R e w =
+  minus-reads (Found f rest) {p} {r} R (e, w) =
       let T = R .told in
       let n = somewhere text p short (T .inside) in
       let is = e ∙ longer-is p n in
@@ -162,7 +165,7 @@ module _ (text : List ℕ) (place : ℕ) (short : length text ≤ mostText) (ins
           few = omega (arith, T .few);
         };
       }
-  minus-reads Outside {p} {r} R e w = record { told = e ∙ longer-none p (R .told) }
+  minus-reads Outside {p} {r} R (e, w) = record { told = e ∙ longer-none p (R .told) }
 
 -- ---- brackets
 pub not-closed : (text : List ℕ) (k : ℕ) (f : Formula) (s : List ℕ) → s ≡ drop k text → (getD text k 0 ≡ 0x29 → ⊥) → closed f s ≡ Outside
@@ -172,7 +175,7 @@ not-closed text k f (b ∷ s) e h =
     rw (ne-eqb b 0x29 (λ y. h (sym z ∙ y)))
 
 module _ (text : List ℕ) (place : ℕ) (short : length text ≤ mostText) (inside : atOf place < length text) (before after : List ℕ) where
-  pub brackets-read : (x : Read) {p r : ℕ} → Reads text (place + 1) before after x p → r ≡ closedAt text p → Reads text place before after (then x closed) r
+  brackets-read : (x : Read) {p r : ℕ} → Reads text (place + 1) before after x p → r ≡ closedAt text p → Reads text place before after (then x closed) r
   unfolding postfixOf
   brackets-read (Found f rest) {p} {r} R e = go (eqb (getD text (atOf p) 0) 0x29) refl
     where
@@ -222,10 +225,10 @@ module _ (text : List ℕ) (at d b : ℕ) (some : d ≡ 0 → ⊥) (is : b ≡ g
   here inside = ap (λ (n : ℕ). factorOf n (drop at text)) (sym level) ∙ ap (factorOf (suc (d - 1))) (from text at inside
       ∙ ap (λ (x : ℕ). x ∷ drop (at + 1) text) (sym is))
 
-  pub at-minus : b ≡ 0x2D → factorOf d (drop at text) ≡ then (factorOf (d - 1) (drop (at + 1) text)) (λ f rest. Found (Minus f) rest)
+  at-minus : b ≡ 0x2D → factorOf d (drop at text) ≡ then (factorOf (d - 1) (drop (at + 1) text)) (λ f rest. Found (Minus f) rest)
   at-minus e = here (stands text at (λ z. omega arith)) ∙ factor-minus (d - 1) b (drop (at + 1) text) (rw (eq-eqb b 0x2D e))
 
-  pub at-bracket : (b ≡ 0x2D → ⊥) → b ≡ 0x28 → factorOf d (drop at text) ≡ then (sumOf (d - 1) (drop (at + 1) text)) closed
+  at-bracket : (b ≡ 0x2D → ⊥) → b ≡ 0x28 → factorOf d (drop at text) ≡ then (sumOf (d - 1) (drop (at + 1) text)) closed
   at-bracket n e = here (stands text at (λ z. omega arith)) ∙ factor-bracket (d - 1) b (drop (at + 1) text) (rw (ne-eqb b 0x2D n, eq-eqb b 0x28 e))
 
   past : length text ≤ at → factorOf d (drop at text) ≡ leafOf (drop at text)
@@ -237,4 +240,52 @@ module _ (text : List ℕ) (at d b : ℕ) (some : d ≡ 0 → ⊥) (is : b ≡ g
       ⊎-elim
       (λ inside. here inside ∙ factor-leaf (d - 1) b (drop (at + 1) text) (rw (ne-eqb b 0x2D n, ne-eqb b 0x28 m))
       ∙ ap leafOf (sym (from text at inside ∙ ap (λ (x : ℕ). x ∷ drop (at + 1) text) (sym is))))
-      past (side at (length text))
+      past (either at (length text))
+
+-- a byte that a factor can begin with stands in the text, and what follows it is read from the next place: there is room for one more byte of postfix
+pub record Begins (text : List ℕ) (place b : ℕ) : Type 0 where
+  pub byte-is : b ≡ getD text (atOf place) 0
+  pub inside : atOf place < length text
+  pub next : atOf (place + 1) ≡ atOf place + 1
+  pub asks : Asks text (place + 1)
+  pub room : endOf (place + 1) < atOf (place + 1)
+
+pub begins : {text : List ℕ} {place at b sign : ℕ} → Asks text place → b ≡ getD text at 0 → at ≡ atOf place → b ≡ sign → 0 < sign → Begins text place b
+begins {text} {place} {at} {b} {sign} A e h is some =
+    let g : b ≡ getD text (atOf place) 0 = e ∙ ap (λ (k : ℕ). getD text k 0) h in
+    let i = stands text (atOf place) (λ z. omega arith) in
+    let n = next-at place (omega (arith, A .short)) in
+    let m = next-end place (omega (arith, A .short)) in
+    record {
+      byte-is = g;
+      inside = i;
+      next = n;
+      asks = record { short = A .short; inside = omega arith; few = omega (arith, A .few) };
+      room = omega (arith, A .few);
+    }
+
+module _ {text : List ℕ} {place b : ℕ} (B : Begins text place b) where
+  -- what follows is read with a level less
+  pub inner-asks : (rank depth t : ℕ) → leftOver 0 text (atOf place) depth ≡ t → rank ≤ 2
+      → (leftOver rank text (atOf (place + 1)) (depth - 1) < t) × Asks text (place + 1)
+  inner-asks rank depth t e h =
+      (later-place rank text (atOf place) (atOf (place + 1)) depth (depth - 1) t e h (B .inside) (omega (arith, B .next)) (omega arith), B .asks)
+
+  module _ {before after : List ℕ} {x : Read} {p : ℕ} (R : Reads text (place + 1) before after x p) where
+    pub inner-small : p < 131072
+    inner-small = reads-small x (B .asks .short) (B .room) R
+
+  module _ (d : ℕ) (some : d ≡ 0 → ⊥) {before after : List ℕ} {p : ℕ} where
+    pub minus-read : {left : List ℕ} {r : ℕ} → b ≡ 0x2D → Reads text (place + 1) before after (factorOf (d - 1) (drop (atOf (place + 1)) text)) p
+        → JoinedBehind after p minusCode left r → Reads text place before left (factorOf d (drop (atOf place) text)) r
+    minus-read {left} {r} e R E =
+        reads-as text place before left (at-minus text (atOf place) d b some (B .byte-is) e
+        ∙ ap (λ (k : ℕ). then (factorOf (d - 1) (drop k text)) (λ f rest. Found (Minus f) rest)) (sym (B .next)))
+        (minus-reads text place (B .asks .short) (B .inside) before after left _ R E)
+
+    pub bracket-read : {r : ℕ} → (b ≡ 0x2D → ⊥) → b ≡ 0x28 → Reads text (place + 1) before after (sumOf (d - 1) (drop (atOf (place + 1)) text)) p
+        → r ≡ closedAt text p → Reads text place before after (factorOf d (drop (atOf place) text)) r
+    bracket-read {r} n e R E =
+        reads-as text place before after (at-bracket text (atOf place) d b some (B .byte-is) n e
+        ∙ ap (λ (k : ℕ). then (sumOf (d - 1) (drop k text)) closed) (sym (B .next)))
+        (brackets-read text place (B .asks .short) (B .inside) before after _ R E)
