@@ -47,10 +47,7 @@ commandRecord code = 3 ∷ 0 ∷ 3 ∷ 0 ∷ code ∷ []
 
 -- FADD, FSUB, FMUL, FDIV, with sr 0
 abbrev pub codeOf : Operator → ℕ
-codeOf Plus = 0x10
-codeOf Less = 0x11
-codeOf Times = 0x12
-codeOf Over = 0x13
+codeOf o = elim o [ Plus ↦ 0x10 | Less ↦ 0x11 | Times ↦ 0x12 | Over ↦ 0x13 ]
 
 -- CHSF, with sr 0
 abbrev pub minusCode : ℕ
