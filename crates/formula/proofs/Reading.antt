@@ -17,7 +17,7 @@ use Rattle.formula.specs.Grammar.{areDigits}
 use Rattle.formula.specs.Reader.{Read, Found, Outside, then, isLetter, constantOf, leafOf, closed, factorOf, sumOf}
 use Rattle.formula.specs.File.{minusCode}
 use Rattle.formula.specs.Postfix.{postfixOf}
-use Rattle.formula.specs.Told.{mostText, atOf, endOf, nowhere, closedAt, longerOf, Asks, Tells, Reads}
+use Rattle.formula.specs.Told.{mostText, atOf, endOf, nowhere, closedAt, longerOf, Asks, Move, Tells, Reads}
 use Rattle.formula.proofs.Cases.{factor-minus, factor-bracket, factor-leaf}
 use Rattle.formula.proofs.Digits.{letter-range}
 use Rattle.formula.proofs.Stores.{sets-append}
@@ -52,43 +52,42 @@ pub asks-small : {text : List ℕ} {place : ℕ} → Asks text place → place <
 asks-small {text} {place} A = let z = place-is place in omega (arith, A .few, A .inside, A .short)
 
 -- the place after a reading that began with room for one more byte of postfix has it too
-pub reads-small : {text before after : List ℕ} {place r : ℕ} (x : Read) → length text ≤ mostText → endOf place < atOf place → Reads text place before after x r
-    → r < 131072
-reads-small {r = r} Outside short h R = omega (arith, R .told)
-reads-small {text} {place = place} {r = r} (Found f rest) short h R =
+pub reads-small : {text : List ℕ} {m : Move} (x : Read) → length text ≤ mostText → endOf (m .place) < atOf (m .place) → Reads text m x → m .next < 131072
+reads-small Outside short h R = omega (arith, R .told)
+reads-small {text} {m} (Found f rest) short h R =
     let T = R .told in
-    let z = place-is r in
+    let z = place-is (m .next) in
     omega (arith, T .few, T .inside)
 
-module _ (text : List ℕ) (place : ℕ) (before after : List ℕ) where
+module _ {text : List ℕ} {m : Move} where
   -- another reader that finds the same
-  pub reads-as : {x y : Read} {r : ℕ} → y ≡ x → Reads text place before after x r → Reads text place before after y r
-  reads-as {x} {y} {r} e R = subst (λ (z : Read). Reads text place before after z r) (sym e) R
+  pub reads-as : {x y : Read} → y ≡ x → Reads text m x → Reads text m y
+  reads-as e R = subst (Reads text m) (sym e) R
 
   -- nothing is found
-  pub none-reads : {x : Read} {r : ℕ} → r ≡ nowhere → x ≡ Outside → Reads text place before after x r
+  pub none-reads : {x : Read} → m .next ≡ nowhere → x ≡ Outside → Reads text m x
   none-reads is n = reads-as n (record { told = is })
 
-  pub constant-reads : {r : ℕ} → length text ≤ mostText → getD text (atOf place) 0 ≡ 0x23 → atOf place + 9 ≤ length text
-      → areDigits (take 8 (drop (atOf place + 1) text)) ≡ true
-      → r ≡ place + 4617 → after ≡ sets before (endOf place) (take 9 (drop (atOf place) text)) → Reads text place before after
-      (constantOf (drop (atOf place + 1) text)) r
+  pub constant-reads : length text ≤ mostText → getD text (atOf (m .place)) 0 ≡ 0x23 → atOf (m .place) + 9 ≤ length text
+      → areDigits (take 8 (drop (atOf (m .place) + 1) text)) ≡ true
+      → m .next ≡ m .place + 4617 → m .after ≡ sets (m .before) (endOf (m .place)) (take 9 (drop (atOf (m .place)) text))
+      → Reads text m (constantOf (drop (atOf (m .place) + 1) text))
   unfolding postfixOf
-  constant-reads {r} short hash h d is e =
-      let s = drop (atOf place + 1) text in
-      let m = length-drop (atOf place + 1) text in
+  constant-reads short hash h d is e =
+      let s = drop (atOf (m .place) + 1) text in
+      let l = length-drop (atOf (m .place) + 1) text in
       let n : 8 ≤ length s = omega arith in
       let k = length-take-le 8 s n in
-      let a = both place 9 (omega arith) in
+      let a = both (m .place) 9 (omega arith) in
       let c = ap atOf is in
       let f = ap endOf is in
-      let z : atOf place + 1 + 8 ≡ atOf r = omega arith in
-      let R : Reads text place before after (Found (Constant (take 8 s)) (drop 8 s)) r = record {
+      let z : atOf (m .place) + 1 + 8 ≡ atOf (m .next) = omega arith in
+      let R : Reads text m (Found (Constant (take 8 s)) (drop 8 s)) = record {
         told = record {
-          rest-is = drop-drop 8 (atOf place + 1) text ∙ ap (λ (i : ℕ). drop i text) z;
+          rest-is = drop-drop 8 (atOf (m .place) + 1) text ∙ ap (λ (i : ℕ). drop i text) z;
           end-is = omega arith;
-          stored-is = e ∙ ap (λ (l : List ℕ). sets before (endOf place) (take 9 l)) (from text (atOf place) (omega arith))
-              ∙ ap (λ (x : ℕ). sets before (endOf place) (x ∷ take 8 s)) hash;
+          stored-is = e ∙ ap (λ (l : List ℕ). sets (m .before) (endOf (m .place)) (take 9 l)) (from text (atOf (m .place)) (omega arith))
+              ∙ ap (λ (x : ℕ). sets (m .before) (endOf (m .place)) (x ∷ take 8 s)) hash;
           later = omega arith;
           inside = omega arith;
           few = omega arith;
@@ -96,26 +95,26 @@ module _ (text : List ℕ) (place : ℕ) (before after : List ℕ) where
       } in
       reads-as (rw (le-leb 8 (length s) n, d)) R
 
-  pub letter-reads : (b : ℕ) {r : ℕ} → length text ≤ mostText → atOf place < length text → b ≡ getD text (atOf place) 0 → isLetter b ≡ true
-      → r ≡ place + 513 → after ≡ set before (endOf place) b → Reads text place before after (leafOf (drop (atOf place) text)) r
+  pub letter-reads : (b : ℕ) → length text ≤ mostText → atOf (m .place) < length text → b ≡ getD text (atOf (m .place)) 0 → isLetter b ≡ true
+      → m .next ≡ m .place + 513 → m .after ≡ set (m .before) (endOf (m .place)) b → Reads text m (leafOf (drop (atOf (m .place)) text))
   unfolding leafOf postfixOf
-  letter-reads b {r} short h g i is e =
-      let a = both place 1 (omega arith) in
+  letter-reads b short h g i is e =
+      let a = both (m .place) 1 (omega arith) in
       let c = ap atOf is in
       let d = ap endOf is in
-      let z : atOf place + 1 ≡ atOf r = omega arith in
+      let z : atOf (m .place) + 1 ≡ atOf (m .next) = omega arith in
       let y : b ≡ 0x61 + (b - 0x61) = (let l = letter-range b i in omega arith) in
-      let R : Reads text place before after (Found (Letter (b - 0x61)) (drop (atOf place + 1) text)) r = record {
+      let R : Reads text m (Found (Letter (b - 0x61)) (drop (atOf (m .place) + 1) text)) = record {
         told = record {
           rest-is = ap (λ (k : ℕ). drop k text) z;
           end-is = omega arith;
-          stored-is = e ∙ ap (set before (endOf place)) y;
+          stored-is = e ∙ ap (set (m .before) (endOf (m .place))) y;
           later = omega arith;
           inside = omega arith;
           few = omega arith;
         };
       } in
-      reads-as (rw (from text (atOf place) h, ← g, i)) R
+      reads-as (rw (from text (atOf (m .place)) h, ← g, i)) R
 
 -- the digits behind a hash, as a call tells of them
 pub digits-told : (text : List ℕ) (x y : ℕ) {b : Bool} → b ≡ areDigits (take (x + 9 - (x + 1)) (drop (x + 1) text))
@@ -138,34 +137,38 @@ unfolding leafOf
 no-leaf text at b g i e = ⊎-elim (λ h. rw (from text at h, ← g, i, ne-eqb b 0x23 e)) (λ h. rw (drop-of-length-le text h)) (either at (length text))
 
 -- ---- a minus
--- a command stored behind an operand, where there is one
-abbrev pub JoinedBehind : List ℕ → ℕ → ℕ → List ℕ → ℕ → Type 0
-JoinedBehind middle p code left r = (r ≡ longerOf p) × ((p ≡ nowhere → ⊥) → left ≡ set middle (endOf p) code)
+-- what stands behind the byte that m begins with
+abbrev pub innerOf : Move → ℕ → List ℕ → Move
+innerOf m p left = record { place = m .place + 1; next = p; before = m .before; after = left }
 
-module _ (text : List ℕ) (place : ℕ) (short : length text ≤ mostText) (inside : atOf place < length text) (before after left : List ℕ) where
-  minus-reads : (x : Read) {p r : ℕ} → Reads text (place + 1) before after x p → JoinedBehind after p minusCode left r
-      → Reads text place before left (then x (λ f rest. Found (Minus f) rest)) r
+-- a command stored behind the operand of i, where there is one, ends m
+abbrev pub JoinedBehind : Move → Move → ℕ → Type 0
+JoinedBehind i m code = (m .next ≡ longerOf (i .next)) × ((i .next ≡ nowhere → ⊥) → m .after ≡ set (i .after) (endOf (i .next)) code)
+
+module _ (text : List ℕ) (m : Move) (short : length text ≤ mostText) (inside : atOf (m .place) < length text) where
+  minus-reads : (x : Read) {p : ℕ} {left : List ℕ} → Reads text (innerOf m p left) x → JoinedBehind (innerOf m p left) m minusCode
+      → Reads text m (then x (λ f rest. Found (Minus f) rest))
   unfolding postfixOf
-  minus-reads (Found f rest) {p} {r} R (e, w) =
+  minus-reads (Found f rest) {p} {left} R (e, w) =
       let T = R .told in
       let n = somewhere text p short (T .inside) in
       let is = e ∙ longer-is p n in
-      let a = next-at place (omega arith) in
-      let b = next-end place (omega arith) in
+      let a = next-at (m .place) (omega arith) in
+      let b = next-end (m .place) (omega arith) in
       let c = ap atOf is ∙ longer-at p in
       let d = ap endOf is ∙ longer-end p in
       record {
         told = record {
           rest-is = T .rest-is ∙ ap (λ (i : ℕ). drop i text) (sym c);
           end-is = omega (arith, T .end-is, length-append (postfixOf f) (minusCode ∷ []));
-          stored-is = w n ∙ ap (λ (l : List ℕ). set l (endOf p) minusCode) (T .stored-is ∙ ap (λ (i : ℕ). sets before i (postfixOf f)) b)
-              ∙ sets-append (postfixOf f) (minusCode ∷ []) before (endOf place) (endOf p) (omega (arith, T .end-is));
+          stored-is = w n ∙ ap (λ (l : List ℕ). set l (endOf p) minusCode) (T .stored-is ∙ ap (λ (i : ℕ). sets (m .before) i (postfixOf f)) b)
+              ∙ sets-append (postfixOf f) (minusCode ∷ []) (m .before) (endOf (m .place)) (endOf p) (omega (arith, T .end-is));
           later = omega (arith, T .later);
           inside = omega (arith, T .inside);
           few = omega (arith, T .few);
         };
       }
-  minus-reads Outside {p} {r} R (e, w) = record { told = e ∙ longer-none p (R .told) }
+  minus-reads Outside {p} R (e, w) = record { told = e ∙ longer-none p (R .told) }
 
 -- ---- brackets
 pub not-closed : (text : List ℕ) (k : ℕ) (f : Formula) (s : List ℕ) → s ≡ drop k text → (getD text k 0 ≡ 0x29 → ⊥) → closed f s ≡ Outside
@@ -174,38 +177,38 @@ not-closed text k f (b ∷ s) e h =
     let z : b ≡ getD text k 0 = ap (λ (l : List ℕ). getD l 0 0) e ∙ getD-drop k text 0 0 ∙ ap (λ (n : ℕ). getD text n 0) (add-zero k) in
     rw (ne-eqb b 0x29 (λ y. h (sym z ∙ y)))
 
-module _ (text : List ℕ) (place : ℕ) (short : length text ≤ mostText) (inside : atOf place < length text) (before after : List ℕ) where
-  brackets-read : (x : Read) {p r : ℕ} → Reads text (place + 1) before after x p → r ≡ closedAt text p → Reads text place before after (then x closed) r
+module _ (text : List ℕ) (m : Move) (short : length text ≤ mostText) (inside : atOf (m .place) < length text) where
+  brackets-read : (x : Read) {p : ℕ} → Reads text (innerOf m p (m .after)) x → m .next ≡ closedAt text p → Reads text m (then x closed)
   unfolding postfixOf
-  brackets-read (Found f rest) {p} {r} R e = go (eqb (getD text (atOf p) 0) 0x29) refl
+  brackets-read (Found f rest) {p} R e = go (eqb (getD text (atOf p) 0) 0x29) refl
     where
-      T : Tells text (place + 1) before after f rest p
+      T : Tells text (innerOf m p (m .after)) f rest
       T = R .told
 
-      go : (t : Bool) → eqb (getD text (atOf p) 0) 0x29 ≡ t → Reads text place before after (closed f rest) r
+      go : (t : Bool) → eqb (getD text (atOf p) 0) 0x29 ≡ t → Reads text m (closed f rest)
       go true h =
           let b = eqb-true (getD text (atOf p) 0) 0x29 h in
           let i = stands text (atOf p) (λ z. omega arith) in
           let is = e ∙ closed-is text p (getD text (atOf p) 0) refl b in
-          let a = next-at place (omega arith) in
-          let d = next-end place (omega arith) in
+          let a = next-at (m .place) (omega arith) in
+          let d = next-end (m .place) (omega arith) in
           let k = ap atOf is ∙ next-at p (omega arith) in
-          let m = ap endOf is ∙ next-end p (omega arith) in
-          let S : Reads text place before after (Found (Brackets f) (drop (atOf p + 1) text)) r = record {
+          let q = ap endOf is ∙ next-end p (omega arith) in
+          let S : Reads text m (Found (Brackets f) (drop (atOf p + 1) text)) = record {
             told = record {
               rest-is = ap (λ (n : ℕ). drop n text) (sym k);
               end-is = omega (arith, T .end-is);
-              stored-is = T .stored-is ∙ ap (λ (n : ℕ). sets before n (postfixOf f)) d;
+              stored-is = T .stored-is ∙ ap (λ (n : ℕ). sets (m .before) n (postfixOf f)) d;
               later = omega (arith, T .later);
               inside = omega arith;
               few = omega (arith, T .few);
             };
           } in
-          reads-as text place before after (ap (closed f) (T .rest-is ∙ from text (atOf p) i) ∙ rw h) S
+          reads-as (ap (closed f) (T .rest-is ∙ from text (atOf p) i) ∙ rw h) S
       go false h =
           let b = eqb-false (getD text (atOf p) 0) 0x29 h in
-          none-reads text place before after (e ∙ closed-none text p (getD text (atOf p) 0) refl b) (not-closed text (atOf p) f rest (T .rest-is) b)
-  brackets-read Outside {p} {r} R e =
+          none-reads (e ∙ closed-none text p (getD text (atOf p) 0) refl b) (not-closed text (atOf p) f rest (T .rest-is) b)
+  brackets-read Outside {p} R e =
       let k : length text ≤ atOf p = (let y = ap atOf (R .told) ∙ nowhere-at in omega arith) in
       let z : getD text (atOf p) 0 ≡ 0 = List·getD-eq-default text 0 k in
       record { told = e ∙ closed-none text p 0 (sym z) (λ y. omega arith) }
@@ -271,21 +274,19 @@ module _ {text : List ℕ} {place b : ℕ} (B : Begins text place b) where
   inner-asks rank depth t e h =
       (later-place rank text (atOf place) (atOf (place + 1)) depth (depth - 1) t e h (B .inside) (omega (arith, B .next)) (omega arith), B .asks)
 
-  module _ {before after : List ℕ} {x : Read} {p : ℕ} (R : Reads text (place + 1) before after x p) where
-    pub inner-small : p < 131072
-    inner-small = reads-small x (B .asks .short) (B .room) R
+  pub inner-small : {i : Move} {x : Read} → i .place ≡ place + 1 → Reads text i x → i .next < 131072
+  inner-small {i} {x} e R = reads-small x (B .asks .short) (subst (λ (k : ℕ). endOf k < atOf k) (sym e) (B .room)) R
 
-  module _ (d : ℕ) (some : d ≡ 0 → ⊥) {before after : List ℕ} {p : ℕ} where
-    pub minus-read : {left : List ℕ} {r : ℕ} → b ≡ 0x2D → Reads text (place + 1) before after (factorOf (d - 1) (drop (atOf (place + 1)) text)) p
-        → JoinedBehind after p minusCode left r → Reads text place before left (factorOf d (drop (atOf place) text)) r
-    minus-read {left} {r} e R E =
-        reads-as text place before left (at-minus text (atOf place) d b some (B .byte-is) e
-        ∙ ap (λ (k : ℕ). then (factorOf (d - 1) (drop k text)) (λ f rest. Found (Minus f) rest)) (sym (B .next)))
-        (minus-reads text place (B .asks .short) (B .inside) before after left _ R E)
+module _ (text : List ℕ) (m : Move) (b d : ℕ) (B : Begins text (m .place) b) (some : d ≡ 0 → ⊥) {p : ℕ} where
+  pub minus-read : {left : List ℕ} → b ≡ 0x2D → Reads text (innerOf m p left) (factorOf (d - 1) (drop (atOf (m .place + 1)) text))
+      → JoinedBehind (innerOf m p left) m minusCode → Reads text m (factorOf d (drop (atOf (m .place)) text))
+  minus-read e R E =
+      reads-as (at-minus text (atOf (m .place)) d b some (B .byte-is) e
+      ∙ ap (λ (k : ℕ). then (factorOf (d - 1) (drop k text)) (λ f rest. Found (Minus f) rest)) (sym (B .next)))
+      (minus-reads text m (B .asks .short) (B .inside) _ R E)
 
-    pub bracket-read : {r : ℕ} → (b ≡ 0x2D → ⊥) → b ≡ 0x28 → Reads text (place + 1) before after (sumOf (d - 1) (drop (atOf (place + 1)) text)) p
-        → r ≡ closedAt text p → Reads text place before after (factorOf d (drop (atOf place) text)) r
-    bracket-read {r} n e R E =
-        reads-as text place before after (at-bracket text (atOf place) d b some (B .byte-is) n e
-        ∙ ap (λ (k : ℕ). then (sumOf (d - 1) (drop k text)) closed) (sym (B .next)))
-        (brackets-read text place (B .asks .short) (B .inside) before after _ R E)
+  pub bracket-read : (b ≡ 0x2D → ⊥) → b ≡ 0x28 → Reads text (innerOf m p (m .after)) (sumOf (d - 1) (drop (atOf (m .place + 1)) text))
+      → m .next ≡ closedAt text p → Reads text m (factorOf d (drop (atOf (m .place)) text))
+  bracket-read n e R E =
+      reads-as (at-bracket text (atOf (m .place)) d b some (B .byte-is) n e ∙ ap (λ (k : ℕ). then (sumOf (d - 1) (drop k text)) closed) (sym (B .next)))
+      (brackets-read text m (B .asks .short) (B .inside) _ R E)

@@ -54,8 +54,9 @@ fn copy(text: &[u8], out: &mut [u8; 256], at: usize, end: usize)
 // A hash, and behind it eight digits.
 fn constant(text: &[u8], out: &mut [u8; 256], place: u32) -> u32
     requires { ⌜ Asks (now text) place × (getD (now text) (atOf place) 0 ≡ 0x23) ⌝ }
-    ensures { λ r. ⌜ Reads (now (text .entry)) place (now (out .entry)) (now (out .exit))
-        (constantOf (drop (atOf place + 1) (now (text .entry)))) r ⌝ }
+    ensures { λ r. ⌜ Reads (now (text .entry))
+        (record { place = place; next = r; before = now (out .entry); after = now (out .exit) })
+        (constantOf (drop (atOf place + 1) (now (text .entry)))) ⌝ }
 {
     let at = at_of(place);
     if text.len() - at < 9 {
@@ -83,8 +84,9 @@ fn letter(out: &mut [u8; 256], place: u32, b: u8) -> u32
 // A letter, or a hash with eight digits.
 fn leaf(text: &[u8], out: &mut [u8; 256], place: u32) -> u32
     requires { ⌜ Asks (now text) place ⌝ }
-    ensures { λ r. ⌜ Reads (now (text .entry)) place (now (out .entry)) (now (out .exit))
-        (leafOf (drop (atOf place) (now (text .entry)))) r ⌝ }
+    ensures { λ r. ⌜ Reads (now (text .entry))
+        (record { place = place; next = r; before = now (out .entry); after = now (out .exit) })
+        (leafOf (drop (atOf place) (now (text .entry)))) ⌝ }
 {
     let b = byte_at(text, at_of(place));
     if is_letter(b) {
@@ -143,8 +145,9 @@ fn sign_at(text: &[u8], place: u32, rank: Rank) -> u8
 // A sum: products joined by plus or minus, left to right.
 pub fn sum(text: &[u8], out: &mut [u8; 256], place: u32, depth: u32) -> u32
     requires { ⌜ Asks (now text) place ⌝ }
-    ensures { λ r. ⌜ Reads (now (text .entry)) place (now (out .entry)) (now (out .exit))
-        (sumOf depth (drop (atOf place) (now (text .entry)))) r ⌝ }
+    ensures { λ r. ⌜ Reads (now (text .entry))
+        (record { place = place; next = r; before = now (out .entry); after = now (out .exit) })
+        (sumOf depth (drop (atOf place) (now (text .entry)))) ⌝ }
 {
     let mut left = product(text, out, place, depth);
     loop {
@@ -160,8 +163,9 @@ pub fn sum(text: &[u8], out: &mut [u8; 256], place: u32, depth: u32) -> u32
 // A product: factors joined by `*` or `/`, left to right.
 fn product(text: &[u8], out: &mut [u8; 256], place: u32, depth: u32) -> u32
     requires { ⌜ Asks (now text) place ⌝ }
-    ensures { λ r. ⌜ Reads (now (text .entry)) place (now (out .entry)) (now (out .exit))
-        (productOf depth (drop (atOf place) (now (text .entry)))) r ⌝ }
+    ensures { λ r. ⌜ Reads (now (text .entry))
+        (record { place = place; next = r; before = now (out .entry); after = now (out .exit) })
+        (productOf depth (drop (atOf place) (now (text .entry)))) ⌝ }
 {
     let mut left = factor(text, out, place, depth);
     loop {
@@ -177,8 +181,9 @@ fn product(text: &[u8], out: &mut [u8; 256], place: u32, depth: u32) -> u32
 // A factor: a leaf, or, with a level left, a minus before a factor or brackets round a sum.
 fn factor(text: &[u8], out: &mut [u8; 256], place: u32, depth: u32) -> u32
     requires { ⌜ Asks (now text) place ⌝ }
-    ensures { λ r. ⌜ Reads (now (text .entry)) place (now (out .entry)) (now (out .exit))
-        (factorOf depth (drop (atOf place) (now (text .entry)))) r ⌝ }
+    ensures { λ r. ⌜ Reads (now (text .entry))
+        (record { place = place; next = r; before = now (out .entry); after = now (out .exit) })
+        (factorOf depth (drop (atOf place) (now (text .entry)))) ⌝ }
 {
     if depth == 0 {
         return leaf(text, out, place);

@@ -43,7 +43,8 @@ below rank Pre t = and 2 kinds.ps (falls 2 kinds.ps _<_ (μ rank) t) Pre
 
 -- the loop of a sum and of a product
 abbrev Inv : (ℕ → Sign) → (ℕ → Reader) → sum-lts.InvT-loop
-Inv sign operand text out₀ place depth left₀ out left = Going sign (operand depth) text place out₀ out (endOf left₀) left
+Inv sign operand text out₀ place depth left₀ out left =
+    Going sign (operand depth) text (record { place = place; next = left; before = out₀; after = out }) (endOf left₀)
 
 abbrev μ-loop : sum-lts.MeasureT-loop
 μ-loop text out₀ place depth left₀ out left = length text - atOf left
@@ -77,7 +78,7 @@ pub +factor+product+sum-spec : {M : Type 1} → statement M
     (at 0 factor.Pre t) factor.Post
     -- no level is left
     (λ c κs. c .before .before .before .pre .1)
-    (λ c. let a = c .before .before .before .before .args in reads-as _ _ _ _ (no-level (now (a .text)) (atOf (a .place)) (a .depth)
+    (λ c. let a = c .before .before .before .before .args in reads-as (no-level (now (a .text)) (atOf (a .place)) (a .depth)
     (c .before .before .if1 .taken)) (c .leaf .ensures))
     (λ c κs. search needs)
     (λ c κs. search needs)
@@ -92,12 +93,12 @@ pub +factor+product+sum-spec : {M : Type 1} → statement M
     let u = c .before .before .before in
     let s = u .before .before .before .before .before in
     let B = begins (s .pre .1) (u .before .byte-at .ensures) (u .before .before .at-of .ensures) (u .if2 .taken) (omega arith) in
-    inner-small B (c .before .factor .ensures))
+    inner-small B refl (c .before .factor .ensures))
     (λ c.
     let u = c .before .before .before .before in
     let s = u .before .before .before .before .before in
     let B = begins (s .pre .1) (u .before .byte-at .ensures) (u .before .before .at-of .ensures) (u .if2 .taken) (omega arith) in
-    minus-read B (s .args .depth) (u .before .before .before .if1 .left) (u .if2 .taken) (c .before .before .factor .ensures) (c .joined .ensures))
+    minus-read _ _ _ (s .args .depth) B (u .before .before .before .if1 .left) (u .if2 .taken) (c .before .before .factor .ensures) (c .joined .ensures))
     -- a bracket
     (λ c. let z = asks-small (c .before .before .before .before .before .before .before .pre .1) in omega arith)
     (λ c. pos-of-ne-zero (c .before .before .before .before .before .if1 .left))
@@ -110,24 +111,24 @@ pub +factor+product+sum-spec : {M : Type 1} → statement M
     let u = c .before .before in
     let s = u .before .before .before .before .before .before in
     let B = begins (s .pre .1) (u .before .before .byte-at .ensures) (u .before .before .before .at-of .ensures) (u .if3 .taken) (omega arith) in
-    (s .pre .1 .short, inner-small B (c .sum .ensures)))
+    (s .pre .1 .short, inner-small B refl (c .sum .ensures)))
     (λ c.
     let u = c .before .before .before in
     let s = u .before .before .before .before .before .before in
     let B = begins (s .pre .1) (u .before .before .byte-at .ensures) (u .before .before .before .at-of .ensures) (u .if3 .taken) (omega arith) in
-    bracket-read B (s .args .depth) (u .before .before .before .before .if1 .left) (u .before .if2 .left) (u .if3 .taken) (c .before .sum .ensures)
+    bracket-read _ _ _ (s .args .depth) B (u .before .before .before .before .if1 .left) (u .before .if2 .left) (u .if3 .taken) (c .before .sum .ensures)
     (c .bracketed .ensures))
     -- a leaf
     (λ c κs. c .before .before .before .before .before .before .before .pre .1)
     (λ c.
     let a = c .before .before .before .before .before .before .before .before .args in
     let text = now (a .text) in
-    reads-as _ _ _ _ (at-leaf text (atOf (a .place)) (a .depth) _ (c .before .before .before .before .before .before .if1 .left)
+    reads-as (at-leaf text (atOf (a .place)) (a .depth) _ (c .before .before .before .before .before .before .if1 .left)
     (c .before .before .before .before .byte-at .ensures ∙ ap (λ (k : ℕ). getD text k 0) (c .before .before .before .before .before .at-of .ensures))
     (c .before .before .before .if2 .left) (c .before .before .if3 .left)) (c .leaf2 .ensures)))
     -- ---- product: the first factor, no sign, a sign and its right factor
     (λ t.
-    let T : (u : product-lts.Else1 (product-claims t) (at 1 product.Pre t) product.Post (Inv productSign factorOf) μ-loop) → Turn _ _ _ _ _ _ _ _ _ =
+    let T : (u : product-lts.Else1 (product-claims t) (at 1 product.Pre t) product.Post (Inv productSign factorOf) μ-loop) → Turn _ _ _ _ _ _ =
     λ u. turn (u .before .before .before .before .before .before .pre .1) (u .before .before .loop .inv) refl (u .before .sign-at .ensures) (u .if1 .left) in
     product-lts.spec (product-claims t) (at 1 product.Pre t) product.Post (Inv productSign factorOf) μ-loop
     (λ c κs. let s = c .before .before in (same-place 0 (now (s .args .text)) (atOf (s .args .place)) (s .args .depth) t (s .pre .0), s .pre .1))
@@ -141,7 +142,7 @@ pub +factor+product+sum-spec : {M : Type 1} → statement M
     (λ c. going-on (T (c .before .before .before .before)) (c .before .before .factor2 .ensures) (c .joined .ensures)))
     -- ---- sum: the first product, no sign, a sign and its right product
     (λ t.
-    let T : (u : sum-lts.Else1 (sum-claims t) (at 2 sum.Pre t) sum.Post (Inv sumSign productOf) μ-loop) → Turn _ _ _ _ _ _ _ _ _ =
+    let T : (u : sum-lts.Else1 (sum-claims t) (at 2 sum.Pre t) sum.Post (Inv sumSign productOf) μ-loop) → Turn _ _ _ _ _ _ =
     λ u. turn (u .before .before .before .before .before .before .pre .1) (u .before .before .loop .inv) refl (u .before .sign-at .ensures) (u .if1 .left) in
     sum-lts.spec (sum-claims t) (at 2 sum.Pre t) sum.Post (Inv sumSign productOf) μ-loop
     (λ c κs. let s = c .before .before in (same-place 1 (now (s .args .text)) (atOf (s .args .place)) (s .args .depth) t (s .pre .0), s .pre .1))
