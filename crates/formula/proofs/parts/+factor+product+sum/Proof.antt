@@ -12,7 +12,7 @@ use borrow.Fn.PlainCycle.{Measures, is, falls, and}
 use Rattle.formula.specs.Reader.{Reader, Sign, sumSign, productSign, factorOf, productOf}
 use Rattle.formula.specs.Told.{atOf, endOf}
 use Rattle.formula.proofs.Measure.{leftOver, same-place}
-use Rattle.formula.proofs.Reading.{asks-small, reads-as, no-level, at-leaf, begins, inner-asks, inner-small, minus-read, bracket-read}
+use Rattle.formula.proofs.Reading.{asks-small, reads-as, no-level, at-leaf, Begins, begins, inner-asks, inner-small, minus-read, bracket-read}
 use Rattle.formula.proofs.Going.{Going, Turn, going-starts, going-ends, turn, sign-small, right-asks, right-small, going-less, going-on}
 use Rattle.formula.proofs.parts.factor.Reads as factor
 use Rattle.formula.proofs.parts.factor.Kinds as kinds
@@ -49,6 +49,25 @@ Inv sign operand text out₀ place depth left₀ out left =
 abbrev μ-loop : sum-lts.MeasureT-loop
 μ-loop text out₀ place depth left₀ out left = length text - atOf left
 
+-- what each learns of the functions that it calls
+abbrev factor-claims : ℕ → factor-lts.Claims
+factor-claims t = (
+  leaf.Asked,
+  leaf.Learnt,
+  at-of.Asked,
+  at-of.Learnt,
+  byte-at.Asked,
+  byte-at.Learnt,
+  below 0 factor.Pre t,
+  factor.Post,
+  joined.Asked,
+  joined.Learnt,
+  below 2 sum.Pre t,
+  sum.Post,
+  bracketed.Asked,
+  bracketed.Learnt,
+)
+
 abbrev sum-claims : ℕ → sum-lts.Claims
 sum-claims t = (below 1 product.Pre t, product.Post, sign-at.Asked, sign-at.Learnt, joined.Asked, joined.Learnt)
 
@@ -58,66 +77,35 @@ product-claims t = (below 0 factor.Pre t, factor.Post, sign-at.Asked, sign-at.Le
 pub +factor+product+sum-spec : {M : Type 1} → statement M
 +factor+product+sum-spec =
     close (μ 0) (μ 1) (μ 2)
-    -- ---- factor
-    (λ t. factor-lts.spec (
-      leaf.Asked,
-      leaf.Learnt,
-      at-of.Asked,
-      at-of.Learnt,
-      byte-at.Asked,
-      byte-at.Learnt,
-      below 0 factor.Pre t,
-      factor.Post,
-      joined.Asked,
-      joined.Learnt,
-      below 2 sum.Pre t,
-      sum.Post,
-      bracketed.Asked,
-      bracketed.Learnt,
-    )
-    (at 0 factor.Pre t) factor.Post
+    -- ---- factor: what a minus and what a bracket begins
+    (λ t.
+    let M : (u : factor-lts.Then2 (factor-claims t) (at 0 factor.Pre t) factor.Post) → Begins _ _ _ = λ u.
+    begins (u .before .before .before .before .before .pre .1) (u .before .byte-at .ensures) (u .before .before .at-of .ensures) (u .if2 .taken)
+    (omega arith) in
+    let N : (u : factor-lts.Then3 (factor-claims t) (at 0 factor.Pre t) factor.Post) → Begins _ _ _ = λ u.
+    begins (u .before .before .before .before .before .before .pre .1) (u .before .before .byte-at .ensures) (u .before .before .before .at-of .ensures)
+    (u .if3 .taken) (omega arith) in
+    factor-lts.spec (factor-claims t) (at 0 factor.Pre t) factor.Post
     -- no level is left
     (λ c κs. c .before .before .before .pre .1)
-    (λ c. let a = c .before .before .before .before .args in reads-as (no-level (now (a .text)) (atOf (a .place)) (a .depth)
-    (c .before .before .if1 .taken)) (c .leaf .ensures))
+    (λ c. let a = c .before .before .before .before .args in reads-as (no-level (now (a .text)) (atOf (a .place)) (a .depth) (c .before .before .if1 .taken))
+    (c .leaf .ensures))
     (λ c κs. search needs)
     (λ c κs. search needs)
     -- a minus
-    (λ c. let z = asks-small (c .before .before .before .before .before .before .pre .1) in omega arith)
+    (λ c. omega (arith, asks-small (M (c .before) .asks)))
     (λ c. pos-of-ne-zero (c .before .before .before .before .if1 .left))
-    (λ c κs.
-    let s = c .before .before .before .before .before .before in
-    let B = begins (s .pre .1) (c .before .before .byte-at .ensures) (c .before .before .before .at-of .ensures) (c .before .if2 .taken) (omega arith) in
-    inner-asks B 0 (s .args .depth) t (s .pre .0) (omega arith))
-    (λ c κs.
-    let u = c .before .before .before in
-    let s = u .before .before .before .before .before in
-    let B = begins (s .pre .1) (u .before .byte-at .ensures) (u .before .before .at-of .ensures) (u .if2 .taken) (omega arith) in
-    inner-small B refl (c .before .factor .ensures))
-    (λ c.
-    let u = c .before .before .before .before in
-    let s = u .before .before .before .before .before in
-    let B = begins (s .pre .1) (u .before .byte-at .ensures) (u .before .before .at-of .ensures) (u .if2 .taken) (omega arith) in
-    minus-read _ _ _ (s .args .depth) B (u .before .before .before .if1 .left) (u .if2 .taken) (c .before .before .factor .ensures) (c .joined .ensures))
+    (λ c κs. let s = c .before .before .before .before .before .before in inner-asks (M (c .before)) 0 (s .args .depth) t (s .pre .0) (omega arith))
+    (λ c κs. inner-small (M (c .before .before .before)) refl (c .before .factor .ensures))
+    (λ c. let u = c .before .before .before .before in minus-read _ _ _ _ (M u) (u .before .before .before .if1 .left) (u .if2 .taken)
+    (c .before .before .factor .ensures) (c .joined .ensures))
     -- a bracket
-    (λ c. let z = asks-small (c .before .before .before .before .before .before .before .pre .1) in omega arith)
+    (λ c. omega (arith, asks-small (N (c .before) .asks)))
     (λ c. pos-of-ne-zero (c .before .before .before .before .before .if1 .left))
-    (λ c κs.
-    let u = c .before in
-    let s = u .before .before .before .before .before .before in
-    let B = begins (s .pre .1) (u .before .before .byte-at .ensures) (u .before .before .before .at-of .ensures) (u .if3 .taken) (omega arith) in
-    inner-asks B 2 (s .args .depth) t (s .pre .0) (omega arith))
-    (λ c κs.
-    let u = c .before .before in
-    let s = u .before .before .before .before .before .before in
-    let B = begins (s .pre .1) (u .before .before .byte-at .ensures) (u .before .before .before .at-of .ensures) (u .if3 .taken) (omega arith) in
-    (s .pre .1 .short, inner-small B refl (c .sum .ensures)))
-    (λ c.
-    let u = c .before .before .before in
-    let s = u .before .before .before .before .before .before in
-    let B = begins (s .pre .1) (u .before .before .byte-at .ensures) (u .before .before .before .at-of .ensures) (u .if3 .taken) (omega arith) in
-    bracket-read _ _ _ (s .args .depth) B (u .before .before .before .before .if1 .left) (u .before .if2 .left) (u .if3 .taken) (c .before .sum .ensures)
-    (c .bracketed .ensures))
+    (λ c κs. let s = c .before .before .before .before .before .before .before in inner-asks (N (c .before)) 2 (s .args .depth) t (s .pre .0) (omega arith))
+    (λ c κs. (N (c .before .before) .asks .short, inner-small (N (c .before .before)) refl (c .sum .ensures)))
+    (λ c. let u = c .before .before .before in bracket-read _ _ _ _ (N u) (u .before .before .before .before .if1 .left) (u .before .if2 .left) (u .if3 .taken)
+    (c .before .sum .ensures) (c .bracketed .ensures))
     -- a leaf
     (λ c κs. c .before .before .before .before .before .before .before .pre .1)
     (λ c.
