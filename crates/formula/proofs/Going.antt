@@ -11,7 +11,7 @@ use Rattle.formula.specs.Formula.{Operator, Plus, Less, Times, Over, For
 use Rattle.formula.specs.Reader.{Read, Found, Outside, Reader, then, Sign, Joins, Ends, more, joinedBy}
 use Rattle.formula.specs.File.{codeOf}
 use Rattle.formula.specs.Postfix.{postfixOf}
-use Rattle.formula.specs.Told.{mostText, atOf, endOf, nowhere, longerOf, signCode, Asks, Move, Tells, Reads}
+use Rattle.formula.specs.Told.{mostText, atOf, endOf, nowhere, longerOf, signCode, Asks, Move, Tells, Reads, ReadsBy}
 use Rattle.formula.proofs.Cases.{never, ends-never, more-ends, more-joins}
 use Rattle.formula.proofs.Stores.{sets-append, sets-over}
 use Rattle.formula.proofs.Places.{place-is, nowhere-at, longer-none, longer-is, next-at, next-end, longer-at, longer-end}
@@ -98,8 +98,7 @@ next p short J = (next-at p (omega (arith, J .inside)), next-end p (omega (arith
 
 module _ {sign : ℕ → Sign} {operand : Reader} {text : List ℕ} {place : ℕ} (short : length text ≤ mostText) where
   -- the first operand
-  pub going-starts : {before start : List ℕ} {p : ℕ} → Reads text (record { place = place; next = p; before = before; after = start })
-      (operand (drop (atOf place) text))
+  pub going-starts : {before start : List ℕ} {p : ℕ} → ReadsBy operand text (record { place = place; next = p; before = before; after = start })
       → Going sign operand text (record { place = place; next = p; before = start; after = start }) (endOf p)
   going-starts {before} {start} {p} R = go (operand (drop (atOf place) text)) refl R
     where
@@ -131,10 +130,10 @@ module _ {sign : ℕ → Sign} {operand : Reader} {text : List ℕ} {place : ℕ
 
   -- no sign follows
   pub going-ends : {before start after : List ℕ} {q p code : ℕ}
-      → Reads text (record { place = place; next = q; before = before; after = start }) (operand (drop (atOf place) text))
+      → ReadsBy operand text (record { place = place; next = q; before = before; after = start })
       → Going sign operand text (record { place = place; next = p; before = start; after = after }) (endOf q)
       → code ≡ signCode (sign (getD text (atOf p) 0)) → code ≡ 0
-      → Reads text (record { place = place; next = p; before = before; after = after }) (joinedBy sign operand (drop (atOf place) text))
+      → ReadsBy (joinedBy sign operand) text (record { place = place; next = p; before = before; after = after })
   going-ends {before} {start} {after} {q} {p} {code} Q G s z = go (G .so-far) (G .goes) (G .reads) (operand (drop (atOf place) text)) refl Q
     where
       e : sign (getD text (atOf p) 0) ≡ Ends
@@ -143,7 +142,7 @@ module _ {sign : ℕ → Sign} {operand : Reader} {text : List ℕ} {place : ℕ
       go : (x : Read) → joinedBy sign operand (drop (atOf place) text) ≡ then x (λ l rest. more sign operand (G .turns) l rest)
           → Reads text (record { place = place; next = p; before = start; after = after }) x → (y : Read) → operand (drop (atOf place) text) ≡ y
           → Reads text (record { place = place; next = q; before = before; after = start }) y
-          → Reads text (record { place = place; next = p; before = before; after = after }) (joinedBy sign operand (drop (atOf place) text))
+          → ReadsBy (joinedBy sign operand) text (record { place = place; next = p; before = before; after = after })
       go Outside g R y f Q = reads-as g (record { told = R .told })
       go (Found l rest) g R Outside f Q =
           let h = ap (λ (r : List ℕ). more sign operand (G .turns) l r) (R .told .rest-is) ∙ ended sign operand text (G .turns) l (atOf p) e in
@@ -205,7 +204,7 @@ module _ {sign : ℕ → Sign} {operand : Reader} {text : List ℕ} {m : Move} {
       → (leftOver rank text (atOf (m .next + 1)) depth < t) × Asks text (m .next + 1)
   right-asks rank depth t e = (right-place rank text (atOf (m .place)) (atOf (m .next + 1)) depth t e (T .later), T .asks)
 
-  module _ {middle : List ℕ} {q : ℕ} (Q : Reads text (rightOf m q middle) (operand (drop (atOf (m .next + 1)) text))) where
+  module _ {middle : List ℕ} {q : ℕ} (Q : ReadsBy operand text (rightOf m q middle)) where
     pub right-small : q < 131072
     right-small = reads-small _ (T .asks .short) (T .room) Q
 

@@ -17,7 +17,7 @@ use Rattle.formula.specs.Grammar.{areDigits}
 use Rattle.formula.specs.Reader.{Read, Found, Outside, then, isLetter, constantOf, leafOf, closed, factorOf, sumOf}
 use Rattle.formula.specs.File.{minusCode}
 use Rattle.formula.specs.Postfix.{postfixOf}
-use Rattle.formula.specs.Told.{mostText, atOf, endOf, nowhere, closedAt, longerOf, Asks, Move, Tells, Reads}
+use Rattle.formula.specs.Told.{mostText, atOf, endOf, nowhere, closedAt, longerOf, Asks, Move, Tells, Reads, ReadsBy}
 use Rattle.formula.proofs.Cases.{factor-minus, factor-bracket, factor-leaf}
 use Rattle.formula.proofs.Digits.{letter-range}
 use Rattle.formula.proofs.Stores.{sets-append}
@@ -96,7 +96,7 @@ module _ {text : List ℕ} {m : Move} where
       reads-as (rw (le-leb 8 (length s) n, d)) R
 
   pub letter-reads : (b : ℕ) → length text ≤ mostText → atOf (m .place) < length text → b ≡ getD text (atOf (m .place)) 0 → isLetter b ≡ true
-      → m .next ≡ m .place + 513 → m .after ≡ set (m .before) (endOf (m .place)) b → Reads text m (leafOf (drop (atOf (m .place)) text))
+      → m .next ≡ m .place + 513 → m .after ≡ set (m .before) (endOf (m .place)) b → ReadsBy leafOf text m
   unfolding leafOf postfixOf
   letter-reads b short h g i is e =
       let a = both (m .place) 1 (omega arith) in
@@ -278,15 +278,15 @@ module _ {text : List ℕ} {place b : ℕ} (B : Begins text place b) where
   inner-small {i} {x} e R = reads-small x (B .asks .short) (subst (λ (k : ℕ). endOf k < atOf k) (sym e) (B .room)) R
 
 module _ (text : List ℕ) (m : Move) (b d : ℕ) (B : Begins text (m .place) b) (some : d ≡ 0 → ⊥) {p : ℕ} where
-  pub minus-read : {left : List ℕ} → b ≡ 0x2D → Reads text (innerOf m p left) (factorOf (d - 1) (drop (atOf (m .place + 1)) text))
-      → JoinedBehind (innerOf m p left) m minusCode → Reads text m (factorOf d (drop (atOf (m .place)) text))
+  pub minus-read : {left : List ℕ} → b ≡ 0x2D → ReadsBy (factorOf (d - 1)) text (innerOf m p left) → JoinedBehind (innerOf m p left) m minusCode
+      → ReadsBy (factorOf d) text m
   minus-read e R E =
       reads-as (at-minus text (atOf (m .place)) d b some (B .byte-is) e
       ∙ ap (λ (k : ℕ). then (factorOf (d - 1) (drop k text)) (λ f rest. Found (Minus f) rest)) (sym (B .next)))
       (minus-reads text m (B .asks .short) (B .inside) _ R E)
 
-  pub bracket-read : (b ≡ 0x2D → ⊥) → b ≡ 0x28 → Reads text (innerOf m p (m .after)) (sumOf (d - 1) (drop (atOf (m .place + 1)) text))
-      → m .next ≡ closedAt text p → Reads text m (factorOf d (drop (atOf (m .place)) text))
+  pub bracket-read : (b ≡ 0x2D → ⊥) → b ≡ 0x28 → ReadsBy (sumOf (d - 1)) text (innerOf m p (m .after)) → m .next ≡ closedAt text p
+      → ReadsBy (factorOf d) text m
   bracket-read n e R E =
       reads-as (at-bracket text (atOf (m .place)) d b some (B .byte-is) n e ∙ ap (λ (k : ℕ). then (sumOf (d - 1) (drop k text)) closed) (sym (B .next)))
       (brackets-read text m (B .asks .short) (B .inside) _ R E)

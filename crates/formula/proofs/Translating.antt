@@ -10,7 +10,7 @@ use lib.Seq.{sets, length-sets}
 use Rattle.formula.specs.Formula.{Formula, needOf}
 use Rattle.formula.specs.Reader.{Read, Found, Outside, then, mostNested, sumOf, whole, formulaOf}
 use Rattle.formula.specs.File.{properIn}
-use Rattle.formula.specs.Told.{mostText, atOf, endOf, nowhere, Asks, Reads}
+use Rattle.formula.specs.Told.{mostText, atOf, endOf, nowhere, Asks, Reads, ReadsBy}
 use Rattle.formula.specs.Postfix.{Token, LetterAt, Digits, Gives, postfixOf, tokensOf, spelling, Spells, stepped, walked, unwritten, recordsOf}
 use Rattle.formula.specs.Translation.{letterBytes, mostNeed, Translated, turnedAway, judged, judgedBy, translationOf, Translates}
 use Rattle.formula.specs.declared.postfix.Written.{Written}
@@ -114,7 +114,7 @@ pub first-asks : (text : List ℕ) → length text ≤ mostText → Asks text 0
 first-asks text h = let a = first-at in let e = first-end in record { short = h; inside = omega arith; few = omega arith }
 
 module _ (text before after : List ℕ) (p : ℕ) (short : length text ≤ mostText)
-    (R : Reads text (record { place = 0; next = p; before = before; after = after }) (sumOf mostNested (drop (atOf 0) text))) where
+    (R : ReadsBy (sumOf mostNested) text (record { place = 0; next = p; before = before; after = after })) where
   from-first : Reads text (record { place = 0; next = p; before = before; after = after }) (sumOf mostNested text)
   from-first = subst (λ (i : ℕ). Reads text (record { place = 0; next = p; before = before; after = after }) (sumOf mostNested (drop i text))) first-at R
 
@@ -152,7 +152,7 @@ take-front [] l = refl
 take-front (x ∷ a) l = ap (λ (m : List ℕ). x ∷ m) (take-front a l)
 
 pub all : (text before after : List ℕ) (p : ℕ) → length text ≤ mostText
-    → Reads text (record { place = 0; next = p; before = before; after = after }) (sumOf mostNested (drop (atOf 0) text))
+    → ReadsBy (sumOf mostNested) text (record { place = 0; next = p; before = before; after = after })
     → length before ≡ mostText
     → (p ≡ nowhere → ⊥) → atOf p ≡ length text → All text after p
 unfolding formulaOf

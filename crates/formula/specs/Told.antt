@@ -8,7 +8,7 @@ use lib.Dec.{eqb}
 use lib.ListN.{length, drop, getD}
 use lib.Seq.{sets}
 use Rattle.formula.specs.Formula.{Formula}
-use Rattle.formula.specs.Reader.{Read, Found, Outside, Sign, Joins, Ends, sumSign, productSign}
+use Rattle.formula.specs.Reader.{Read, Found, Outside, Reader, Sign, Joins, Ends, sumSign, productSign}
 use Rattle.formula.specs.File.{codeOf}
 use Rattle.formula.specs.declared.parts.Rank.{Rank}
 use Rattle.formula.specs.declared.parts.Rank.the-variants.{Sum, Product}
@@ -90,3 +90,7 @@ Told text m Outside = m .next ≡ nowhere
 -- a function that reads x from a place on
 pub record Reads (text : List ℕ) (m : Move) (x : Read) : Type 0 where
   pub told : Told text m x
+
+-- a reader's answer to the text from the place on
+abbrev pub ReadsBy : Reader → List ℕ → Move → Type 0
+ReadsBy reader text m = Reads text m (reader (drop (atOf (m .place)) text))
