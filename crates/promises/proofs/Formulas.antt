@@ -15,11 +15,9 @@ use Rattle.float.specs.Convert.{chsf}
 use Rattle.formula.specs.Formula as trees
 use Rattle.formula.specs.Formula.{needOf as their-need}
 use Rattle.formula.specs.Reader.{Read, Found, Outside, formulaOf, factorOf, more, leafOf}
-use Rattle.formula.specs.File.{letterWord, properIn, fileOf, repliesTo as their-replies}
-use Rattle.formula.specs.Evaluation.{evaluated as their-word}
+use Rattle.formula.specs.File.{letterWord, properIn, fileOf}
 use Rattle.formula.specs.Translation.{translationOf}
 use Rattle.formula.proofs.Texts.{read-is, one-tree}
-use Rattle.formula.proofs.Sizes.{replies-few}
 use Rattle.promises.specs.Subjects.{Wrote, formulaCall}
 use Rattle.promises.specs.FloatWords.{FloatWord}
 use Rattle.promises.specs.PrintedText.{written}
@@ -27,11 +25,12 @@ use Rattle.promises.specs.FormulaText as book
 use Rattle.promises.specs.FormulaText.{Formula, IsText, needOf}
 use Rattle.promises.specs.Given.{settingsIn, runCall}
 use Rattle.promises.specs.Formulas.{FormulaDetermined, OneTree, Stated, Refuses, no-formula, improper, needs-more, no-room, Takes, FormulaRefusals}
-use Rattle.promises.specs.Formulas.{fileIn, Evaluates, EvaluatesCall, FormulaRuns}
+use Rattle.promises.specs.Formulas.{fileIn, FormulaRuns}
 use Rattle.promises.specs.Formulas.{WrongTranslators, lettersGiven, FormulaExamples}
 use Rattle.promises.proofs.Measures.{theirs-rest}
-use Rattle.promises.proofs.FormulaText.{tree, leaf, tree-back, leaf-back, need-is, proper-is, file-is, word-is, replies-are, theirs-sum, theirs-text}
+use Rattle.promises.proofs.FormulaText.{tree, leaf, tree-back, leaf-back, need-is, proper-is, file-is, theirs-sum, theirs-text}
 use Rattle.promises.proofs.FormulaText.{ours-text}
+use Rattle.promises.proofs.FormulaRuns.{replies-few}
 use Rattle.promises.proofs.Translations as crate
 
 pub formula-determined : FormulaDetermined
@@ -116,23 +115,14 @@ formula-refusals = record {
 -- ---- the run
 pub formula-runs : FormulaRuns
 formula-runs = record {
-  records = λ on s m text letters file f room T B six R h.
-      subst₂ (λ (l : List ℕ) (w : ℕ). Evaluates on s m (fileIn (formulaCall text letters file)) l room w) (replies-are f) (word-is letters (on .rule) f)
-      (crate.as-records on s m text letters file (tree f) room (theirs-takes T) B six (theirs-rest R)
-      (subst (λ (l : List ℕ). length l ≤ room) (sym (replies-are f)) h));
-  calls = λ g C state replies report text letters file f T B S h w n r.
-      subst₂ (λ (l : List ℕ) (v : ℕ). EvaluatesCall (runCall g state (fileIn (formulaCall text letters file)) replies report)
-      (fileIn (formulaCall text letters file)) l replies v)
-      (replies-are f) (word-is letters (settingsIn g .rule) f)
-      (crate.as-call g C state replies report text letters file (tree f) (theirs-takes T) B S h w n (subst (λ (l : List ℕ). length l ≤ length replies)
-      (sym (replies-are f)) r));
-  proper = λ rule text letters file f T B. subst FloatWord (word-is letters rule f) (crate.word-proper rule text letters file (tree f) (theirs-takes T) B);
+  records = λ on s m text letters file f room T B six R h. crate.as-records on s m text letters file f room (theirs-takes T) B six (theirs-rest R) h;
+  calls = λ g C state replies report text letters file f T B. crate.as-call g C state replies report text letters file f (theirs-takes T) B;
+  proper = λ rule text letters file f T B. crate.word-proper rule text letters file f (theirs-takes T) B;
   short = λ text letters file f T.
       let t = theirs-takes T in
       let n = crate.file-short text letters (length file) (tree f) t in (
         rw (crate.file-is text letters file (tree f) t) n,
-        subst (λ (l : List ℕ). length l ≤ 1664) (replies-are f)
-            (omega (arith, replies-few letters (tree f))),
+        omega (arith, replies-few letters f),
       );
 }
 

@@ -28,13 +28,15 @@ use Rattle.state_bytes.proofs.States.{state-ready}
 use Rattle.formula.specs.Formula.{Plus, Less, Times, Over, Formula, Letter, Constant, Minus, Brackets, Joined, nested, needOf}
 use Rattle.formula.specs.Grammar.{IsSum, product, plus, less, IsProduct, factor, times, over, IsFactor, letter, constant, minus, brackets, IsText}
 use Rattle.formula.specs.Reader.{Read, Found, Outside, formulaOf, factorOf, more, leafOf}
-use Rattle.formula.specs.File.{letterWord, properIn, fileOf, repliesTo}
-use Rattle.formula.specs.Evaluation.{evaluated}
+use Rattle.formula.specs.File.{letterWord, properIn, fileOf}
 use Rattle.formula.specs.Translation.{Translated, turnedAway as refusing, judged, translationOf, numberOf}
 use Rattle.formula.specs.declared.Refusal.the-variants.{Done, NoFormula, Improper, NeedsMore, NoRoom}
 use Rattle.formula.proofs.Texts.{read-is, is-read, one-tree}
 use Rattle.formula.proofs.Translating.{letters-wrong, text-empty, text-long, text-fits}
-use Rattle.formula.proofs.Sizes.{file-most, replies-few, file-bytes}
+use Rattle.formula.proofs.Sizes.{file-most, file-bytes}
+use Rattle.promises.specs.FormulaText as book
+use Rattle.promises.specs.FormulaText.{repliesTo, evaluated}
+use Rattle.promises.proofs.FormulaText.{tree}
 use Rattle.promises.proofs.FormulaLeaves.{leaves}
 use Rattle.promises.proofs.FormulaRuns.{AfterFile, evaluates}
 use Rattle.pundaliket.specs.FormulaCall.{Wrote, wroteBy, formulaCall}
@@ -204,9 +206,9 @@ pub file-is : (text letters file : List ℕ) (f : Formula) → Takes text letter
 file-is text letters file f T = ap fileIn (is-translated text letters file f T) ∙ take-at (fileOf letters f) (drop (length (fileOf letters f)) file)
     (length (fileOf letters f)) refl
 
-record-run : (on : Settings) (s : State) (m : Memory) (text letters file : List ℕ) (f : Formula) → Takes text letters (length file) f → Bytes letters
-    → length (s .stack) ≡ 16 → AtRest s
-    → AfterFile on s m (fileOf letters f) (repliesTo f) (evaluated (on .rule) letters f)
+record-run : (on : Settings) (s : State) (m : Memory) (text letters file : List ℕ) (f : book.Formula) → Takes text letters (length file) (tree f)
+    → Bytes letters → length (s .stack) ≡ 16 → AtRest s
+    → AfterFile on s m (fileOf letters (tree f)) (repliesTo f) (evaluated (on .rule) letters f)
 record-run on s m text letters file f T B six R = evaluates on letters f s m (leaves letters (T .stated .eight-words) B (T .stated .is-text .inside)
     (T .proper)) (T .need) six R
 
@@ -238,23 +240,24 @@ byte-16 n bytes c size L p = ⊎-elim
     ∙ ap (λ (t : Bool). cond t 1 0) p)
     size
 
-call-run : (g : Given) → Chosen g → (state replies report text letters file : List ℕ) (f : Formula) → Takes text letters (length file) f → Bytes letters
-    → Bytes state → IsState state
+call-run : (g : Given) → Chosen g → (state replies report text letters file : List ℕ) (f : book.Formula)
+    → Takes text letters (length file) (tree f) → Bytes letters → Bytes state → IsState state
     → getD state 16 0 ≡ 0 → length report ≡ 9 → length (repliesTo f) ≤ length replies
-    → EvaluatesCall (runCall g state (fileOf letters f) replies report) (fileOf letters f) (repliesTo f) replies (evaluated (settingsIn g .rule) letters f)
+    → EvaluatesCall (runCall g state (fileOf letters (tree f)) replies report) (fileOf letters (tree f)) (repliesTo f) replies
+    (evaluated (settingsIn g .rule) letters f)
 call-run g C state replies report text letters file f T B S H w n r =
     let h = theirs-state H in
     let on = settingsIn g in
-    let F = fileOf letters f in
+    let F = fileOf letters (tree f) in
     let c = cardIn on state in
     let A = stands-for on state h in
     let size = ours-state h .size in
-    let short = file-short text letters (length file) f T in
+    let short = file-short text letters (length file) (tree f) T in
     let L = record-run on (stateOf state) (memoryIn state) text letters file f T B (A .laid .sixteen)
     (record { taken = lt-leb 128 (getD state 17 0) (state-ready state h); whole = ap (λ (k : ℕ). eqb k 1) w }) in
     let ran = L .ran .ran (length replies) r in
     let R = subst (λ (o : Outcome). Reports (length state) (runCall g state F replies report) o replies) ran (run-call g C c refl state F replies report S
-    (file-bytes letters f) H A n (omega arith)) in
+    (file-bytes letters (tree f)) H A n (omega arith)) in
     let counts = counts-exact g C state F replies report n H (omega arith) in
     record {
       result = R .result;
@@ -262,19 +265,19 @@ call-run g C state replies report text letters file f T B S H w n r =
       all-taken = counts .0 ∙ ap (λ (o : Outcome). o .taken) ran;
       all-written = counts .1 ∙ ap (λ (o : Outcome). length (o .written)) ran;
       on-top = bytes-begin (length state) _ _ size (R .state) ∙ L .on-top;
-      again = state-stays g state F replies report S (file-bytes letters f) H .0;
+      again = state-stays g state F replies report S (file-bytes letters (tree f)) H .0;
       whole = byte-16 (length state) _ _ size (R .state) (L .at-rest .whole);
     }
 
 -- a file that is run as records
-pub as-records : (on : Settings) (s : State) (m : Memory) (text letters file : List ℕ) (f : Formula) (room : ℕ) → Takes text letters (length file) f
+pub as-records : (on : Settings) (s : State) (m : Memory) (text letters file : List ℕ) (f : book.Formula) (room : ℕ) → Takes text letters (length file) (tree f)
     → Bytes letters
     → length (s .stack) ≡ 16 → AtRest s → length (repliesTo f) ≤ room → Evaluates on s m (fileIn (formulaCall text letters file)) (repliesTo f) room
     (evaluated (on .rule) letters f)
 as-records on s m text letters file f room T B six R h =
     let L = record-run on s m text letters file f T B six R in
     let w = evaluated (on .rule) letters f in
-    subst (λ (l : List ℕ). Evaluates on s m l (repliesTo f) room w) (sym (file-is text letters file f T)) (record {
+    subst (λ (l : List ℕ). Evaluates on s m l (repliesTo f) room w) (sym (file-is text letters file (tree f) T)) (record {
       end = L .end;
       memory = L .memory;
       ran = L .ran .ran room h;
@@ -284,17 +287,17 @@ as-records on s m text letters file f room T B six R h =
     })
 
 -- and through the call
-pub as-call : (g : Given) → Chosen g → (state replies report text letters file : List ℕ) (f : Formula) → Takes text letters (length file) f → Bytes letters
-    → Bytes state
+pub as-call : (g : Given) → Chosen g → (state replies report text letters file : List ℕ) (f : book.Formula)
+    → Takes text letters (length file) (tree f) → Bytes letters → Bytes state
     → IsState state → getD state 16 0 ≡ 0 → length report ≡ 9 → length (repliesTo f) ≤ length replies
     → EvaluatesCall (runCall g state (fileIn (formulaCall text letters file)) replies report) (fileIn (formulaCall text letters file)) (repliesTo f) replies
     (evaluated (settingsIn g .rule) letters f)
 as-call g C state replies report text letters file f T B S h w n r =
     subst (λ (l : List ℕ). EvaluatesCall (runCall g state l replies report) l (repliesTo f) replies (evaluated (settingsIn g .rule) letters f))
-    (sym (file-is text letters file f T))
+    (sym (file-is text letters file (tree f) T))
     (call-run g C state replies report text letters file f T B S h w n r)
 
-pub word-proper : (rule : Rule) (text letters file : List ℕ) (f : Formula) → Takes text letters (length file) f → Bytes letters
+pub word-proper : (rule : Rule) (text letters file : List ℕ) (f : book.Formula) → Takes text letters (length file) (tree f) → Bytes letters
     → FloatWord (evaluated rule letters f)
 word-proper rule text letters file f T B =
     ours-word (record-run (record { mode = Am9511A; rule = rule }) resetState emptyMemory text letters file f T B refl (record { taken = refl; whole = refl })
