@@ -5,15 +5,9 @@ use mathlib.Core.List.{List, [], _∷_, _++_}
 use lib.Dec.{ltb}
 use lib.IntN.{ℤ, pos, negsuc, natAbs}
 
--- the characters: 0 to 9, A to F, plus, minus
+-- the characters: 0 to 9, A to F
 abbrev pub hexDigit : ℕ → ℕ
 hexDigit d = cond (ltb d 10) (48 + d) (55 + d)
-
-abbrev pub plus : ℕ
-plus = 43
-
-abbrev pub minus : ℕ
-minus = 45
 
 -- the last k hex digits of a number, the highest first
 abbrev pub hexDigits : ℕ → ℕ → List ℕ
@@ -24,10 +18,10 @@ hexDigits (suc k) n = hexDigits k (n / 16) ++ (hexDigit (n % 16) ∷ [])
 abbrev pub sumDigits : ℕ
 sumDigits = 48
 
--- plus for zero
+-- `+`, or `-` below zero
 abbrev pub signOf : ℤ → ℕ
-signOf (pos n) = plus
-signOf (negsuc n) = minus
+signOf (pos n) = 43
+signOf (negsuc n) = 45
 
 abbrev pub sumText : ℤ → List ℕ
 sumText z = signOf z ∷ hexDigits sumDigits (natAbs z)
