@@ -5,7 +5,7 @@ use mathlib.Core.List.{List}
 use Prim.Native.Nat.{ℕ, _≤_, _<_}
 use native.Mathlib.Omega.{arith}
 use lib.Dec.{eqb}
-use lib.ListN.{length, drop, length-append, length-drop}
+use lib.ListN.{length}
 use borrow.Author.Tests.{lt-ltb, le-ltb, lt-leb, le-leb, leb-true, eq-eqb, ne-eqb}
 use Rattle.terms.specs.declared.Refusal.{Refusal}
 use Rattle.terms.specs.declared.Refusal.the-variants.{Done, InputTooLong, BadState, BadMode, BadRule}
@@ -17,7 +17,7 @@ use Rattle.chip.specs.Step.{given}
 use Rattle.chip.specs.State.{State}
 use Rattle.error_memory.specs.declared.Memory.{Memory}
 use Rattle.error_memory.specs.Memory.{Card, cardWith}
-use Rattle.record_files.specs.Run.{Runs, Outcome as Ended}
+use Rattle.record_files.specs.Run.{Runs}
 use Rattle.record_runs.specs.Run.{Outcome, runOf}
 use Rattle.state_bytes.specs.Bytes.{Sized, isState, memoryIn, cardIn, withMemory, laid, laidOut, doorOf, reportOf}
 use Rattle.state_bytes.specs.Calls.{settingsOf, ranOf, away, callUnder, signalUnder, callOf, Calls, joinedOf}
@@ -74,19 +74,12 @@ module _ (l : List ℕ) (s : State) (h : Sized l) (n : length (s .stack) ≡ 16)
   both-laid m k = other-memory (length l) s (memoryIn l) m n e same-length k
 
 -- ---- the run
--- the replies have as many bytes after a run as before it
-pub same-room : {S : Type 0} {o : Ended S} {refusal : ℕ} {s : S} {taken written : ℕ} {file room left : List ℕ}
-    → Runs o refusal s taken written file room left → length left ≡ length room
-same-room {o = o} {room = room} r =
-    ap length (r .left-is) ∙ length-append (o .written) (drop (length (o .written)) room)
-    ∙ omega (arith, length-drop (length (o .written)) room, r .written-is, r .fits)
-
 -- a run of the code, with its state and report laid out
-pub called : (size : ℕ) (o : Outcome) (refusal : ℕ) (c : Card) (taken written : ℕ) (input replies left state report : List ℕ)
-    → Runs o refusal c taken written input replies left → state ≡ laidOut size c → report ≡ reportOf refusal taken written
-    → Calls (ranOf size o replies) refusal state left report
-called size o refusal c taken written input replies left state report r a b = record {
-  result-is = r .refusal-is;
+pub called : (size : ℕ) (o : Outcome) (c : Card) (input replies left : List ℕ) {n refusal taken written : ℕ} {state report : List ℕ}
+    → Runs o refusal c taken written input replies left → n ≡ refusal → state ≡ laidOut size c → report ≡ reportOf refusal taken written
+    → Calls (ranOf size o replies) n state left report
+called size o c input replies left r e a b = record {
+  result-is = e ∙ r .refusal-is;
   state-is = a ∙ rw (r .state-is);
   replies-is = r .left-is;
   report-is = b ∙ rw (r .refusal-is, r .taken-is, r .written-is);

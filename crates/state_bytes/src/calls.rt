@@ -1,6 +1,9 @@
 // The run of a file on the bytes of a state: what the exported call does.
 use crate::admit;
+use crate::card_in;
+use crate::settle;
 use crate::turn_away;
+use record_runs::run::run_all;
 use terms::Mode;
 use terms::Refusal;
 use terms::Rule;
@@ -32,12 +35,8 @@ fn run_good(
         (runOf (cardIn (given mode rule) (now (state .entry))) (now (input .entry)) (length (now (replies .entry))))
         (now (replies .entry))) r (now (state .exit)) (now (replies .exit)) (now (report .exit)) ⌝ }
 {
-    let r = record_runs::run::run_all(crate::card_in(state), mode, rule, input, replies);
-    let chip = r.card.chip;
-    let memory = r.card.memory;
-    crate::put_card(state, chip, memory);
-    crate::fill_report(report, r.refusal as u8, r.place.taken, r.place.written);
-    r.refusal as u32
+    let r = run_all(card_in(state), mode, rule, input, replies);
+    settle(r, state, report)
 }
 
 // A file of records run on a state. Returns the refusal; 14, then 16, 17, 13, 9 before any record.
