@@ -26,11 +26,11 @@ pub run-small : (h : Held) (l : List ℕ) (room : ℕ) → runOf h l room .refus
 run-small = through lawful (λ h l room o. o .refusal ≤ 8) (λ h room. zero-le) (λ h l room p z. lawful .stops h l room z .0 .1) (λ h l room p z more. more)
 
 -- a run of the code, with its state and report laid out
-pub called : (size : ℕ) (o : Outcome Held) (refusal : ℕ) (c : Card) (taken written : ℕ) (input replies left state sheets report : List ℕ)
-    → Runs o refusal (held c sheets) taken written input replies left → state ≡ laidOut size c → report ≡ reportOf refusal taken written
-    → Calls (ranOf size o replies) refusal state sheets left report
-called size o refusal c taken written input replies left state sheets report r a b = record {
-  result-is = r .refusal-is;
+pub called : (size : ℕ) (o : Outcome Held) (c : Card) (input replies left sheets : List ℕ) {n refusal taken written : ℕ} {state report : List ℕ}
+    → Runs o refusal (held c sheets) taken written input replies left → n ≡ refusal → state ≡ laidOut size c → report ≡ reportOf refusal taken written
+    → Calls (ranOf size o replies) n state sheets left report
+called size o c input replies left sheets r e a b = record {
+  result-is = e ∙ r .refusal-is;
   state-is = a ∙ ap (λ (h : Held). laidOut size (h .card)) (r .state-is);
   sheets-is = ap (λ (h : Held). h .sheets) (r .state-is);
   replies-is = r .left-is;

@@ -9,8 +9,7 @@ use sheet_bytes::bytes::is_sheets;
 use sheet_figures::put_figures;
 use state_bytes::admit;
 use state_bytes::card_in;
-use state_bytes::fill_report;
-use state_bytes::put_card;
+use state_bytes::settle;
 use state_bytes::turn_away;
 use terms::Mode;
 use terms::Refusal;
@@ -48,11 +47,7 @@ fn run_good(
         (now (replies .exit)) (now (report .exit)) ⌝ }
 {
     let r = run_lines(card_in(state), mode, rule, sheets, input, replies);
-    let chip = r.card.chip;
-    let memory = r.card.memory;
-    put_card(state, chip, memory);
-    fill_report(report, r.refusal as u8, r.place.taken, r.place.written);
-    r.refusal as u32
+    settle(r, state, report)
 }
 
 // A file of records run on a state and on sheets. Returns the refusal; 14, then 16, 17, 13, 9 before any record.

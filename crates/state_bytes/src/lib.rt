@@ -6,6 +6,7 @@ use chip::State;
 use error_memory::Card;
 use error_memory::Memory;
 use numbers::put_word;
+use record_runs::step::Pass;
 use terms::Refusal;
 ghost use mathlib.Core.Path.{_≡_};
 ghost use Prim.Native.Nat.{_≤_};
@@ -115,15 +116,6 @@ pub fn put_memory(state: &mut [u8], m: Memory)
     }
 }
 
-// All bytes of a state.
-pub fn put_card(state: &mut [u8], chip: State, memory: Memory)
-    requires { ⌜ Sized (now state) ⌝ }
-    ensures { λ _. ⌜ now (state .exit) ≡ laid (length (now (state .entry))) (stateIn chip) memory ⌝ }
-{
-    put_chip(state, chip);
-    put_memory(state, memory);
-}
-
 // The 9 bytes of a report.
 pub fn fill_report(report: &mut [u8], refusal: u8, taken: u32, written: u32)
     requires { ⌜ length (now report) ≡ reportBytes ⌝ }
@@ -141,4 +133,19 @@ pub fn turn_away(report: &mut [u8], refusal: u8) -> u32
 {
     fill_report(report, refusal, 0, 0);
     refusal as u32
+}
+
+// What a run leaves: its card's bytes and its report. Returns the refusal.
+pub fn settle(r: Pass, state: &mut [u8], report: &mut [u8]) -> u32
+    requires { ⌜ Sized (now state) × (length (now report) ≡ reportBytes) × (r .refusal ≤ 8) ⌝ }
+    ensures { λ n. ⌜ (n ≡ r .refusal)
+        × (now (state .exit) ≡ laid (length (now (state .entry))) (stateIn (r .card .chip)) (r .card .memory))
+        × (now (report .exit) ≡ reportOf (r .refusal) (r .place .taken) (r .place .written)) ⌝ }
+{
+    let chip = r.card.chip;
+    let memory = r.card.memory;
+    put_chip(state, chip);
+    put_memory(state, memory);
+    fill_report(report, r.refusal as u8, r.place.taken, r.place.written);
+    r.refusal as u32
 }

@@ -1,15 +1,15 @@
--- `state_bytes::calls::keep_errors` meets its contract: what a command that is done leaves, else the memory as it is. Assumes nothing.
+-- `pundaliket::event::keep_errors` meets its contract: what a command that is done leaves, else the memory as it is. Assumes nothing.
 use mathlib.Core.Path.{sym, ap, _∙_}
 use borrow.Author.Tests.{eq-eqb, ne-eqb}
 use denote.Ref.{now}
 use Rattle.terms.specs.Refusal.{numberOf}
 use Rattle.error_memory.specs.declared.Memory.{Memory}
 use Rattle.error_memory.specs.Memory.{remembered}
 use Rattle.state_bytes.specs.Bytes.{withMemory}
-use Rattle.state_bytes.proofs.Calling.{unchanged-memory}
+use Rattle.pundaliket.proofs.Events.{unchanged-memory}
 use borrow.Author.Needs.{needs}
-use Rattle.state_bytes.proofs.calls.keep_errors.Statement.{statement}
-use Rattle.state_bytes.proofs.calls.keep_errors.Tie as tie
+use Rattle.pundaliket.proofs.event.keep_errors.Statement.{statement}
+use Rattle.pundaliket.proofs.event.keep_errors.Tie as tie
 
 returns : tie.Need-returns
 returns c =

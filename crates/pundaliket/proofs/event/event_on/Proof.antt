@@ -1,5 +1,6 @@
--- `state_bytes::calls::event_on` meets its contract: each kind by the method of its event. Assumes nothing.
+-- `pundaliket::event::event_on` meets its contract: each kind by the method of its event. Assumes nothing.
 use mathlib.Core.Path.{_≡_, refl, ap, _∙_}
+use mathlib.Core.List.{List}
 use Prim.Native.Nat.{ℕ, _≤_}
 use borrow.Author.Tests.{eq-eqb, ne-eqb}
 use lib.ListN.{length}
@@ -9,15 +10,18 @@ use Rattle.terms.specs.Limits.{stateBytes}
 use Rattle.chip.specs.State.{State, Answer}
 use Rattle.chip.specs.Event.{Command, Reset}
 use Rattle.chip.specs.Step.{pushOf, popOf, readOf, resetOf, acknowledgeOf, commandUnder, given}
+use Rattle.chip.specs.declared.Answer.{Answer as HeldAnswer}
+use Rattle.chip.specs.Held.{answerIn}
 use Rattle.chip.proofs.Held.{reset-done}
-use Rattle.error_memory.specs.Memory.{keptAfter}
+use Rattle.error_memory.specs.Memory.{keptAfter, around}
 use Rattle.state_bytes.specs.Bytes.{Sized, stateOf, memoryIn, withMemory}
-use Rattle.state_bytes.specs.Calls.{joinedOf}
+use Rattle.state_bytes.specs.Calls.{joinedOf, signalBy, Signals}
 use Rattle.state_bytes.proofs.States.{least, state-sized, state-ready}
-use Rattle.state_bytes.proofs.Calling.{put-sized, put-long, same-chip, kept-behind, unchanged-memory, settled, a-recall, a-forget}
+use Rattle.pundaliket.specs.Held.{Settles}
+use Rattle.pundaliket.proofs.Events.{put-sized, put-long, same-chip, kept-behind, unchanged-memory, settled, a-recall, a-forget}
 use borrow.Author.Needs.{needs}
-use Rattle.state_bytes.proofs.calls.event_on.Statement.{statement}
-use Rattle.state_bytes.proofs.calls.event_on.Tie as tie
+use Rattle.pundaliket.proofs.event.event_on.Statement.{statement}
+use Rattle.pundaliket.proofs.event.event_on.Tie as tie
 
 -- the bytes of the state, before anything is done
 sized : (e : tie.Start) → Sized (now (e .args .state))
@@ -41,21 +45,23 @@ keep-requires-5 c κs =
     let e = c .before .before .before .before .before .before .before .before .before .before .before .before in
     put-sized (now (e .args .state)) (e .pre) _ (c .before .before .before .before .before .before .put-memory .ensures)
 
+-- an event that is a method of the chip, with what is remembered as it was
+by-method : (e : tie.Start) (f : State → Answer) (a : HeldAnswer) {s : State} {r : ℕ} {left : List ℕ} → let l = now (e .args .state) in
+    answerIn a ≡ f s → s ≡ stateOf l → Settles l a (memoryIn l) r left
+    → Signals (signalBy l (around (given (e .args .mode) (e .args .rule)) (memoryIn l) (f (stateOf l)))) r left
+by-method e f a is read kept = settled (now (e .args .state)) a (given (e .args .mode) (e .args .rule)) kept (is ∙ ap f read)
+
 returns : tie.Need-returns
 returns c =
-    let a = c .before .before .before .before .before .before .before .before .before .before .args in
-    let r = c .before .before .before .before .push in
-    rw (c .before .before .before .before .before .before .before .enum-told .given .1)
-    (settled (now (a .state)) (r .result) (given (a .mode) (a .rule)) (c .before .before .keep .ensures)
-    (r .ensures ∙ ap (λ (s : State). pushOf s (a .byte)) (c .before .before .before .before .before .chip-in .ensures)))
+    let k = c .before .before .before .before in
+    let told = k .before .before .before in
+    rw (told .enum-told .given .1)
+    (by-method (told .before .before .before) (λ s. pushOf s (told .before .before .before .args .byte)) (k .push .result) (k .push .ensures)
+    (k .before .chip-in .ensures) (c .before .before .keep .ensures))
 
 returns-2 : tie.Need-returns-2
-returns-2 c =
-    let a = c .before .before .before .before .before .before .before .before .before .before .args in
-    let r = c .before .before .before .before .pop in
-    rw (c .before .before .before .before .before .before .before .enum-told2 .given .1)
-    (settled (now (a .state)) (r .result) (given (a .mode) (a .rule)) (c .before .before .keep2 .ensures)
-    (r .ensures ∙ ap popOf (c .before .before .before .before .before .chip-in2 .ensures)))
+returns-2 c = let k = c .before .before .before .before in let told = k .before .before .before in rw (told .enum-told2 .given .1)
+    (by-method (told .before .before .before) popOf (k .pop .result) (k .pop .ensures) (k .before .chip-in2 .ensures) (c .before .before .keep2 .ensures))
 
 returns-3 : tie.Need-returns-3
 returns-3 c =
@@ -73,12 +79,8 @@ returns-3 c =
     (λ z. put ∙ rw (ne-eqb (numberOf (b .refusal)) 0 z) (unchanged-memory l (sized e))))
 
 returns-4 : tie.Need-returns-4
-returns-4 c =
-    let a = c .before .before .before .before .before .before .before .before .before .before .args in
-    let r = c .before .before .before .before .read in
-    rw (c .before .before .before .before .before .before .before .enum-told4 .given .1)
-    (settled (now (a .state)) (r .result) (given (a .mode) (a .rule)) (c .before .before .keep4 .ensures)
-    (r .ensures ∙ ap readOf (c .before .before .before .before .before .chip-in4 .ensures)))
+returns-4 c = let k = c .before .before .before .before in let told = k .before .before .before in rw (told .enum-told4 .given .1)
+    (by-method (told .before .before .before) readOf (k .read .result) (k .read .ensures) (k .before .chip-in4 .ensures) (c .before .before .keep4 .ensures))
 
 returns-5 : tie.Need-returns-5
 returns-5 c =
@@ -97,12 +99,9 @@ returns-5 c =
     (c .before .before .keep5 .ensures) is (λ z. absurd (z zero)))
 
 returns-6 : tie.Need-returns-6
-returns-6 c =
-    let a = c .before .before .before .before .before .before .before .before .before .before .args in
-    let r = c .before .before .before .before .acknowledge in
-    rw (c .before .before .before .before .before .before .before .enum-told6 .given .1)
-    (settled (now (a .state)) (r .result) (given (a .mode) (a .rule)) (c .before .before .keep6 .ensures)
-    (r .ensures ∙ ap acknowledgeOf (c .before .before .before .before .before .chip-in6 .ensures)))
+returns-6 c = let k = c .before .before .before .before in let told = k .before .before .before in rw (told .enum-told6 .given .1)
+    (by-method (told .before .before .before) acknowledgeOf (k .acknowledge .result) (k .acknowledge .ensures) (k .before .chip-in6 .ensures)
+    (c .before .before .keep6 .ensures))
 
 returns-7 : tie.Need-returns-7
 returns-7 c =

@@ -1,12 +1,12 @@
--- `state_bytes::calls::keep` meets its contract: refused, or laid out. Assumes nothing.
+-- `pundaliket::event::keep` meets its contract: refused, or laid out. Assumes nothing.
 use mathlib.Core.Path.{ap, _∙_}
 use denote.Ref.{now}
 use Rattle.chip.specs.Held.{answerIn}
 use Rattle.state_bytes.specs.Bytes.{memoryIn}
-use Rattle.state_bytes.proofs.Calling.{no-event, an-event}
+use Rattle.pundaliket.proofs.Events.{no-event, an-event}
 use borrow.Author.Needs.{needs}
-use Rattle.state_bytes.proofs.calls.keep.Statement.{statement}
-use Rattle.state_bytes.proofs.calls.keep.Tie as tie
+use Rattle.pundaliket.proofs.event.keep.Statement.{statement}
+use Rattle.pundaliket.proofs.event.keep.Tie as tie
 
 returns : tie.Need-returns
 returns c =

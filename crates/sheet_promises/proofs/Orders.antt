@@ -1,4 +1,4 @@
--- No order of the sheets changes any figure. Assumes nothing.
+-- What a list of numbers measures in any order: how many pass a test, the different ones, those that stand more than once, the sum. Assumes nothing.
 use Prim.Native.Nat.{ℕ, suc}
 use mathlib.Core.Path.{_≡_, refl, sym, ap, subst, _∙_}
 use mathlib.Core.Bool.{Bool, true, false, cond}
@@ -7,7 +7,7 @@ use lib.Dec.{eqb, leb}
 use lib.ListN.{length}
 use lib.IntN.{ℤ, _+ℤ_, +ℤ-assoc, +ℤ-comm}
 use borrow.Author.Tests.{eqb-true, eqb-false, ne-eqb}
-use Rattle.sheet_figures.specs.Figures.{serialOn, wordOn, count, once, many, total, serials, words, worth, worths, sum88, AnyOrder}
+use Rattle.sheet_promises.specs.Figures.{count, once, many, total}
 
 -- ---- of numbers
 
@@ -24,7 +24,7 @@ turned true false n = refl
 turned false true n = refl
 turned false false n = refl
 
-many-perm : (test : ℕ → Bool) {l m : List ℕ} → List·Permᴰ l m → many test l ≡ many test m
+pub many-perm : (test : ℕ → Bool) {l m : List ℕ} → List·Permᴰ l m → many test l ≡ many test m
 many-perm test List·Permᴰ·nil = refl
 many-perm test (List·Permᴰ·cons {a = a} {b = b} {l₁ = l} {l₂ = m} e d) =
     ap (λ (n : ℕ). cond (test a) (suc n) n) (many-perm test d) ∙ ap (λ (x : ℕ). cond (test x) (suc (many test m)) (many test m)) e
@@ -100,7 +100,7 @@ more-perm {l = l} {m = m} d =
 
 -- ---- of whole numbers
 
-total-perm : {l m : List ℤ} → List·Permᴰ l m → total l ≡ total m
+pub total-perm : {l m : List ℤ} → List·Permᴰ l m → total l ≡ total m
 total-perm List·Permᴰ·nil = refl
 total-perm (List·Permᴰ·cons {a = a} {l₂ = m} e d) = ap (λ (t : ℤ). a +ℤ t) (total-perm d) ∙ ap (λ (x : ℤ). x +ℤ total m) e
 total-perm (List·Permᴰ·swap {a = a} {b = b} {a′ = a′} {b′ = b′} {l = l} e f) =
@@ -110,35 +110,3 @@ total-perm (List·Permᴰ·swap {a = a} {b = b} {a′ = a′} {b′ = b′} {l =
     ∙ ap (λ (x : ℤ). b +ℤ (x +ℤ total l)) e
     ∙ ap (λ (x : ℤ). x +ℤ (b′ +ℤ total l)) f
 total-perm (List·Permᴰ·trans d e) = total-perm d ∙ total-perm e
-
--- ---- of lines
-
-serials-perm : {l m : List (List ℕ)} → List·Permᴰ l m → List·Permᴰ (serials l) (serials m)
-serials-perm List·Permᴰ·nil = List·Permᴰ·nil
-serials-perm (List·Permᴰ·cons e d) = List·Permᴰ·cons (ap (λ (x : List ℕ). serialOn x) e) (serials-perm d)
-serials-perm (List·Permᴰ·swap e f) = List·Permᴰ·swap (ap (λ (x : List ℕ). serialOn x) e) (ap (λ (x : List ℕ). serialOn x) f)
-serials-perm (List·Permᴰ·trans d e) = List·Permᴰ·trans (serials-perm d) (serials-perm e)
-
-words-perm : {l m : List (List ℕ)} → List·Permᴰ l m → List·Permᴰ (words l) (words m)
-words-perm List·Permᴰ·nil = List·Permᴰ·nil
-words-perm (List·Permᴰ·cons e d) = List·Permᴰ·cons (ap (λ (x : List ℕ). wordOn x) e) (words-perm d)
-words-perm (List·Permᴰ·swap e f) = List·Permᴰ·swap (ap (λ (x : List ℕ). wordOn x) e) (ap (λ (x : List ℕ). wordOn x) f)
-words-perm (List·Permᴰ·trans d e) = List·Permᴰ·trans (words-perm d) (words-perm e)
-
-worths-perm : {l m : List ℕ} → List·Permᴰ l m → List·Permᴰ (worths l) (worths m)
-worths-perm List·Permᴰ·nil = List·Permᴰ·nil
-worths-perm (List·Permᴰ·cons e d) = List·Permᴰ·cons (ap worth e) (worths-perm d)
-worths-perm (List·Permᴰ·swap e f) = List·Permᴰ·swap (ap worth e) (ap worth f)
-worths-perm (List·Permᴰ·trans d e) = List·Permᴰ·trans (worths-perm d) (worths-perm e)
-
-pub any-order : AnyOrder
-unfolding sum88
-any-order l m d =
-    let s = serials-perm d in
-    record {
-      lines-same = length-perm d;
-      different-same = length-perm (once-perm s);
-      repeated-same = more-perm s;
-      improper-same = many-perm _ (words-perm d);
-      sum-same = total-perm (worths-perm (words-perm d));
-    }

@@ -7,14 +7,18 @@ use mathlib.Core.List.{List, [], _∷_, _++_}
 use native.Mathlib.Omega.{arith}
 use native.Mathlib.Nat.{pow-suc, not-suc-le-zero}
 use borrow.Author.Tests.{lt-ltb, le-ltb, le-leb}
-use lib.Dec.{le→leb, ltb→lt}
+use lib.Dec.{leb, ltb, le→leb, ltb→lt}
 use lib.ListN.{length, length-append}
 use lib.IntN.{ℤ, pos, negsuc, natAbs}
 use lib.Signed.{_≤ℤ_, _<ℤ_, leZ-yes}
 use Rattle.numbers.proofs.Differences.{either}
-use Rattle.sheet_figures.specs.Digits.{hexDigit, hexDigits, digitValue, isHex, allHex, readFrom, plus, minus, signOf, TextIsTheSum}
+use Rattle.sheet_promises.specs.Figures.{hexDigit, hexDigits, digitValue, allHex, readFrom, signOf, sumText, Reads}
 
 -- ---- one digit
+
+-- whether a character is one of 0 to 9 or A to F
+abbrev isHex : ℕ → Bool
+isHex c = cond (leb 48 c) (cond (ltb c 58) true (cond (leb 65 c) (ltb c 71) false)) false
 
 digit-value : (d : ℕ) → d < 16 → digitValue (hexDigit d) ≡ d
 digit-value d h =
@@ -52,7 +56,7 @@ hex-last c (x ∷ l) h e = pick (isHex x) h (λ k. hex-last c l k e)
 
 -- ---- all of them
 
-pub length-digits : (k n : ℕ) → length (hexDigits k n) ≡ k
+length-digits : (k n : ℕ) → length (hexDigits k n) ≡ k
 length-digits zero n = refl
 length-digits (suc k) n =
     let e = length-digits k (n / 16) in
@@ -78,19 +82,19 @@ digits-read (suc k) n h =
 
 -- ---- the sum
 
-sign-plus : (z : ℤ) → pos 0 ≤ℤ z → signOf z ≡ plus
+sign-plus : (z : ℤ) → pos 0 ≤ℤ z → signOf z ≡ 43
 sign-plus (pos n) h = refl
 sign-plus (negsuc n) h = absurd (h .le)
 
-plus-sign : (z : ℤ) → signOf z ≡ plus → pos 0 ≤ℤ z
+plus-sign : (z : ℤ) → signOf z ≡ 43 → pos 0 ≤ℤ z
 plus-sign (pos n) e = leZ-yes (le→leb 0 n zero-le)
 plus-sign (negsuc n) e = let x : ⊥ = omega arith in absurd x
 
-sign-minus : (z : ℤ) → z <ℤ pos 0 → signOf z ≡ minus
+sign-minus : (z : ℤ) → z <ℤ pos 0 → signOf z ≡ 45
 sign-minus (pos n) h = absurd (not-suc-le-zero (ltb→lt n 0 (h .lt)))
 sign-minus (negsuc n) h = refl
 
-pub text-is-the-sum : TextIsTheSum
+pub text-is-the-sum : (z : ℤ) → natAbs z < 16 ^ 48 → Reads z (sumText z)
 text-is-the-sum z h = record {
   size-is = ap suc (length-digits 48 (natAbs z));
   all-hex = digits-hex 48 (natAbs z);

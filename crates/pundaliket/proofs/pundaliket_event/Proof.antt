@@ -1,14 +1,15 @@
--- `state_bytes::calls::event` meets its contract: turned away at the door, or the event of the kind. Assumes nothing.
+-- `pundaliket::pundaliket_event` meets its contract: turned away at the door, or the event of the kind. Assumes nothing.
 use mathlib.Core.Path.{_≡_, refl, sym, ap, _∙_}
 use Prim.Native.Nat.{ℕ}
 use denote.Ref.{now}
 use Rattle.terms.specs.Refusal.{numberOf}
 use Rattle.state_bytes.specs.Bytes.{doorOf}
 use Rattle.state_bytes.specs.Calls.{joinedOf}
-use Rattle.state_bytes.proofs.Calling.{admitted, signal-away, signalled}
+use Rattle.state_bytes.proofs.Calling.{admitted}
+use Rattle.pundaliket.proofs.Events.{signal-away, signalled}
 use borrow.Author.Needs.{needs}
-use Rattle.state_bytes.proofs.calls.event.Statement.{statement}
-use Rattle.state_bytes.proofs.calls.event.Tie as tie
+use Rattle.pundaliket.proofs.pundaliket_event.Statement.{statement}
+use Rattle.pundaliket.proofs.pundaliket_event.Tie as tie
 
 -- the number of the door's refusal
 abbrev At-number : Type 0
@@ -43,8 +44,8 @@ returns-2 c =
           .before .kind-of .ensures,
     ) at (c .before .before .event-on .ensures))
 
-pub event-spec : {M : Type 1} → statement M
-event-spec =
+pub pundaliket-event-spec : {M : Type 1} → statement M
+pundaliket-event-spec =
     tie.close
     (tie.spec (λ c κs. search needs) (λ c κs. search needs) (λ c κs. search needs) (λ c. search needs) returns (λ c κs. search needs)
     (λ c κs. search needs) (λ c κs. search needs) event-on-requires (λ c. search needs) returns-2)
