@@ -5,13 +5,18 @@ pub mod calls;
 use chip::State;
 use error_memory::Card;
 use error_memory::Memory;
+use numbers::eight_at;
+use numbers::put_eight;
 use numbers::put_word;
+use numbers::reversed_8;
 use record_runs::step::Pass;
+use stack::Stack;
 use terms::Refusal;
 ghost use mathlib.Core.Path.{_≡_};
 ghost use Prim.Native.Nat.{_≤_};
 ghost use lib.ListN.{length};
 ghost use Rattle.terms.specs.Limits.{stateBytes, reportBytes};
+ghost use Rattle.stack.specs.Words.{bytesIn};
 ghost use Rattle.chip.specs.Held.{stateIn};
 ghost use Rattle.state_bytes.specs.Bytes.{Sized, isChip, isState, stateOf, memoryIn, laid, withMemory};
 ghost use Rattle.state_bytes.specs.Bytes.{reportOf, doorOf};
@@ -54,12 +59,23 @@ pub fn admit(mode: u32, rule: u32, state: &[u8]) -> Refusal
     Refusal::Done
 }
 
+// The stack that 16 bytes stand for.
+fn stack_in(bytes: &[u8]) -> Stack
+    requires { ⌜ length (now bytes) ≡ 16 ⌝ }
+    ensures { λ r. ⌜ bytesIn r ≡ now (bytes .entry) ⌝ }
+{
+    Stack {
+        top: reversed_8(eight_at(bytes, 0)),
+        rest: reversed_8(eight_at(bytes, 8)),
+    }
+}
+
 // The chip of a state.
 pub fn chip_in(state: &[u8]) -> State
     requires { ⌜ stateBytes ≤ length (now state) ⌝ }
     ensures { λ r. ⌜ stateIn r ≡ stateOf (now (state .entry)) ⌝ }
 {
-    let stack = stack::lent::load(&state[..16]);
+    let stack = stack_in(&state[..16]);
     State {
         stack,
         pending: state[16] == 1,
@@ -92,6 +108,15 @@ pub fn card_in(state: &[u8]) -> Card
     Card { chip, memory }
 }
 
+// The 16 bytes of a stack.
+fn put_stack(bytes: &mut [u8], stack: Stack)
+    requires { ⌜ length (now bytes) ≡ 16 ⌝ }
+    ensures { λ _. ⌜ now (bytes .exit) ≡ bytesIn stack ⌝ }
+{
+    put_eight(&mut bytes[0..8], reversed_8(stack.top));
+    put_eight(&mut bytes[8..16], reversed_8(stack.rest));
+}
+
 // The chip's 19 bytes; all others stay.
 pub fn put_chip(state: &mut [u8], chip: State)
     requires { ⌜ Sized (now state) ⌝ }
@@ -99,7 +124,7 @@ pub fn put_chip(state: &mut [u8], chip: State)
         (memoryIn (now (state .entry))) ⌝ }
 {
     let stack = chip.stack;
-    stack::lent::store(&mut state[..16], stack);
+    put_stack(&mut state[..16], stack);
     state[16] = chip.pending as u8;
     state[17] = chip.status;
     state[18] = chip.service as u8;

@@ -1,4 +1,4 @@
--- `stack::lent::load` meets its contract: two words of eight bytes. Assumes nothing.
+-- `state_bytes::stack_in` meets its contract: two words of eight bytes. Assumes nothing.
 use mathlib.Core.Path.{sym, ap, ap₂, _∙_}
 use Prim.Native.Nat.{ℕ, _<_}
 use mathlib.Core.List.{List, _++_}
@@ -8,14 +8,15 @@ use denote.Ref.{now}
 use Rattle.numbers.specs.Little.{le8}
 use Rattle.numbers.proofs.Exact.{le8-of}
 use Rattle.numbers.proofs.Reversed.{back}
-use Rattle.stack.proofs.Reversed.{high-8, halves}
+use Rattle.stack.proofs.Reversed.{high-8}
+use Rattle.state_bytes.proofs.States.{halves}
 use borrow.Author.Needs.{needs}
-use Rattle.stack.proofs.lent.load.Statement.{statement}
-use Rattle.stack.proofs.lent.load.Tie as tie
+use Rattle.state_bytes.proofs.stack_in.Statement.{statement}
+use Rattle.state_bytes.proofs.stack_in.Tie as tie
 
 returns : tie.Need-returns
 returns c =
-    let s = now (c .before .before .before .before .before .args .s) in
+    let s = now (c .before .before .before .before .before .args .bytes) in
     let h = c .before .before .before .before .before .pre in
     let b : (j : ℕ) → getD s j 0 < 256 = λ j. omega (arith, c .before .before .before .before .shared-slice-known .given j) in
     let x = c .before .before .reversed-8 in
@@ -25,5 +26,5 @@ returns c =
     (sym (high-8 (y .result)) ∙ back _ _ (y .ensures) ∙ ap le8 (c .before .eight-at2 .ensures) ∙ le8-of s 8 (omega arith) b)
     ∙ halves s h
 
-pub load-spec : {M : Type 1} → statement M
-load-spec = tie.close (tie.spec (λ c κs. search needs) (λ c κs. search needs) (λ c κs. search needs) (λ c κs. search needs) returns)
+pub stack-in-spec : {M : Type 1} → statement M
+stack-in-spec = tie.close (tie.spec (λ c κs. search needs) (λ c κs. search needs) (λ c κs. search needs) (λ c κs. search needs) returns)
