@@ -3,6 +3,7 @@ pub mod Measures
 pub mod Remembered
 pub mod Determined
 pub mod Refusals
+pub mod Single
 pub mod RecordFiles
 pub mod Records
 pub mod Kept
@@ -25,6 +26,7 @@ pub mod Listings
 pub mod Figures
 pub mod Format
 pub mod WrongCores
+pub mod Wider
 pub mod OldLimits
 pub mod LongBlocks
 pub mod ErrorMemory

@@ -5,7 +5,7 @@ use mathlib.Core.List.{List, _++_}
 use Prim.Native.Nat.{ℕ, _≤_, _<_}
 use native.Mathlib.Omega.{arith}
 use lib.Dec.{eqb}
-use lib.ListN.{length, take, drop, length-append, length-drop, take-append-drop}
+use lib.ListN.{length, take, drop, take-append-drop}
 use lib.Seq.{length-take-le, drop-at}
 use borrow.Author.Tests.{lt-ltb, le-ltb, lt-leb, le-leb, leb-true, eq-eqb, ne-eqb, eqb-false}
 use Rattle.terms.specs.declared.Refusal.{Refusal}
@@ -23,9 +23,11 @@ use Rattle.chip.specs.Held.{answerIn}
 use Rattle.error_memory.specs.declared.Memory.{Memory}
 use Rattle.error_memory.specs.Event.{Event, Recall, Forget}
 use Rattle.error_memory.specs.Memory.{emptyMemory, Card, CardAnswer, cardWith, around, eventIn}
+use Rattle.error_memory.specs.Held.{cardUnder}
 use Rattle.error_memory.proofs.Good.{recalled, forgotten}
-use Rattle.record_files.specs.Run.{Runs, Outcome as Ended}
 use Rattle.record_runs.specs.Run.{Outcome, runOf}
+use Rattle.record_runs.specs.Held.{Work, Passed}
+use Rattle.record_runs.proofs.Looping.{counts}
 use Rattle.state_bytes.specs.Bytes.{Sized, isState, stateOf, memoryIn, cardIn, stateBytesOf, memoryBytesOf, withMemory, laid, laidOut, doorOf, reportOf}
 use Rattle.state_bytes.specs.Calls.{settingsOf, ranOf, away, callUnder, signalUnder, callOf, Calls, answeredBy, Signal, joinedOf, signalBy, unsent}
 use Rattle.state_bytes.specs.Calls.{signalOf, Signals}
@@ -134,22 +136,16 @@ pub unchanged-memory : (l : List ℕ) → Sized l → withMemory l (memoryIn l) 
 unchanged-memory l h = ap (λ (t : List ℕ). take 19 l ++ t) (sym (memory-behind l h)) ∙ take-append-drop 19 l
 
 -- ---- the run
--- the replies have as many bytes after a run as before it
-pub same-room : {S : Type 0} {o : Ended S} {refusal : ℕ} {s : S} {taken written : ℕ} {file room left : List ℕ}
-    → Runs o refusal s taken written file room left → length left ≡ length room
-same-room {o = o} {room = room} r =
-    ap length (r .left-is) ∙ length-append (o .written) (drop (length (o .written)) room)
-    ∙ omega (arith, length-drop (length (o .written)) room, r .written-is, r .fits)
-
 -- a run of the code, with its state and report laid out
-pub called : (size : ℕ) (o : Outcome) (refusal : ℕ) (c : Card) (taken written : ℕ) (input replies left state report : List ℕ)
-    → Runs o refusal c taken written input replies left → state ≡ laidOut size c → report ≡ reportOf refusal taken written
-    → Calls (ranOf size o replies) refusal state left report
-called size o refusal c taken written input replies left state report r a b = record {
+pub called : (size : ℕ) {on : Settings} {o : Outcome} {w : Work} {state report : List ℕ} → Passed (cardUnder on) o w → w .place .taken ≡ 0 → w .place .written
+    ≡ 0
+    → state ≡ laidOut size (cardUnder on (w .pass .card)) → report ≡ reportOf (w .pass .refusal) (w .pass .place .taken) (w .pass .place .written)
+    → Calls (ranOf size o (w .room)) (w .pass .refusal) state (w .left) report
+called size r t w a b = let at = counts r t w in record {
   result-is = r .refusal-is;
-  state-is = a ∙ rw (r .state-is);
+  state-is = a ∙ ap (laidOut size) (r .state-is);
   replies-is = r .left-is;
-  report-is = b ∙ rw (r .refusal-is, r .taken-is, r .written-is);
+  report-is = b ∙ rw (r .refusal-is, at .0, at .1);
 }
 
 -- a call that is turned away
