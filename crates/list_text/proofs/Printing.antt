@@ -12,9 +12,9 @@ use Rattle.error_memory.specs.declared.Card.{Card as Held}
 use Rattle.chip.specs.State.{resetState}
 use Rattle.error_memory.specs.Memory.{Card, cardWith, emptyMemory}
 use Rattle.error_memory.specs.Held.{cardUnder}
-use Rattle.record_runs.specs.declared.step.Pass.{Pass}
 use Rattle.record_runs.specs.Run.{Outcome, runOf}
-use Rattle.record_runs.specs.Held.{Ran}
+use Rattle.record_runs.specs.Held.{Work, Passed}
+use Rattle.record_runs.proofs.Looping.{counts}
 use Rattle.record_runs.proofs.Ready.{run-small}
 use Rattle.listing.specs.Listing.{replyRoom, listingOf}
 use Rattle.list_text.specs.Printout.{ResetCard, runFor, listedOf, printoutOf, toldOf}
@@ -28,33 +28,37 @@ module _ (on : Settings) (input : List ℕ) where
   pub too-long : mostInput < length input → listingOf [] 9 0 ≡ listedOf on input
   too-long h = rw (lt-ltb 12288 (length input) h)
 
-  -- the run of the code, in as much room, is the definition's
-  pub as-run : (c : Held) (r : Pass) {room left : List ℕ} → ResetCard c
-      → Ran on (runOf (cardUnder on c) input (length room)) r input room left → length room ≡ replyRoom → Ran on (runFor on input) r input room left
-  as-run c r {room} {left} reset ran n =
-      subst (λ (o : Outcome). Ran on o r input room left) (ap₂ (λ (k : Card) (m : ℕ). runOf k input m) (reset on) n) ran
+  -- the run of the code from reset, in as much room, is the definition's
+  pub as-run : (w : Work) → ResetCard (w .card) → Passed (cardUnder on) (runOf (cardUnder on (w .card)) input (length (w .room))) w
+      → length (w .room) ≡ replyRoom → Passed (cardUnder on) (runFor on input) w
+  as-run w reset ran n =
+      subst (λ (o : Outcome). Passed (cardUnder on) o w) (ap₂ (λ (k : Card) (m : ℕ). runOf k input m) (reset on) n) ran
 
-  module _ (r : Pass) {room left : List ℕ} (ran : Ran on (runFor on input) r input room left) where
+  module _ (w : Work) (ran : Passed (cardUnder on) (runFor on input) w) (first : (w .place .taken ≡ 0) × (w .place .written ≡ 0)) where
+    counted : (w .pass .place .taken ≡ runFor on input .taken) × (w .pass .place .written ≡ length (runFor on input .written))
+    counted = counts ran (first .0) (first .1)
+
     -- what it wrote stands in front
-    front : take (r .place .written) left ≡ runFor on input .written
+    front : take (w .pass .place .written) (w .left) ≡ runFor on input .written
     front =
         let o = runFor on input in
-        ap₂ take (ran .written-is) (ran .left-is) ∙ take-append-seam (o .written) (drop (length (o .written)) room)
+        ap₂ take (counted .1) (ran .left-is) ∙ take-append-seam (o .written) (drop (length (o .written)) (w .room))
 
-    pub written-there : r .place .written ≡ length (take (r .place .written) left)
-    written-there = ran .written-is ∙ ap length (sym front)
+    pub written-there : w .pass .place .written ≡ length (take (w .pass .place .written) (w .left))
+    written-there = counted .1 ∙ ap length (sym front)
 
-    pub in-room : length room ≡ replyRoom → length (take (r .place .written) left) ≤ replyRoom
-    in-room n = omega (arith, n, ran .fits, written-there)
+    pub in-room : length (w .room) ≡ replyRoom → length (take (w .pass .place .written) (w .left)) ≤ replyRoom
+    in-room n = omega (arith, n, ran .fits, ap length front)
 
-    pub refusal-small : r .refusal < 256
+    pub refusal-small : w .pass .refusal < 256
     refusal-small = omega (arith, ran .refusal-is, run-small (cardWith on resetState emptyMemory) input replyRoom)
 
-    pub of-run : length input ≤ mostInput → listingOf (take (r .place .written) left) (r .refusal) (r .place .taken) ≡ listedOf on input
+    pub of-run : length input ≤ mostInput
+        → listingOf (take (w .pass .place .written) (w .left)) (w .pass .refusal) (w .pass .place .taken) ≡ listedOf on input
     of-run h =
         let o = runFor on input in
         rw (le-ltb 12288 (length input) h)
-        (ap₂ (λ (l : List ℕ) (n : ℕ). listingOf l n (r .place .taken)) front (ran .refusal-is) ∙ ap (listingOf (o .written) (o .refusal)) (ran .taken-is))
+        (ap₂ (λ (l : List ℕ) (n : ℕ). listingOf l n (w .pass .place .taken)) front (ran .refusal-is) ∙ ap (listingOf (o .written) (o .refusal)) (counted .0))
 
 -- 02, ask 9: `buslist` stays at 0 for both
 pub stays : (first second input : List ℕ) → toldOf 1 first second input ≡ printoutOf input

@@ -37,7 +37,7 @@ use Rattle.record_files.proofs.Append.{onward, appended}
 use Rattle.record_runs.specs.Record.{turnOf}
 use Rattle.record_runs.specs.Run.{Outcome, took, after, runOf}
 use Rattle.record_runs.proofs.Prefix.{lawful}
-use Rattle.record_runs.proofs.Single.{push-alone, command-alone}
+use Rattle.promises.proofs.Single.{push-alone, command-alone}
 use Rattle.formula.specs.File.{pushRecord, commandRecord, minusCode}
 
 -- ---- words on top of a stack

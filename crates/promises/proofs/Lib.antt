@@ -3,6 +3,7 @@ pub mod Measures
 pub mod Remembered
 pub mod Determined
 pub mod Refusals
+pub mod Single
 pub mod RecordFiles
 pub mod Records
 pub mod Kept
@@ -26,6 +27,7 @@ pub mod ListedExample
 pub mod Figures
 pub mod Format
 pub mod WrongCores
+pub mod Wider
 pub mod OldLimits
 pub mod LongBlocks
 pub mod ErrorMemory

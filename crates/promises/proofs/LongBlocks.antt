@@ -19,7 +19,7 @@ use Rattle.chip.proofs.InTurn.{turned, pushes-state, pops-state, pops-bytes}
 use Rattle.chip.proofs.Held.{flips}
 use Rattle.error_memory.specs.Memory.{cardWith}
 use Rattle.record_runs.specs.Run.{took, runOf}
-use Rattle.record_runs.proofs.Single.{push-alone, pop-alone}
+use Rattle.promises.proofs.Single.{push-alone, pop-alone}
 use Rattle.promises.specs.LongBlocks.{timesOver, LongBlocks}
 
 ready : (s : State) → busy s ≡ false → s .status < 128

@@ -36,7 +36,7 @@ use Rattle.record_runs.specs.Record.{Push, Pop, Command, Status, Reset, Acknowl
 use Rattle.record_runs.specs.Record.{kindOf, answerOf, replyOf}
 use Rattle.record_runs.specs.Run.{Outcome, took, after, runOf}
 use Rattle.record_runs.proofs.Prefix.{lawful}
-use Rattle.record_runs.proofs.Single.{reset-is}
+use Rattle.promises.proofs.Single.{reset-is}
 use Rattle.state_bytes.specs.Bytes.{isState, stateOf, memoryIn, cardIn}
 use Rattle.terms.specs.declared.EventKind.{EventKind}
 use Rattle.state_bytes.specs.Calls.{Called, Signal, ranOf, away, callUnder, signalBy, signalUnder, unsent, answerToKind, answeredBy}

@@ -1,5 +1,5 @@
 -- A run keeps a card whose state 13 does not turn away: every event of a record leaves such a card and answers 0 to 4. Assumes nothing.
-use mathlib.Core.Path.{_≡_, sym, subst}
+use mathlib.Core.Path.{sym, subst}
 use mathlib.Core.List.{List, [], _∷_}
 use Prim.Native.Nat.{ℕ, zero, suc, _≤_, _<_, zero-le}
 use borrow.Author.Tests.{lt-leb}
@@ -77,7 +77,7 @@ turn-ready c l room r h =
 pub run-ready : (c : Card) (l : List ℕ) (room : ℕ) → ReadyCard c → Bytes l → ReadyCard (runOf c l room .state)
 run-ready =
     through lawful (λ c l room o. ReadyCard c → Bytes l → ReadyCard (o .state)) (λ c room r h. r) (λ c l room p z r h. r)
-    (λ c l room p z more r h. more (turn-ready c l room r h) (bytes-drop (turnOf c l room .size) l h))
+    (λ c l room p z more r h. more (turn-ready c l room r h) (bytes-drop (turnOf c l room .taken) l h))
 
 -- ---- a run ends with 0, or with 5 to 8
 pub run-small : (c : Card) (l : List ℕ) (room : ℕ) → runOf c l room .refusal ≤ 8

@@ -199,19 +199,19 @@ replyOf kind refusal bytes = le2 (3 + length bytes) ++ (le2 (kind + 128) ++ (ref
 
 -- the refusal that stops the run, or 0; the card; the bytes of the record; its reply
 abbrev pub Turned : Type 0
-Turned = files.Turned Card
+Turned = files.Outcome Card
 
 -- nothing of the record is done
 abbrev pub stopped : Refusal → Card → Turned
-stopped r c = files.idle (numberOf r) c
+stopped r c = files.ended (numberOf r) c
 
 -- the answer makes the card and the reply
 abbrev pub worked : Card → Event → CardAnswer → Turned
 worked c e a = record {
   refusal = 0;
   state = a .card;
-  size = 4 + payloadOf e;
-  reply = replyOf (kindOf e) (numberOf (a .refusal)) (dataOf c e);
+  taken = 4 + payloadOf e;
+  written = replyOf (kindOf e) (numberOf (a .refusal)) (dataOf c e);
 }
 
 -- with so much room for the reply: 8 where it does not fit, else the event is done with the payload

@@ -12,7 +12,7 @@ ghost use Rattle.terms.specs.Limits.{mostInput};
 ghost use Rattle.chip.specs.Step.{given};
 ghost use Rattle.error_memory.specs.Held.{cardUnder};
 ghost use Rattle.record_runs.specs.Run.{runOf};
-ghost use Rattle.record_runs.specs.Held.{countedIn, start, Ran};
+ghost use Rattle.record_runs.specs.Held.{countedIn, atStart, Passed};
 
 // More room than the replies of any file take: 245 bytes for each byte of an input.
 const MOST_REPLIES: usize = 3_010_560;
@@ -30,7 +30,7 @@ fn counted(room: usize) -> u32
 // The start of a run in a file and in room of so many bytes.
 pub fn begin(size: usize, room: usize) -> Place
     requires { ⌜ size ≤ mostInput ⌝ }
-    ensures { λ p. ⌜ p ≡ start size room ⌝ }
+    ensures { λ p. ⌜ p ≡ atStart size room ⌝ }
 {
     Place {
         taken: 0,
@@ -44,9 +44,15 @@ pub fn begin(size: usize, room: usize) -> Place
 // the whole would carry the bytes between its parts through memory, at each record.
 pub fn run_all(start: Card, mode: Mode, rule: Rule, input: &[u8], replies: &mut [u8]) -> Pass
     requires { ⌜ (start .chip .status < 128) × (length (now input) ≤ mostInput) ⌝ }
-    ensures { λ r. ⌜ Ran (given mode rule)
+    ensures { λ r. ⌜ Passed (cardUnder (given mode rule))
         (runOf (cardUnder (given mode rule) start) (now (input .entry)) (length (now (replies .entry))))
-        r (now (input .entry)) (now (replies .entry)) (now (replies .exit)) ⌝ }
+        (record {
+          place = atStart (length (now (input .entry))) (length (now (replies .entry)));
+          card = start;
+          room = now (replies .entry);
+          pass = r;
+          left = now (replies .exit);
+        }) ⌝ }
 {
     let mut card = start;
     let mut place = begin(input.len(), replies.len());

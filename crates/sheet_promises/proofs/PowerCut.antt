@@ -9,7 +9,7 @@ use lib.ListN.{length, getD, take, drop}
 use Rattle.numbers.specs.Little.{wordAt}
 use Rattle.terms.specs.declared.Refusal.the-variants.{BadLength}
 use Rattle.terms.specs.Limits.{mostPayload}
-use Rattle.record_files.specs.Run.{Turned, Outcome}
+use Rattle.record_files.specs.Run.{Outcome}
 use Rattle.record_files.proofs.Tests.{either-lt, either-eq}
 use Rattle.record_files.proofs.Through.{through}
 use Rattle.record_files.proofs.Cut.{cut-anywhere}
@@ -83,7 +83,7 @@ six-head l =
 six-turn : (c : Card) (l : List ℕ) (room : ℕ) (h : Head) → turnBy c l room h .refusal ≡ 6 → headNumber h ≡ 6
 six-turn c l room (Stop r) = λ z. z
 six-turn c l room (Whole e) =
-    either-lt (λ (t : Turned Card). t .refusal ≡ 6 → headNumber (Whole e) ≡ 6) room (5 + answeredOf e) _ _ (λ g z. let y : ⊥ = omega arith in absurd y)
+    either-lt (λ (t : Outcome Card). t .refusal ≡ 6 → headNumber (Whole e) ≡ 6) room (5 + answeredOf e) _ _ (λ g z. let y : ⊥ = omega arith in absurd y)
     (λ g z. z)
 
 six-core : (c : Card) (l : List ℕ) (room : ℕ) → turnOf c l room .refusal ≡ 6 → length l < 2 + wordAt l 0
@@ -108,7 +108,7 @@ answers =
     (λ h l room p z e. sym (ap length (none-of l (six-line h l room (e z))) ∙ rw no-bytes))
     (λ h l room p z ih e.
     let t = lineOf h l room in
-    let o = runOf (t .state) (drop (t .size) l) (room - length (t .reply)) in
+    let o = runOf (t .state) (drop (t .taken) l) (room - length (t .written)) in
     ap length (its-replies h l room z (o .written)) ∙ ap suc (ih e) ∙ sym (ap length (its-records h l room z (o .written))))
 
 -- ---- the statement

@@ -17,7 +17,8 @@ use Rattle.sheets.specs.Calls.{callOf, ranOf}
 use Rattle.sheet_promises.specs.Runs.{Ran, lengthened, ran}
 use Rattle.sheet_promises.specs.SheetsCall.{away, answerOf, SheetsCall}
 use Rattle.sheet_promises.proofs.Measures.{bytes-are, state-is, sheets-is}
-use Rattle.sheet_promises.proofs.Runs.{seenRun, run-is, lengthened-is, shortened-is, run-card}
+use Rattle.sheet_promises.proofs.Turns.{seen}
+use Rattle.sheet_promises.proofs.Runs.{run-is, lengthened-is, shortened-is, run-card}
 
 -- a call that runs
 runs : (mode rule : ℕ) (state sheets input replies : List ℕ) → StackBytes state → StackBytes input → mode ≤ 1 → rule ≤ 1 → storedState state ≡ true
@@ -29,7 +30,7 @@ runs mode rule state sheets input replies B I m q s g =
     let h = held (cardIn on state) sheets in
     let r = card-ready on state B s in
     let o = runOf h input (length replies) in
-    let book : ran mode rule (lengthened state) sheets input (length replies) ≡ seenRun o =
+    let book : ran mode rule (lengthened state) sheets input (length replies) ≡ seen o =
     ap (λ (k : List ℕ). ran mode rule k sheets input (length replies)) (lengthened-is on state s) ∙ run-is mode rule m q h input (length replies) r refl g I in
     ap (λ (k : List ℕ). record {
       result = o .refusal;

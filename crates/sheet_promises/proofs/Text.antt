@@ -60,14 +60,14 @@ record Reply (r : List ℕ) : Type 0 where
   marked : 128 ≤ wordAt r 2
 
 -- the reply of every record that is taken is one
-core-reply : (c : Card) (l : List ℕ) (room : ℕ) → turnOf c l room .refusal ≡ 0 → Reply (turnOf c l room .reply)
+core-reply : (c : Card) (l : List ℕ) (room : ℕ) → turnOf c l room .refusal ≡ 0 → Reply (turnOf c l room .written)
 core-reply c l room =
-    steps {most = mostPayload} (λ t. t .refusal ≡ 0 → Reply (t .reply)) c l room (λ r a b z. let y : ⊥ = omega arith in absurd y)
+    steps {most = mostPayload} (λ t. t .refusal ≡ 0 → Reply (t .written)) c l room (λ r a b z. let y : ⊥ = omega arith in absurd y)
     (λ e h g z. let d = length-dataOf c e in record { framed = omega arith; five = omega arith; marked = omega arith })
 
-line-reply : (h : Held) (l : List ℕ) (room : ℕ) → lineOf h l room .refusal ≡ 0 → Reply (lineOf h l room .reply)
+line-reply : (h : Held) (l : List ℕ) (room : ℕ) → lineOf h l room .refusal ≡ 0 → Reply (lineOf h l room .written)
 line-reply h l room =
-    taken (λ t. Reply (t .reply)) h l room
+    taken (λ t. Reply (t .written)) h l room
     (λ o q g. let a = o .least in record { framed = refl; five = omega arith; marked = omega arith }) (λ y. core-reply (h .card) l room y)
 
 -- and is listed as one, whatever follows
@@ -131,9 +131,9 @@ lines-are =
     (λ h l room p z more number.
     let t = lineOf h l room in
     let q = line-reply h l room z in
-    let w = runOf (t .state) (drop (t .size) l) (room - length (t .reply)) .written in
-    listed number (t .reply) w q ∙ ap (λ (k : List ℕ). replyLine number (t .reply) ++ k) (more (number + 1))
-    ∙ sym (ap (replyLines number) (record-then (t .reply) w (q .framed))))
+    let w = runOf (t .state) (drop (t .taken) l) (room - length (t .written)) .written in
+    listed number (t .written) w q ∙ ap (λ (k : List ℕ). replyLine number (t .written) ++ k) (more (number + 1))
+    ∙ sym (ap (replyLines number) (record-then (t .written) w (q .framed))))
 
 -- ---- the sheets and the figures
 

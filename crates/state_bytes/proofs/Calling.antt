@@ -12,13 +12,15 @@ use Rattle.terms.specs.declared.Refusal.the-variants.{Done, InputTooLong, BadSt
 use Rattle.terms.specs.Refusal.{numberOf}
 use Rattle.terms.specs.declared.Mode.the-variants.{Am9511A}
 use Rattle.terms.specs.declared.Rule.the-variants.{Cut}
-use Rattle.terms.specs.Settings.{isMode, isRule}
+use Rattle.terms.specs.Settings.{Settings, isMode, isRule}
 use Rattle.chip.specs.Step.{given}
 use Rattle.chip.specs.State.{State}
 use Rattle.error_memory.specs.declared.Memory.{Memory}
-use Rattle.error_memory.specs.Memory.{Card, cardWith}
-use Rattle.record_files.specs.Run.{Runs}
+use Rattle.error_memory.specs.Memory.{cardWith}
+use Rattle.error_memory.specs.Held.{cardUnder}
 use Rattle.record_runs.specs.Run.{Outcome, runOf}
+use Rattle.record_runs.specs.Held.{Work, Passed}
+use Rattle.record_runs.proofs.Looping.{counts}
 use Rattle.state_bytes.specs.Bytes.{Sized, isState, memoryIn, cardIn, withMemory, laid, laidOut, doorOf, reportOf}
 use Rattle.state_bytes.specs.Calls.{settingsOf, ranOf, away, callUnder, signalUnder, callOf, Calls, joinedOf}
 use Rattle.state_bytes.specs.Calls.{signalOf, Signals}
@@ -75,14 +77,14 @@ module _ (l : List ℕ) (s : State) (h : Sized l) (n : length (s .stack) ≡ 16)
 
 -- ---- the run
 -- a run of the code, with its state and report laid out
-pub called : (size : ℕ) (o : Outcome) (c : Card) (input replies left : List ℕ) {n refusal taken written : ℕ} {state report : List ℕ}
-    → Runs o refusal c taken written input replies left → n ≡ refusal → state ≡ laidOut size c → report ≡ reportOf refusal taken written
-    → Calls (ranOf size o replies) n state left report
-called size o c input replies left r e a b = record {
+pub called : (size : ℕ) {on : Settings} {o : Outcome} {w : Work} {n : ℕ} {state report : List ℕ} → Passed (cardUnder on) o w → w .place .taken ≡ 0
+    → w .place .written ≡ 0 → n ≡ w .pass .refusal → state ≡ laidOut size (cardUnder on (w .pass .card))
+    → report ≡ reportOf (w .pass .refusal) (w .pass .place .taken) (w .pass .place .written) → Calls (ranOf size o (w .room)) n state (w .left) report
+called size r t w e a b = let at = counts r t w in record {
   result-is = e ∙ r .refusal-is;
-  state-is = a ∙ rw (r .state-is);
+  state-is = a ∙ ap (laidOut size) (r .state-is);
   replies-is = r .left-is;
-  report-is = b ∙ rw (r .refusal-is, r .taken-is, r .written-is);
+  report-is = b ∙ rw (r .refusal-is, at .0, at .1);
 }
 
 -- a call that is turned away

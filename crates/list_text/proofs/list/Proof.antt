@@ -1,13 +1,15 @@
 -- `list_text::list` lists what the run from reset left, or that the input is too long. Assumes nothing.
-use mathlib.Core.Path.{_≡_, ap, _∙_}
+use mathlib.Core.Path.{_≡_, refl, ap, _∙_}
 use mathlib.Core.List.{List, []}
 use Prim.Native.Nat.{ℕ}
 use native.Mathlib.Omega.{arith}
 use lib.ListN.{length, replicate, length-replicate}
 use borrow.Author.Needs.{needs}
 use denote.Ref.{now}
+use Rattle.terms.specs.Settings.{Settings}
 use Rattle.chip.specs.Step.{given}
-use Rattle.record_runs.specs.Held.{Ran}
+use Rattle.error_memory.specs.Held.{cardUnder}
+use Rattle.record_runs.specs.Held.{Work, Passed, atStart}
 use Rattle.listing.specs.Listing.{replyRoom, listingOf}
 use Rattle.listing.proofs.Adding.{told-as}
 use Rattle.list_text.proofs.Printing.{too-long, idle, as-run, written-there, in-room, refusal-small, of-run}
@@ -31,40 +33,45 @@ run-all-requires c κs =
 room-is : length (replicate {A = ℕ} replyRoom 0) ≡ replyRoom
 room-is = length-replicate {A = ℕ} replyRoom 0
 
--- the run that was made is that of the definition
-ran : (c : tie.After-run-all) → let a = c .before .before .before .before .before .args in
-    Ran (given (a .mode) (a .rule)) (runFor (given (a .mode) (a .rule)) (now (a .input))) (c .run-all .result) (now (a .input)) (replicate replyRoom 0)
-    (c .run-all .last .1 .1 .1 .1 .0)
-ran c =
-    let at-card = c .before .before in
-    let a = at-card .before .before .before .args in
-    as-run (given (a .mode) (a .rule)) (now (a .input)) (at-card .reset-card .result) (c .run-all .result) (at-card .reset-card .ensures) (c .run-all .ensures)
-    room-is
+-- what the run was given and left
+abbrev work : tie.After-run-all → Work
+work c = record {
+  place = atStart (length (now (c .before .before .before .before .before .args .input))) (length (replicate {A = ℕ} replyRoom 0));
+  card = c .before .before .reset-card .result;
+  room = replicate replyRoom 0;
+  pass = c .run-all .result;
+  left = c .run-all .last .1 .1 .1 .1 .0;
+}
+
+-- it is the run of the definition
+abbrev under : tie.After-run-all → Settings
+under c = let a = c .before .before .before .before .before .args in given (a .mode) (a .rule)
+
+abbrev file : tie.After-run-all → List ℕ
+file c = now (c .before .before .before .before .before .args .input)
+
+ran : (c : tie.After-run-all) → Passed (cardUnder (under c)) (runFor (under c) (file c)) (work c)
+ran c = as-run (under c) (file c) (work c) (c .before .before .reset-card .ensures) (c .run-all .ensures) room-is
 
 slice-aggregate-add-listing-2 : tie.Need-slice-aggregate-add-listing-2
 slice-aggregate-add-listing-2 c =
     let at-run = c .before .before .before .before .before in
-    let a = at-run .before .before .before .before .before .args in
-    written-there (given (a .mode) (a .rule)) (now (a .input)) (at-run .run-all .result) (ran at-run)
+    written-there (under at-run) (file at-run) (work at-run) (ran at-run) (refl, refl)
 
 cast-add-listing : tie.Need-cast-add-listing
 cast-add-listing c =
     let at-run = c .before .before .before .before .before .before in
-    let a = at-run .before .before .before .before .before .args in
-    omega (arith, refusal-small (given (a .mode) (a .rule)) (now (a .input)) (at-run .run-all .result) (ran at-run))
+    omega (arith, refusal-small (under at-run) (file at-run) (work at-run) (ran at-run) (refl, refl))
 
 add-listing-requires-2 : tie.Need-add-listing-requires-2
 add-listing-requires-2 c κs =
     let at-run = c .before .before .before .before .before .before in
-    let a = at-run .before .before .before .before .before .args in
-    (in-room (given (a .mode) (a .rule)) (now (a .input)) (at-run .run-all .result) (ran at-run) room-is, search needs)
+    (in-room (under at-run) (file at-run) (work at-run) (ran at-run) (refl, refl) room-is, search needs)
 
 returns-2 : tie.Need-returns-2
 returns-2 c =
     let at-run = c .before .before .before .before .before .before .before in
-    let at-test = at-run .before .before .before in
-    let a = at-test .before .before .args in
-    told-as (of-run (given (a .mode) (a .rule)) (now (a .input)) (at-run .run-all .result) (ran at-run) (at-test .if1 .left)) (c .add-listing2 .ensures .0)
+    told-as (of-run (under at-run) (file at-run) (work at-run) (ran at-run) (refl, refl) (at-run .before .before .before .if1 .left)) (c .add-listing2 .ensures .0)
 
 pub list-spec : {M : Type 1} → statement M
 list-spec =

@@ -1,17 +1,15 @@
 -- `sheets::run_good` meets its contract: the run on the card that was read and on the sheets where they lie, the state and the report written. Assumes nothing.
-use mathlib.Core.Path.{sym, ap₂, subst}
+use mathlib.Core.Path.{refl, sym, ap₂, subst}
 use Prim.Native.Nat.{_<_}
 use native.Mathlib.Omega.{arith}
 use lib.ListN.{length}
 use denote.Ref.{now}
 use Rattle.chip.specs.State.{State}
 use Rattle.chip.specs.Step.{given}
-use Rattle.error_memory.specs.Memory.{Card, cardWith}
+use Rattle.error_memory.specs.Memory.{cardWith}
 use Rattle.error_memory.specs.Held.{cardUnder}
-use Rattle.state_bytes.specs.Bytes.{cardIn}
 use Rattle.state_bytes.proofs.States.{state-sized, state-ready}
-use Rattle.sheets.specs.Step.{held, runOf}
-use Rattle.sheets.specs.Held.{Ran}
+use Rattle.sheets.specs.Step.{held}
 use Rattle.sheets.proofs.Calling.{called, run-small}
 use borrow.Author.Needs.{needs}
 use Rattle.sheets.proofs.run_good.Statement.{statement}
@@ -45,18 +43,10 @@ returns c =
     let a = at-run .before .before .before .before .before .before .before .before .before .before .args in
     let on = given (a .mode) (a .rule) in
     let l = now (a .state) in
-    let input = now (a .input) in
-    let replies = now (a .replies) in
     let read = at-run .before .before .before .card-in .ensures in
     let r = at-run .run-lines in
-    let o = r .result in
-    let sheets = r .last .1 .1 .1 .0 in
-    let left = r .last .1 .1 .1 .1 .1 .0 in
-    let ran = subst (λ (k : Card). Ran on (runOf (held k (now (a .sheets))) input (length replies)) o sheets input replies left) (ap₂ (cardWith on) (read .0)
-    (read .1)) (r .ensures) in
     let put = c .before .before .before .before .settle .ensures in
-    called (length l) (runOf (held (cardIn on l) (now (a .sheets))) input (length replies)) (cardUnder on (o .card)) input replies left sheets ran (put .0)
-    (put .1) (put .2)
+    called (length l) (r .last .1 .1 .1 .0) (rw (ap₂ (cardWith on) (read .0) (read .1)) at (r .ensures)) refl refl (put .0) (put .1) (put .2)
 
 pub run-good-spec : {M : Type 1} → statement M
 run-good-spec =

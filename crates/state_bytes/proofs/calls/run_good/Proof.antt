@@ -1,17 +1,14 @@
 -- `state_bytes::calls::run_good` meets its contract: the run on the card that was read, the state and the report written. Assumes nothing.
-use mathlib.Core.Path.{sym, ap₂, subst}
+use mathlib.Core.Path.{refl, sym, ap₂, subst}
 use Prim.Native.Nat.{_<_}
 use native.Mathlib.Omega.{arith}
 use lib.ListN.{length}
 use denote.Ref.{now}
 use Rattle.chip.specs.State.{State}
 use Rattle.chip.specs.Step.{given}
-use Rattle.error_memory.specs.Memory.{Card, cardWith}
+use Rattle.error_memory.specs.Memory.{cardWith}
 use Rattle.error_memory.specs.Held.{cardUnder}
-use Rattle.record_runs.specs.Run.{runOf}
-use Rattle.record_runs.specs.Held.{Ran}
 use Rattle.record_runs.proofs.Ready.{run-small}
-use Rattle.state_bytes.specs.Bytes.{cardIn}
 use Rattle.state_bytes.proofs.States.{state-sized, state-ready}
 use Rattle.state_bytes.proofs.Calling.{called}
 use borrow.Author.Needs.{needs}
@@ -43,16 +40,9 @@ returns c =
     let a = at-run .before .before .before .before .before .before .before .before .args in
     let on = given (a .mode) (a .rule) in
     let l = now (a .state) in
-    let input = now (a .input) in
-    let replies = now (a .replies) in
     let held = at-run .before .before .card-in .ensures in
-    let r = at-run .run-all in
-    let o = r .result in
-    let left = r .last .1 .1 .1 .1 .0 in
-    let ran =
-    subst (λ (k : Card). Ran on (runOf k input (length replies)) o input replies left) (ap₂ (cardWith on) (held .0) (held .1)) (r .ensures) in
     let put = c .before .before .before .before .settle .ensures in
-    called (length l) (runOf (cardIn on l) input (length replies)) (cardUnder on (o .card)) input replies left ran (put .0) (put .1) (put .2)
+    called (length l) (rw (ap₂ (cardWith on) (held .0) (held .1)) at (at-run .run-all .ensures)) refl refl (put .0) (put .1) (put .2)
 
 pub run-good-spec : {M : Type 1} → statement M
 run-good-spec =

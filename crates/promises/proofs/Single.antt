@@ -50,7 +50,7 @@ module _ (s : Card) (r : List ℕ) (room : ℕ) (e : Event) (h : Holds mostPaylo
       let d : drop (4 + payloadOf e) r ≡ [] = drop-of-length-le r {i = 4 + payloadOf e} (omega arith) in
       let t = worked s e (answerOf s (drop 4 r) e) in
       first-taken lawful s r room t (the-turn g) some refl
-      ∙ rw (d, nothing lawful (t .state) (room - length (t .reply)), add-zero (4 + payloadOf e), append-nil (t .reply))
+      ∙ rw (d, nothing lawful (t .state) (room - length (t .written)), add-zero (4 + payloadOf e), append-nil (t .written))
 
   stop-turn : room < 5 + answeredOf e → turnOf s r room ≡ stopped NoRoom s
   unfolding turnUnder

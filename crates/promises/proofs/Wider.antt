@@ -1,31 +1,67 @@
--- Under a wider limit a record that did not stop with 7 is the record that it was: only a length or a count over the narrower limit tells them apart, and that
--- is 7. Assumes nothing.
+-- Two steps that differ only where the first stops with one refusal run every file alike up to the record that stops it. Under a wider limit a record that did
+-- not stop with 7 is the record that it was: only a length or a count over the narrower limit tells them apart, and that is 7. Assumes nothing.
 use mathlib.Core.Path.{_≡_, refl, sym, ap, _∙_}
-use mathlib.Core.List.{List}
+use mathlib.Core.List.{List, _++_}
 use Prim.Native.Nat.{ℕ, _+_, _-_, _≤_, _<_}
 use native.Mathlib.Omega.{arith}
 use lib.Dec.{lit<}
-use lib.ListN.{length, getD, drop}
-use borrow.Author.Tests.{lt-ltb, le-ltb, eq-eqb, ne-eqb}
+use lib.ListN.{length, getD, drop, take, take-append-drop}
+use borrow.Author.Tests.{lt-ltb, le-ltb, ne-eqb}
 use Rattle.terms.specs.declared.Refusal.the-variants.{BadLength}
 use Rattle.terms.specs.Limits.{leastLength}
 use Rattle.error_memory.specs.Memory.{Card}
 use Rattle.record_files.proofs.Tests.{either-lt, either-eq}
-use Rattle.record_files.proofs.Append.{onward}
-use Rattle.record_files.proofs.Alike.{runs-alike, alike-from}
+use Rattle.record_files.proofs.Append.{onward, nothing, first-stops, first-taken, appended}
 use Rattle.record_runs.specs.declared.head.Frame.{Frame}
 use Rattle.record_runs.specs.declared.head.Frame.the-variants.{Framed, Broken}
 use Rattle.terms.specs.declared.EventKind.{EventKind}
-use Rattle.terms.specs.declared.EventKind.the-variants.{Push as PushKind, Pop as PopKind, Command as CommandKind, Status as StatusKind}
-use Rattle.terms.specs.declared.EventKind.the-variants.{Reset as ResetKind, Acknowledge as AcknowledgeKind, Recall as RecallKind}
-use Rattle.terms.specs.declared.EventKind.the-variants.{Forget as ForgetKind, Unknown as UnknownKind}
+use Rattle.terms.specs.declared.EventKind.the-variants.{
+  Push as PushKind,
+  Pop as PopKind,
+  Command as CommandKind,
+  Status as StatusKind,
+  Reset as ResetKind,
+  Acknowledge as AcknowledgeKind,
+  Recall as RecallKind,
+  Forget as ForgetKind,
+  Unknown as UnknownKind,
+}
 use Rattle.terms.specs.Kind.{kindNamed}
-use Rattle.record_runs.specs.Record.{Head}
-use Rattle.record_runs.specs.Record.{Stop}
-use Rattle.record_runs.specs.Record.{wordAt, popRow, rowBy, frameUnder, headIn, headUnder, turnBy, turnUnder}
+use Rattle.record_runs.specs.Record.{Head, Stop, wordAt, popRow, rowBy, frameUnder, headIn, headUnder, turnBy, turnUnder}
 use Rattle.record_runs.specs.Run.{runUnder}
 use Rattle.record_runs.proofs.Heads.{short, low, high, cut, whole}
 use Rattle.record_runs.proofs.Prefix.{lawful-under}
+use Rattle.record_files.specs.Run.{RecordStep, Outcome, after, runBy}
+use Rattle.record_files.specs.Lawful.{Lawful}
+use Rattle.record_files.proofs.Through.{ended-well, through, up-to-stop}
+
+module _ {S : Type 0} {m n : ℕ} {a b : RecordStep S} (la : Lawful m a) (lb : Lawful n b) (r : ℕ) (some : 0 < r)
+    (same : (s : S) (l : List ℕ) (room : ℕ) → (a s l room .refusal ≡ r → ⊥) → b s l room ≡ a s l room) where
+  runs-alike : (s : S) (l : List ℕ) (room : ℕ) → (runBy a s l room .refusal ≡ r → ⊥) → runBy b s l room ≡ runBy a s l room
+  runs-alike =
+      through la (λ s l room o. (o .refusal ≡ r → ⊥) → runBy b s l room ≡ o)
+      (λ s room z. nothing lb s room)
+      (λ s l room p y z. first-stops lb s l room (a s l room) (same s l room z) p y)
+      (λ s l room p y more z.
+      first-taken lb s l room (a s l room) (same s l room (λ e. let x : 0 ≡ r = sym y ∙ e in omega arith)) p y
+      ∙ ap (after (a s l room .taken) (a s l room .written)) (more z))
+
+  -- the file up to the stop, and the run of the whole file from there
+  module _ (s : S) (l : List ℕ) (room : ℕ) where
+    alike-up-to : runBy b s (take (runBy a s l room .taken) l) room ≡ ended-well (runBy a s l room)
+    alike-up-to =
+        let k = take (runBy a s l room .taken) l in
+        let e = up-to-stop la s l room in
+        runs-alike s k room (λ z. let x : 0 ≡ r = sym (ap (λ (o : Outcome S). o .refusal) e) ∙ z in omega arith) ∙ e
+
+    alike-from : runBy b s l room ≡ onward b (runBy a s l room) (drop (runBy a s l room .taken) l) room
+    alike-from =
+        let o = runBy a s l room in
+        ap (λ (k : List ℕ). runBy b s k room) (sym (take-append-drop (o .taken) l))
+        ∙ appended lb s (take (o .taken) l) (drop (o .taken) l) room (ap (λ (p : Outcome S). p .refusal) alike-up-to)
+        ∙ ap (λ (p : Outcome S). onward b p (drop (o .taken) l) room) alike-up-to
+
+-- ---- a wider limit
 
 module _ (m k : ℕ) (wider : m ≤ k) where
   same-frame : (l : List ℕ) → (frameUnder m l ≡ Broken BadLength → ⊥) → frameUnder k l ≡ frameUnder m l
