@@ -50,16 +50,10 @@ use Rattle.promises.proofs.RunCall.{run-call}
 use Rattle.promises.specs.FloatWords.{FloatWord}
 use Rattle.promises.specs.Formulas.{fileIn, Evaluates, EvaluatesCall}
 
--- ---- a text that is stated, refused or taken, as the statement has it, over the crate's trees
+-- ---- a text that is stated or taken, as the statement has it, over the crate's trees
 pub record Stated (text letters : List ℕ) (f : Formula) : Type 0 where
   pub eight-words : length letters ≡ 32
   pub is-text : IsText text f
-
-pub data Refuses (text letters : List ℕ) (room : ℕ) : ℕ → Type 0 where
-  no-formula : ((f : Formula) → Stated text letters f → ⊥) → Refuses text letters room 30
-  improper : (f : Formula) → Stated text letters f → properIn letters f ≡ false → Refuses text letters room 31
-  needs-more : (f : Formula) → Stated text letters f → properIn letters f ≡ true → 4 < needOf f → Refuses text letters room 32
-  no-room : (f : Formula) → Stated text letters f → properIn letters f ≡ true → needOf f ≤ 4 → room < length (fileOf letters f) → Refuses text letters room 33
 
 pub record Takes (text letters : List ℕ) (room : ℕ) (f : Formula) : Type 0 where
   pub stated : Stated text letters f
@@ -75,13 +69,13 @@ module _ (text letters : List ℕ) (room : ℕ) (f : Formula) (S : Stated text l
       let T = S .is-text in
       text-fits letters text room (S .eight-words) (λ e. omega (arith, T .some)) (T .short) ∙ ap (judged letters room) (is-read (T .inside) (T .shallow))
 
-  says-31 : properIn letters f ≡ false → translationOf letters text room ≡ refusing Improper
+  pub says-31 : properIn letters f ≡ false → translationOf letters text room ≡ refusing Improper
   says-31 p = judged-so ∙ rw p
 
-  says-32 : properIn letters f ≡ true → 4 < needOf f → translationOf letters text room ≡ refusing NeedsMore
+  pub says-32 : properIn letters f ≡ true → 4 < needOf f → translationOf letters text room ≡ refusing NeedsMore
   says-32 p n = judged-so ∙ rw (p, lt-ltb 4 (needOf f) n)
 
-  says-33 : properIn letters f ≡ true → needOf f ≤ 4 → room < length (fileOf letters f) → translationOf letters text room ≡ refusing NoRoom
+  pub says-33 : properIn letters f ≡ true → needOf f ≤ 4 → room < length (fileOf letters f) → translationOf letters text room ≡ refusing NoRoom
   says-33 p n r = judged-so ∙ rw (p, le-ltb 4 (needOf f) n, lt-ltb room (length (fileOf letters f)) r)
 
   says-0 : properIn letters f ≡ true → needOf f ≤ 4 → length (fileOf letters f) ≤ room → translationOf letters text
@@ -89,12 +83,12 @@ module _ (text letters : List ℕ) (room : ℕ) (f : Formula) (S : Stated text l
   says-0 p n r = judged-so ∙ rw (p, le-ltb 4 (needOf f) n, le-ltb room (length (fileOf letters f)) r)
 
 -- a text that is none is 30
-record None (text letters : List ℕ) : Type 0 where
-  says-30 : (room : ℕ) → translationOf letters text room ≡ refusing NoFormula
-  not-stated : (f : Formula) → Stated text letters f → ⊥
+pub record None (text letters : List ℕ) : Type 0 where
+  pub says-30 : (room : ℕ) → translationOf letters text room ≡ refusing NoFormula
+  pub not-stated : (f : Formula) → Stated text letters f → ⊥
 
 -- a formula, or none
-looked : (text letters : List ℕ) → ((f : Formula) × Stated text letters f) ⊎ None text letters
+pub looked : (text letters : List ℕ) → ((f : Formula) × Stated text letters f) ⊎ None text letters
 looked text letters = go (eqb (length letters) 32) refl (eqb (length text) 0) refl (ltb 256 (length text)) refl (formulaOf text) refl
   where
     go : (p : Bool) → eqb (length letters) 32 ≡ p → (q : Bool) → eqb (length text) 0 ≡ q → (r : Bool) → ltb 256 (length text) ≡ r → (x : Read)
@@ -137,69 +131,21 @@ looked text letters = go (eqb (length letters) 32) refl (eqb (length text) 0) re
         )
 
 -- ---- the calls
-pub is-refused : (text letters file : List ℕ) (n : ℕ) → Refuses text letters (length file) n
-    → formulaCall text letters file ≡ record { result = 65536 * n; file = file }
-is-refused text letters file n (no-formula h) = ⊎-elim (λ x. absurd (h (x .0) (x .1))) (λ z. ap (λ (t : Translated). wroteBy t file) (z .says-30 (length file)))
-    (looked text letters)
-is-refused text letters file n (improper f S p) = ap (λ (t : Translated). wroteBy t file) (says-31 text letters (length file) f S p)
-is-refused text letters file n (needs-more f S p m) = ap (λ (t : Translated). wroteBy t file) (says-32 text letters (length file) f S p m)
-is-refused text letters file n (no-room f S p m r) = ap (λ (t : Translated). wroteBy t file) (says-33 text letters (length file) f S p m r)
+-- by what the translator says
+pub written-so : (text letters file : List ℕ) {t : Translated} → translationOf letters text (length file) ≡ t → formulaCall text letters file ≡ wroteBy t file
+written-so text letters file e = ap (λ (t : Translated). wroteBy t file) e
 
 pub is-translated : (text letters file : List ℕ) (f : Formula) → Takes text letters (length file) f
     → formulaCall text letters file ≡ record { result = length (fileOf letters f); file = fileOf letters f ++ drop (length (fileOf letters f)) file }
 is-translated text letters file f T =
     let F = fileOf letters f in
     let z : 65536 * 0 + length F ≡ length F = omega arith in
-    ap (λ (t : Translated). wroteBy t file) (says-0 text letters (length file) f (T .stated) (T .proper) (T .need) (T .fits))
+    written-so text letters file (says-0 text letters (length file) f (T .stated) (T .proper) (T .need) (T .fits))
     ∙ ap (λ (n : ℕ). record { result = n; file = F ++ drop (length F) file }) z
 
-pub either-way : (text letters file : List ℕ) → ((n : ℕ) × Refuses text letters (length file) n) ⊎ ((f : Formula) × Takes text letters (length file) f)
-either-way text letters file = ⊎-elim (λ x. by (x .0) (x .1)) (λ z. inl (30, no-formula (z .not-stated))) (looked text letters)
-  where
-    by : (f : Formula) → Stated text letters f → ((n : ℕ) × Refuses text letters (length file) n) ⊎ ((f : Formula) × Takes text letters (length file) f)
-    by f S = go (properIn letters f) refl (ltb 4 (needOf f)) refl (ltb (length file) (length (fileOf letters f))) refl
-      where
-        go : (p : Bool) → properIn letters f ≡ p → (q : Bool) → ltb 4 (needOf f) ≡ q → (r : Bool) → ltb (length file) (length (fileOf letters f)) ≡ r
-            → ((n : ℕ) × Refuses text letters (length file) n) ⊎ ((f : Formula) × Takes text letters (length file) f)
-        go false a q b r c = inl (31, improper f S a)
-        go true a true b r c = inl (32, needs-more f S a (ltb-true 4 (needOf f) b))
-        go true a false b true c = inl (33, no-room f S a (ltb-false 4 (needOf f) b) (ltb-true (length file) (length (fileOf letters f)) c))
-        go true a false b false c = inr (
-          f,
-          record {
-            stated = S;
-            proper = a;
-            need = ltb-false 4 (needOf f) b;
-            fits = ltb-false (length file)
-                (length (fileOf letters f)) c;
-          },
-        )
-
--- a file has less than 65,536 bytes, and a refusal is of at least 30
+-- a file has less than 65,536 bytes
 pub file-short : (text letters : List ℕ) (room : ℕ) (f : Formula) → Takes text letters room f → length (fileOf letters f) ≤ 1664
 file-short text letters room f T = file-most letters (T .stated .is-text .inside) (T .stated .is-text .short)
-
-least : {text letters : List ℕ} {room n : ℕ} → Refuses text letters room n → 30 ≤ n
-least (no-formula h) = omega arith
-least (improper f S p) = omega arith
-least (needs-more f S p m) = omega arith
-least (no-room f S p m r) = omega arith
-
-pub given-there : (text letters file : List ℕ) (n : ℕ) → 1 ≤ n → formulaCall text letters file .result ≡ 65536 * n → Refuses text letters (length file) n
-given-there text letters file n h e = ⊎-elim
-    (λ x.
-    let z = ap (λ (w : Wrote). w .result) (is-refused text letters file (x .0) (x .1)) in
-    let same : x .0 ≡ n = omega (arith, e) in
-    subst (λ (k : ℕ). Refuses text letters (length file) k) same (x .1))
-    (λ x. let z = ap (λ (w : Wrote). w .result) (is-translated text letters file (x .0) (x .1))
-    in absurd (omega (arith, e, file-short text letters (length file) (x .0) (x .1))))
-    (either-way text letters file)
-
-pub given-then : (text letters file : List ℕ) → formulaCall text letters file .result < 65536 → (f : Formula) × Takes text letters (length file) f
-given-then text letters file h = ⊎-elim
-    (λ x. let z = ap (λ (w : Wrote). w .result) (is-refused text letters file (x .0) (x .1)) in absurd (omega (arith, least (x .1))))
-    (λ x. x)
-    (either-way text letters file)
 
 -- ---- the run
 pub file-is : (text letters file : List ℕ) (f : Formula) → Takes text letters (length file) f → fileIn (formulaCall text letters file) ≡ fileOf letters f
