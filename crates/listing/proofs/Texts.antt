@@ -6,8 +6,12 @@ use Prim.Native.Nat.{ℕ}
 use native.Mathlib.Omega.{arith}
 use borrow.Author.Tests.{eq-eqb, eqb-true}
 use lib.Dec.{eqb}
+use lib.ListN.{take}
+use Rattle.io.specs.Counts.{Counts}
 use Rattle.listing.specs.declared.options.Asked.{Asked}
 use Rattle.listing.specs.Options.{sameText, textFor}
+use Rattle.listing.specs.Text.{Adds}
+use Rattle.listing.proofs.Adding.{at-front}
 
 and-both : (s t : Bool) → (s && t) ≡ true → (s ≡ true) × (t ≡ true)
 and-both true t e = (refl, e)
@@ -46,3 +50,9 @@ tells l m false f g = is-other l m false g refl
 pub asked-as : (under : ℕ → ℕ → List ℕ → List ℕ) (input : List ℕ) {asked known : Asked} → asked ≡ known
     → textFor under known input ≡ textFor under asked input
 asked-as under input e = ap (λ (a : Asked). textFor under a input) (sym e)
+
+-- what is added at the front for what a call asks for, told by its words
+pub for-call : (under : ℕ → ℕ → List ℕ → List ℕ) (input : List ℕ) {by-words asked known : Asked} {text before after : List ℕ} {new : ℕ}
+    → asked ≡ by-words → asked ≡ known → text ≡ textFor under known input → Adds text before after 0 new
+    → Counts new after × (take new after ≡ textFor under by-words input)
+for-call under input e f g a = at-front (g ∙ asked-as under input (sym e ∙ f)) a
