@@ -29,7 +29,6 @@ use Rattle.promises.specs.Given.{settingsIn, runCall}
 use Rattle.promises.specs.Formulas.{FormulaDetermined, OneTree, Stated, Refuses, no-formula, improper, needs-more, no-room, Takes, FormulaRefusals}
 use Rattle.promises.specs.Formulas.{fileIn, Evaluates, EvaluatesCall, FormulaRuns}
 use Rattle.promises.specs.Formulas.{WrongTranslators, lettersGiven, FormulaExamples}
-use Rattle.promises.proofs.Measures.{theirs-rest}
 use Rattle.promises.proofs.FormulaText.{tree, leaf, tree-back, leaf-back, need-is, proper-is, file-is, word-is, replies-are, theirs-sum, theirs-text}
 use Rattle.promises.proofs.FormulaText.{ours-text}
 use Rattle.promises.proofs.Translations as crate
@@ -118,7 +117,7 @@ pub formula-runs : FormulaRuns
 formula-runs = record {
   records = λ on s m text letters file f room T B six R h.
       subst₂ (λ (l : List ℕ) (w : ℕ). Evaluates on s m (fileIn (formulaCall text letters file)) l room w) (replies-are f) (word-is letters (on .rule) f)
-      (crate.as-records on s m text letters file (tree f) room (theirs-takes T) B six (theirs-rest R)
+      (crate.as-records on s m text letters file (tree f) room (theirs-takes T) B six R
       (subst (λ (l : List ℕ). length l ≤ room) (sym (replies-are f)) h));
   calls = λ g C state replies report text letters file f T B S h w n r.
       subst₂ (λ (l : List ℕ) (v : ℕ). EvaluatesCall (runCall g state (fileIn (formulaCall text letters file)) replies report)
