@@ -27,7 +27,7 @@ use Rattle.error_memory.specs.declared.Memory.{Memory}
 use Rattle.error_memory.specs.Event.{Event}
 use Rattle.error_memory.specs.Event.{Chip, Recall, Forget}
 use Rattle.error_memory.specs.Memory.{emptyMemory, Card, cardWith, CardAnswer, keptAfter, answerWith, eventIn}
-use Rattle.error_memory.specs.History.{afterAll}
+use Rattle.promises.specs.Remembered.{afterAll}
 use Rattle.error_memory.proofs.Good.{memory-cases, ReadyCard}
 use Rattle.record_runs.specs.Record.{turnOf}
 use Rattle.record_runs.specs.Run.{Outcome, took, after as joinedTo, runOf as fileRun}

@@ -16,7 +16,7 @@ use Rattle.stack.proofs.Words.{length-bytes}
 use Rattle.codes.specs.declared.FloatOp.the-variants.{Add, Sub, Mul, Div}
 use Rattle.codes.specs.Codes.{decoded}
 use Rattle.chip.specs.State.{State}
-use Rattle.chip.specs.Events.{AtRest}
+use Rattle.promises.specs.BusEvents.{AtRest}
 use Rattle.error_memory.specs.declared.Memory.{Memory}
 use Rattle.formula.specs.Formula.{needOf}
 use Rattle.formula.specs.File.{letterWord, constantWord, codeOf, commandRecord, minusCode, fileOf}

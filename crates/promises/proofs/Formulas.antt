@@ -28,7 +28,6 @@ use Rattle.promises.specs.Given.{settingsIn, runCall}
 use Rattle.promises.specs.Formulas.{FormulaDetermined, OneTree, Stated, Refuses, no-formula, improper, needs-more, no-room, Takes, FormulaRefusals}
 use Rattle.promises.specs.Formulas.{fileIn, FormulaRuns}
 use Rattle.promises.specs.Formulas.{WrongTranslators, lettersGiven, FormulaExamples}
-use Rattle.promises.proofs.Measures.{theirs-rest}
 use Rattle.promises.proofs.FormulaText.{tree, leaf, tree-back, leaf-back, need-is, proper-is, file-is, theirs-sum, theirs-text}
 use Rattle.promises.proofs.FormulaText.{ours-text}
 use Rattle.promises.proofs.FormulaRuns.{replies-few}
@@ -141,7 +140,7 @@ formula-refusals = record {
 -- ---- the run
 pub formula-runs : FormulaRuns
 formula-runs = record {
-  records = λ on s m text letters file f room T B six R h. crate.as-records on s m text letters file f room (theirs-takes T) B six (theirs-rest R) h;
+  records = λ on s m text letters file f room T B six R h. crate.as-records on s m text letters file f room (theirs-takes T) B six R h;
   calls = λ g C state replies report text letters file f T B. crate.as-call g C state replies report text letters file f (theirs-takes T) B;
   proper = λ rule text letters file f T B. crate.word-proper rule text letters file f (theirs-takes T) B;
   short = λ text letters file f T.

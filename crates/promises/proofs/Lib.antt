@@ -1,6 +1,10 @@
 -- The statements' proofs, each file under its spec's name.
 pub mod Measures
 pub mod Remembered
+pub mod OnTop
+pub mod Events
+pub mod InTurn
+pub mod Round
 pub mod Determined
 pub mod Refusals
 pub mod Single

@@ -25,7 +25,6 @@ use Rattle.float.specs.Word.{size88 as size-of, value as value-of}
 use Rattle.float.specs.Convert.{wholePart as whole-of}
 use Rattle.host_floats.specs.Values as values
 use Rattle.stack.specs.Stack as stack
-use Rattle.chip.specs.Events as events
 use Rattle.record_files.proofs.Tests.{either-eq}
 use Rattle.error_memory.specs.Memory.{isMemory}
 use Rattle.error_memory.proofs.Good.{memory-cases, marked-memory}
@@ -36,10 +35,8 @@ use Rattle.promises.specs.FloatWords.{mantissa, exponent, size88, value,
 use Rattle.promises.specs.FloatResults.{Pair, Between, NearPair, PairBy, Steps, CutsBy, ExactlyBy, wholePart, Truncated}
 use Rattle.promises.specs.FloatResults.{RootPair, NearRoot, RootBy, RootCutsBy, ExactlyRootBy, Close, Lossless}
 use Rattle.promises.specs.HostFloats.{Same, HasWord, PairOf, BroughtTo, LargeBy}
-use Rattle.promises.specs.BusEvents.{AtRest}
 use Rattle.promises.specs.Remembered.{Remembers}
 use Rattle.promises.specs.StateBytes.{IsState}
-use Rattle.promises.specs.Subjects.{State}
 
 -- ---- the stack
 pub theirs-stack : {s : List ℕ} → IsStack s → stack.IsStack s
@@ -47,12 +44,6 @@ theirs-stack S = record { sixteen = S .sixteen; bytes = S .bytes }
 
 pub ours-stack : {s : List ℕ} → stack.IsStack s → IsStack s
 ours-stack S = record { sixteen = S .sixteen; bytes = S .bytes }
-
-pub theirs-rest : {s : State} → AtRest s → events.AtRest s
-theirs-rest A = record { taken = A .taken; whole = A .whole }
-
-pub ours-rest : {s : State} → events.AtRest s → AtRest s
-ours-rest A = record { taken = A .taken; whole = A .whole }
 
 -- ---- words
 pub size-is : (w : ℕ) → word.size88 w ≡ size88 w

@@ -23,7 +23,7 @@ use Rattle.chip.specs.Event.{Event as ChipEvent}
 use Rattle.chip.specs.Event.{Push as PushEvent, Pop as PopEvent, Command as CommandEvent, Status as StatusEvent, Reset as ResetEvent}
 use Rattle.chip.specs.State.{busy, moved, keptStack, afterReset}
 use Rattle.chip.specs.Step.{pushOf, popOf, resetOf, commandUnder}
-use Rattle.chip.specs.Events.{afterEvents}
+use Rattle.promises.specs.BusEvents.{afterEvents}
 use Rattle.chip.proofs.InTurn.{push-done, pop-done}
 use Rattle.error_memory.specs.declared.Memory.{Memory}
 use Rattle.error_memory.specs.Memory.{Card, CardAnswer, cardWith, answerWith}

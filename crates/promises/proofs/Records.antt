@@ -25,8 +25,9 @@ use Rattle.terms.specs.Limits.{mostPayload}
 use Rattle.record_runs.proofs.Heads.{heads}
 use Rattle.record_runs.proofs.Steps.{steps}
 use Rattle.record_runs.proofs.Prefix.{holds-too, within, lawful}
-use Rattle.promises.proofs.Single.{one-turn, no-turn, stopped-by, push-alone, pop-alone, command-alone, status-alone, reset-alone, acknowledge-alone}
+use Rattle.promises.proofs.Single.{one-turn, no-turn, stopped-by, command-alone, status-alone, reset-alone, acknowledge-alone}
 use Rattle.promises.proofs.Single.{recall-alone, forget-alone}
+use Rattle.promises.proofs.InTurn.{push-alone, pop-alone}
 use Rattle.record_runs.proofs.Ready.{event-fair, run-ready}
 use Rattle.state_bytes.specs.Bytes.{cardIn}
 use Rattle.state_bytes.proofs.Calling.{good}

@@ -1,38 +1,34 @@
 -- A file of one whole record: its turn alone, card and reply from the answer; and each kind on a state that is not busy. Assumes nothing.
-use mathlib.Core.Path.{_≡_, refl, ap, _∙_}
+use mathlib.Core.Path.{_≡_, refl, _∙_}
 use mathlib.Core.Bool.{false}
 use mathlib.Core.List.{List, [], _∷_, append-nil}
-use Prim.Native.Nat.{ℕ, zero, suc, _+_, _-_, _/_, _%_, _≤_, _<_}
+use Prim.Native.Nat.{ℕ, _+_, _-_, _≤_, _<_}
 use native.Mathlib.Omega.{arith}
 use native.Mathlib.Nat.{add-zero}
-use borrow.Author.Tests.{lt-ltb, le-ltb, leb-false}
+use borrow.Author.Tests.{lt-ltb, le-ltb}
 use lib.Dec.{lit≤}
 use lib.ListN.{length, drop, length-drop, drop-of-length-le}
 use lib.Seq.{take-all}
 use Rattle.terms.specs.declared.Mode.{Mode}
 use Rattle.terms.specs.declared.Refusal.{Refusal}
-use Rattle.terms.specs.declared.Refusal.the-variants.{Done, NoRoom}
+use Rattle.terms.specs.declared.Refusal.the-variants.{NoRoom}
 use Rattle.terms.specs.Refusal.{numberOf}
 use Rattle.terms.specs.Settings.{Settings}
 use Rattle.terms.specs.Limits.{mostPayload}
 use Rattle.chip.specs.State.{State}
-use Rattle.chip.specs.State.{Answer}
 use Rattle.chip.specs.Event.{Command as CommandEvent}
 use Rattle.chip.specs.State.{busy, afterReset, acknowledged}
-use Rattle.chip.specs.Step.{done, pushOf, popOf, readOf, resetOf, acknowledgeOf, commandUnder}
-use Rattle.chip.specs.InTurn.{afterPushes, afterPops, bytesPopped}
-use Rattle.chip.proofs.InTurn.{push-done, pop-done}
+use Rattle.chip.specs.Step.{done, readOf, resetOf, acknowledgeOf, commandUnder}
 use Rattle.error_memory.specs.declared.Memory.{Memory}
 use Rattle.error_memory.specs.Memory.{emptyMemory, Card, cardWith, keptAfter}
 use Rattle.record_files.proofs.Append.{nothing, first-stops, first-taken}
 use Rattle.record_runs.specs.Record.{Event}
-use Rattle.record_runs.specs.Record.{Push, Pop, Command, Status, Reset, Acknowledge, Recall, Forget}
+use Rattle.record_runs.specs.Record.{Command, Status, Reset, Acknowledge, Recall, Forget}
 use Rattle.record_runs.specs.Record.{Stop}
-use Rattle.record_runs.specs.Record.{kindOf, payloadOf, answeredOf, headOf, Carried, Holds, before, pushAll, popAll, answerOf, dataOf, replyOf, stopped}
+use Rattle.record_runs.specs.Record.{kindOf, payloadOf, answeredOf, headOf, Carried, Holds, answerOf, dataOf, replyOf, stopped}
 use Rattle.record_runs.specs.Record.{worked, turnUnder, turnOf}
 use Rattle.record_runs.specs.Run.{ended, took, runOf}
 use Rattle.record_runs.proofs.Heads.{head-is}
-use Rattle.record_runs.proofs.Blocks.{length-popped}
 use Rattle.record_runs.proofs.Prefix.{lawful}
 
 module _ (s : Card) (r : List ℕ) (room : ℕ) (e : Event) (h : Holds mostPayload r e) (n : length r ≡ 4 + payloadOf e) where
@@ -79,42 +75,8 @@ acknowledge-is : (s : State) → busy s ≡ false → acknowledgeOf s ≡ done 0
 unfolding acknowledgeOf
 acknowledge-is s h = rw h
 
--- blocks: every byte is answered 0
-pushes : (p : List ℕ) (a : Answer) → busy (a .state) ≡ false → a .refusal ≡ Done → (pushAll a p .refusal ≡ Done) × (pushAll a p .state ≡ afterPushes (a .state)
-    p)
-pushes [] a h d = (d, refl)
-pushes (b ∷ bs) a h d =
-    let e = push-done (a .state) b (leb-false 128 (a .state .status) h) in
-    pushes bs (pushOf (a .state) b) (ap (λ (x : Answer). busy (x .state)) e ∙ h) (ap (λ (x : Answer). x .refusal) e)
-
-pops : (n : ℕ) (a : Answer) → busy (a .state) ≡ false → a .refusal ≡ Done → (popAll n a .refusal ≡ Done) × (popAll n a .state ≡ afterPops n (a .state))
-pops zero a h d = (d, refl)
-pops (suc n) a h d =
-    let e = pop-done (a .state) (leb-false 128 (a .state .status) h) in
-    pops n (popOf (a .state)) (ap (λ (x : Answer). busy (x .state)) e ∙ h) (ap (λ (x : Answer). x .refusal) e)
-
 -- ---- one record of each kind, on a chip beside a memory
 module _ (on : Settings) (s : State) (m : Memory) where
-  pub push-alone : (p : List ℕ) (room : ℕ) → busy s ≡ false → 1 ≤ length p → length p ≤ mostPayload → 5 ≤ room
-      → runOf (cardWith on s m) ((2 + length p) ∷ 0 ∷ 1 ∷ 0 ∷ p) room ≡ took (cardWith on (afterPushes s p) m) (4 + length p) (3 ∷ 0 ∷ 129 ∷ 0 ∷ 0 ∷ [])
-  push-alone p room calm least most fits =
-      let r : List ℕ = (2 + length p) ∷ 0 ∷ 1 ∷ 0 ∷ p in
-      let e = Push (length p) in
-      let h : Holds mostPayload r e = record { length-is = omega arith; kind-is = refl; there = omega arith; small = most; carried = least } in
-      let q = pushes p (before s) calm refl in
-      one-turn (cardWith on s m) r room e h (omega arith) (omega arith) ∙ rw (q .0, q .1)
-
-  pub pop-alone : (n room : ℕ) → busy s ≡ false → 1 ≤ n → n ≤ mostPayload → 5 + n ≤ room
-      → runOf (cardWith on s m) (3 ∷ 0 ∷ 2 ∷ 0 ∷ n ∷ []) room ≡ took (cardWith on (afterPops n s) m) 5 ((3 + n) ∷ 0 ∷ 130 ∷ 0 ∷ 0 ∷ bytesPopped n s)
-  pop-alone n room calm least most fits =
-      let r : List ℕ = 3 ∷ 0 ∷ 2 ∷ 0 ∷ n ∷ [] in
-      let e = Pop n in
-      let h : Holds mostPayload r e = record { length-is = refl; kind-is = refl; there = omega arith; small = lit≤ tt; carried = (refl, least, most) } in
-      let q = pops n (before s) calm refl in
-      let low : (3 + n) % 256 ≡ 3 + n = omega arith in
-      let high : (3 + n) / 256 ≡ 0 = omega arith in
-      one-turn (cardWith on s m) r room e h refl fits ∙ rw (q .0, q .1, length-popped n s, low, high)
-
   pub command-alone : (code room : ℕ) → 5 ≤ room
       → runOf (cardWith on s m) (3 ∷ 0 ∷ 3 ∷ 0 ∷ code ∷ []) room
       ≡ took (cardWith on (commandUnder (on .rule) s code .state) (keptAfter m (CommandEvent code) (commandUnder (on .rule) s code))) 5

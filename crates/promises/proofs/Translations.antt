@@ -18,7 +18,7 @@ use Rattle.stack.specs.Stack.{Bytes, bytesOf, numberFrom}
 use Rattle.stack.proofs.Words.{number-bytes}
 use Rattle.chip.specs.State.{State}
 use Rattle.chip.specs.State.{resetState}
-use Rattle.chip.specs.Events.{AtRest}
+use Rattle.promises.specs.BusEvents.{AtRest}
 use Rattle.error_memory.specs.declared.Memory.{Memory}
 use Rattle.error_memory.specs.Memory.{emptyMemory, Card}
 use Rattle.record_runs.specs.Run.{Outcome}
@@ -40,7 +40,7 @@ use Rattle.promises.proofs.FormulaText.{tree}
 use Rattle.promises.proofs.FormulaLeaves.{leaves}
 use Rattle.promises.proofs.FormulaRuns.{AfterFile, evaluates}
 use Rattle.pundaliket.specs.FormulaCall.{Wrote, wroteBy, formulaCall}
-use Rattle.promises.proofs.Measures.{ours-rest, ours-word, ours-state, theirs-state}
+use Rattle.promises.proofs.Measures.{ours-word, ours-state, theirs-state}
 use Rattle.promises.specs.Given.{Given, Chosen, settingsIn, runCall}
 use Rattle.promises.specs.RunCall.{Laid, StandsFor, Reports}
 use Rattle.promises.proofs.Records.{counts-exact}
@@ -229,7 +229,7 @@ as-records on s m text letters file f room T B six R h =
       ran = L .ran .ran room h;
       on-top = ap (numberFrom 0) (L .on-top) ∙ number-bytes 4 w (L .proper .fits);
       sixteen = L .sixteen;
-      at-rest = ours-rest (L .at-rest);
+      at-rest = L .at-rest;
     })
 
 -- and through the call

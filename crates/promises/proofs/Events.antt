@@ -18,18 +18,31 @@ use Rattle.codes.specs.declared.FloatOp.{FloatOp}
 use Rattle.codes.specs.Command.{Float}
 use Rattle.codes.specs.Command.{Known}
 use Rattle.codes.specs.Codes.{decoded}
 use Rattle.chip.specs.State.{State}
 use Rattle.chip.specs.State.{Answer}
 use Rattle.chip.specs.Event.{Event}
 use Rattle.chip.specs.Event.{Command}
 use Rattle.chip.specs.Status.{statusOf, errorOf}
 use Rattle.chip.specs.Commands.{floatOf}
 use Rattle.chip.specs.Step.{done, commandUnder, answerTo}
-use Rattle.chip.specs.Events.{afterEvents, answered, leavesClear, quiet, pushesOf, AtRest, Tops, Does}
+use Rattle.promises.specs.BusEvents.{afterEvents, answered, leavesClear, quiet, pushesOf, AtRest}
 use Rattle.chip.proofs.Rows.{both-of}
 use Rattle.chip.proofs.Outcomes.{status-lt, status-error}
 use Rattle.chip.proofs.InTurn.{push-done}
-use Rattle.chip.proofs.OnTop.{idle, floated}
+use Rattle.promises.proofs.OnTop.{idle, floated}
+
+-- ---- a word on top
+-- a state at rest whose top is the word w
+pub record Tops (w : ℕ) (s : State) : Type 0 where
+  pub rest : List ℕ
+  pub stack-is : s .stack ≡ bytesOf 4 w ++ rest
+  pub at-rest : AtRest s
+
+-- what events do to a state: each is answered 0, the word of r stands on top afterwards, and where they are quiet r has no error
+pub record Does (on : Settings) (s : State) (es : List Event) (r : Flagged) : Type 0 where
+  pub all-answered : answered on s es ≡ true
+  pub tops : Tops (r .word) (afterEvents on s es)
+  pub no-error : quiet on s es ≡ true → r .error ≡ 0
 
 -- ---- events joined
 module _ (on : Settings) where
