@@ -1,11 +1,12 @@
 -- Text added at a place and then more text at the new place is both texts added at the first. Assumes nothing.
 use mathlib.Core.Path.{_≡_, refl, sym, ap, subst, _∙_}
 use mathlib.Core.List.{List, [], _∷_, _++_, append-assoc, append-nil}
-use Prim.Native.Nat.{ℕ, _+_, _/_, _%_, _≤_}
+use Prim.Native.Nat.{ℕ, _+_, _/_, _%_, _≤_, _<_}
 use native.Mathlib.Omega.{arith}
 use native.Mathlib.Nat.{add-zero, zero-add}
-use lib.ListN.{length, take, length-append, length-take}
-use lib.Seq.{paste, take-paste, take-length, length-take-le}
+use native.Mathlib.Numerals.{add-one}
+use lib.ListN.{length, take, set, length-append, length-take}
+use lib.Seq.{paste, take-paste, take-suc-set, take-length, length-take-le}
 use Rattle.io.specs.Counts.{Counts}
 use Rattle.listing.specs.Text.{digit, hex, Adds}
 
@@ -44,6 +45,10 @@ copied t l place h = record {
   moved = refl;
   reads = take-paste l place t (length t) (omega arith) (omega arith) ∙ ap (λ (s : List ℕ). take place l ++ s) (take-length t);
 }
+
+-- a character stored at the place adds it
+pub stored : (c : ℕ) (l : List ℕ) (place : ℕ) → place < length l → Adds (c ∷ []) l (set l place c) place (place + 1)
+stored c l place h = record { moved = refl; reads = ap (λ (n : ℕ). take n (set l place c)) (add-one place) ∙ take-suc-set l place c h }
 
 -- a blank and two digits are a blank and a byte in hex
 pub hexed : (b x y : ℕ) {before after : List ℕ} {place new : ℕ} → x ≡ digit (b / 16) → y ≡ digit (b % 16)

@@ -1,6 +1,5 @@
 // What the listing program prints: from the replies and the report of a run to the text of
 // document 01, a line for each reply and the last line. The text goes into a lent slice.
-pub mod ends;
 pub mod hex;
 pub mod options;
 pub mod text;
@@ -24,8 +23,8 @@ pub fn add_field(out: &mut [u8], place: usize, n: u64) -> usize
     requires { ⌜ place + length (field n) ≤ length (now out) ⌝ }
     ensures { λ r. ⌜ Adds (field n) (now (out .entry)) (now (out .exit)) place r ⌝ }
 {
-    let next = add(out, place, b" ");
-    add_decimal(out, next, n)
+    out[place] = b' ';
+    add_decimal(out, place + 1, n)
 }
 
 // A blank and two hex digits for each byte of the data.
@@ -50,7 +49,8 @@ fn add_end(out: &mut [u8], place: usize, refusal: u8, taken: u32) -> usize
     let a = add(out, place, b"end");
     let b = add_field(out, a, refusal as u64);
     let c = add_field(out, b, taken as u64);
-    add(out, c, b"\n")
+    out[c] = b'\n';
+    c + 1
 }
 
 // The bytes of the whole reply at the front of the rest, 0 where there is none.
@@ -62,13 +62,7 @@ fn whole_size(rest: &[u8]) -> usize
     }
     let head = four_at(rest, 0) as usize;
     let size = 2 + head % 65536;
-    if size < 5 {
-        return 0;
-    }
-    if rest.len() < size {
-        return 0;
-    }
-    if head / 65536 < 128 {
+    if (size < 5) | (rest.len() < size) | (head / 65536 < 128) {
         return 0;
     }
     size
@@ -97,7 +91,8 @@ fn add_reply(out: &mut [u8], place: usize, number: u64, rest: &[u8], size: usize
     let b = add_field(out, a, kind as u64);
     let c = add_field(out, b, rest[4] as u64);
     let d = add_data(out, c, &rest[5..size]);
-    add(out, d, b"\n")
+    out[d] = b'\n';
+    d + 1
 }
 
 // A line for each whole reply in turn.

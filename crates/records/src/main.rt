@@ -3,11 +3,11 @@
 // the state after each record, from reset, with `--am9511` and `--nearest` as the listing program has them. The last line is `end`; or
 // `wrong`, the number of the line, the place in it and the number of the fault; or `stopped`, the bytes before the
 // record that has no words and the refusal. What stands before a last line that is not `end` is no answer.
+use decimals::ends::line_end;
+use decimals::ends::trimmed;
+use decimals::read::rule_named;
 use libc::STDIN_FILENO;
 use libc::STDOUT_FILENO;
-use listing::ends::line_end;
-use listing::ends::trimmed;
-use listing::options::rule_named;
 use numbers::two;
 use record_runs::head::Frame;
 use record_runs::head::read_frame;

@@ -1,10 +1,10 @@
--- `listing::ends::line_end` stays within the text. Assumes nothing.
+-- `decimals::ends::line_end` stays within the text. Assumes nothing.
 use Prim.Native.Nat.{_-_, _≤_}
 use native.Mathlib.Omega.{arith}
 use lib.ListN.{length}
 use borrow.Author.Needs.{needs}
-use Rattle.listing.proofs.ends.line_end.Statement.{statement}
-use Rattle.listing.proofs.ends.line_end.Tie as tie
+use Rattle.decimals.proofs.ends.line_end.Statement.{statement}
+use Rattle.decimals.proofs.ends.line_end.Tie as tie
 
 abbrev Inv-loop : tie.InvT-loop
 Inv-loop text at end₀ end = (at ≤ end) × (end ≤ length text)

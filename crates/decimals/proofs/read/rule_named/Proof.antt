@@ -1,10 +1,10 @@
--- `listing::options::rule_named` is its definition, by the word that it was given. Assumes nothing.
+-- `decimals::read::rule_named` is its definition, by the word that it was given. Assumes nothing.
 use borrow.Author.Needs.{needs}
 use denote.Ref.{now}
 use Rattle.listing.specs.Options.{nearestWord}
 use Rattle.listing.proofs.Texts.{is-same, is-other}
-use Rattle.listing.proofs.options.rule_named.Statement.{statement}
-use Rattle.listing.proofs.options.rule_named.Tie as tie
+use Rattle.decimals.proofs.read.rule_named.Statement.{statement}
+use Rattle.decimals.proofs.read.rule_named.Tie as tie
 
 returns : tie.Need-returns
 returns c = rw (is-same _ nearestWord (c .before .same .ensures .0 (c .if1 .taken)))
