@@ -31,7 +31,7 @@ use Rattle.chip.specs.State.{State, left, afterReset, acknowledged, sett
 use Rattle.chip.specs.declared.commands.Obeyed.{Obeyed}
 use Rattle.chip.specs.Commands.{outcomeOf, properOperands}
 use Rattle.chip.specs.Step.{done, refused, resetOf, acknowledgeOf, readOf, carried, commandUnder}
-use Rattle.chip.specs.Held.{held, flipped, Settles, SettlesEither, Obeys, Performs, halfWord, refusalOf, answerAs, Commanded}
+use Rattle.chip.specs.Held.{held, flipped, Settles, SettlesEither, Obeys, Performs, halfWord, refusalNumbered, answerAs, Commanded}
 use Rattle.chip.proofs.Answers.{carried-half, carried-improper, carried-done, command-by}
 use Rattle.chip.proofs.InTurn.{turned}
 
@@ -85,12 +85,12 @@ module _ (s : State) (code : ℕ) (o : Obeyed) where
   pub as-done : o .answer < 256 → answerAs s code o ≡ done 0 (settled s (sr code) (left (bytesIn (o .stack)) (o .answer)))
   as-done h = rw (lt-ltb (o .answer) 256 h)
 
-  pub as-refused : 256 ≤ o .answer → answerAs s code o ≡ refused (refusalOf (o .answer / 256)) s
+  pub as-refused : 256 ≤ o .answer → answerAs s code o ≡ refused (refusalNumbered (o .answer / 256)) s
   as-refused h = rw (le-ltb (o .answer) 256 h)
 
   as-number : (n : ℕ) → o .answer ≡ n → answerAs s code o ≡ cond (ltb n 256) (done 0 (settled s (sr code) (left (bytesIn (o .stack)) n)))
-      (refused (refusalOf (n / 256)) s)
-  as-number n e = ap (λ (x : ℕ). cond (ltb x 256) (done 0 (settled s (sr code) (left (bytesIn (o .stack)) x))) (refused (refusalOf (x / 256)) s)) e
+      (refused (refusalNumbered (n / 256)) s)
+  as-number n e = ap (λ (x : ℕ). cond (ltb x 256) (done 0 (settled s (sr code) (left (bytesIn (o .stack)) x))) (refused (refusalNumbered (x / 256)) s)) e
 
   known-one : (rule : Rule) (command : Command) (stack : Stack) → s .stack ≡ bytesIn stack → s .pending ≡ false → Obeys rule command stack o
       → answerAs s code o ≡ carried rule s (sr code) command

@@ -83,13 +83,13 @@ halfWord Derived = DerivedCode
 halfWord Unknown = UnknownCode
 
 -- the refusal of a command by its number, 1 to 4
-abbrev pub refusalOf : ℕ → Refusal
-refusalOf n = cond (eqb n 1) UnknownCode (cond (eqb n 2) DerivedCode (cond (eqb n 3) HalfWord Improper))
+abbrev pub refusalNumbered : ℕ → Refusal
+refusalNumbered n = cond (eqb n 1) UnknownCode (cond (eqb n 2) DerivedCode (cond (eqb n 3) HalfWord Improper))
 
 -- the answer to a code that became so
 abbrev pub answerAs : State → ℕ → Obeyed → Answer
 answerAs s code o =
-    cond (ltb (o .answer) 256) (done 0 (settled s (sr code) (left (bytesIn (o .stack)) (o .answer)))) (refused (refusalOf (o .answer / 256)) s)
+    cond (ltb (o .answer) 256) (done 0 (settled s (sr code) (left (bytesIn (o .stack)) (o .answer)))) (refused (refusalNumbered (o .answer / 256)) s)
 
 -- a code on a stack, whatever stands beside it but pending and busy
 abbrev pub Commanded : Rule → Bool → ℕ → Stack → Obeyed → Type 0

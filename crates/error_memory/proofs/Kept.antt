@@ -18,7 +18,7 @@ use Rattle.chip.proofs.Kept.{event-keeps}
 use Rattle.error_memory.specs.declared.Memory.{Memory}
 use Rattle.error_memory.specs.Event.{Event}
 use Rattle.error_memory.specs.Event.{Chip, Recall, Forget}
-use Rattle.error_memory.specs.Memory.{emptyMemory, Card, CardAnswer, cardWith, remembered, keptBy, around, unlessBusy, eventIn}
+use Rattle.error_memory.specs.Memory.{emptyMemory, Card, CardAnswer, cardWith, remembered, keptBy, cardAnswer, unlessBusy, eventIn}
 
 -- whether 13 turns it away or not
 pub either-way : (P : CardAnswer → Type 0) (c : Card) (a : CardAnswer) → P (record { refusal = BadState; byte = 0; card = c }) → P a → P (unlessBusy c a)
@@ -86,8 +86,8 @@ Keeps c a = (numberOf (a .refusal) ≡ 0 → ⊥) → a ≡ record { refusal = a
 pub event-keeps-card : (c : Card) (e : Event) → Keeps c (eventIn c e)
 event-keeps-card c (Chip e) z =
     let a = answerTo (c .on) (c .chip) e in
-    ap (λ (m : Memory). around (c .on) m a) (refused-memory (c .memory) e (numberOf (a .refusal)) (a .state .status) z)
-    ∙ ⊎-elim (λ d. absurd (z (ap numberOf d))) (λ k. ap (around (c .on) (c .memory)) k) (event-keeps (c .on) (c .chip) e)
+    ap (λ (m : Memory). cardAnswer (c .on) m a) (refused-memory (c .memory) e (numberOf (a .refusal)) (a .state .status) z)
+    ∙ ⊎-elim (λ d. absurd (z (ap numberOf d))) (λ k. ap (cardAnswer (c .on) (c .memory)) k) (event-keeps (c .on) (c .chip) e)
 event-keeps-card c Recall z = either-way (Keeps c) c (record { refusal = Done; byte = c .memory .bits; card = c }) (λ y. refl) (λ y. absurd (y refl)) z
 event-keeps-card c Forget z =
     either-way (Keeps c) c (record { refusal = Done; byte = 0; card = cardWith (c .on) (c .chip) emptyMemory }) (λ y. refl) (λ y. absurd (y refl)) z

@@ -11,7 +11,7 @@ use Rattle.formula.specs.Formula.{Operator, Plus, Less, Times, Over, For
 use Rattle.formula.specs.Reader.{Read, Found, Outside, Reader, then, Sign, Joins, Ends, more, joinedBy}
 use Rattle.formula.specs.File.{codeOf}
 use Rattle.formula.specs.Postfix.{postfixOf}
-use Rattle.formula.specs.Told.{mostText, atOf, endOf, nowhere, longerOf, signCode, Asks, Move, Tells, Reads, ReadsBy}
+use Rattle.formula.specs.Told.{mostText, atOf, endOf, nowhere, longerOf, signCode, Asks, Move, FoundTo, Reads, ReadsBy}
 use Rattle.formula.proofs.Cases.{never, ends-never, more-ends, more-joins}
 use Rattle.formula.proofs.Stores.{sets-append, sets-over}
 use Rattle.formula.proofs.Places.{place-is, nowhere-at, longer-none, longer-is, next-at, next-end, longer-at, longer-end}
@@ -80,8 +80,8 @@ pub record Going (sign : ℕ → Sign) (operand : Reader) (text : List ℕ) (m :
   pub since : (m .next ≡ nowhere → ⊥) → least ≤ endOf (m .next)
 
 -- the same part, its postfix stored over something else
-retold : {text : List ℕ} {m : Move} {start left : List ℕ} {f : Formula} {rest : List ℕ} → Tells text m f rest
-    → left ≡ sets start (endOf (m .place)) (postfixOf f) → Tells text (record { place = m .place; next = m .next; before = start; after = left }) f rest
+retold : {text : List ℕ} {m : Move} {start left : List ℕ} {f : Formula} {rest : List ℕ} → FoundTo text m f rest
+    → left ≡ sets start (endOf (m .place)) (postfixOf f) → FoundTo text (record { place = m .place; next = m .next; before = start; after = left }) f rest
 retold T e = record { rest-is = T .rest-is; end-is = T .end-is; stored-is = e; later = T .later; inside = T .inside; few = T .few }
 
 -- the right operand behind the sign where m ended, and m gone on over it

@@ -17,7 +17,7 @@ use Rattle.formula.specs.Grammar.{areDigits}
 use Rattle.formula.specs.Reader.{Read, Found, Outside, then, isLetter, constantOf, leafOf, closed, factorOf, sumOf}
 use Rattle.formula.specs.File.{minusCode}
 use Rattle.formula.specs.Postfix.{postfixOf}
-use Rattle.formula.specs.Told.{mostText, atOf, endOf, nowhere, closedAt, longerOf, Asks, Move, Tells, Reads, ReadsBy}
+use Rattle.formula.specs.Told.{mostText, atOf, endOf, nowhere, closedAt, longerOf, Asks, Move, FoundTo, Reads, ReadsBy}
 use Rattle.formula.proofs.Cases.{factor-minus, factor-bracket, factor-leaf}
 use Rattle.formula.proofs.Digits.{letter-range}
 use Rattle.formula.proofs.Stores.{sets-append}
@@ -182,7 +182,7 @@ module _ (text : List ℕ) (m : Move) (short : length text ≤ mostText) (inside
   unfolding postfixOf
   brackets-read (Found f rest) {p} R e = go (eqb (getD text (atOf p) 0) 0x29) refl
     where
-      T : Tells text (innerOf m p (m .after)) f rest
+      T : FoundTo text (innerOf m p (m .after)) f rest
       T = R .told
 
       go : (t : Bool) → eqb (getD text (atOf p) 0) 0x29 ≡ t → Reads text m (closed f rest)

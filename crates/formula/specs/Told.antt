@@ -74,7 +74,7 @@ pub record Move : Type 0 where
   pub after : List ℕ
 
 -- the formula f was found, and `rest` is the text behind it: its postfix is stored behind what stood before, and has no more bytes than its text
-pub record Tells (text : List ℕ) (m : Move) (f : Formula) (rest : List ℕ) : Type 0 where
+pub record FoundTo (text : List ℕ) (m : Move) (f : Formula) (rest : List ℕ) : Type 0 where
   pub rest-is : rest ≡ drop (atOf (m .next)) text
   pub end-is : endOf (m .next) ≡ endOf (m .place) + length (postfixOf f)
   pub stored-is : m .after ≡ sets (m .before) (endOf (m .place)) (postfixOf f)
@@ -83,13 +83,13 @@ pub record Tells (text : List ℕ) (m : Move) (f : Formula) (rest : List ℕ) : 
   pub few : endOf (m .next) + atOf (m .place) ≤ endOf (m .place) + atOf (m .next)
 
 -- what is told of a formula, and of none: then the place behind it is nowhere
-abbrev pub Told : List ℕ → Move → Read → Type 0
-Told text m (Found f rest) = Tells text m f rest
-Told text m Outside = m .next ≡ nowhere
+abbrev pub ReadTo : List ℕ → Move → Read → Type 0
+ReadTo text m (Found f rest) = FoundTo text m f rest
+ReadTo text m Outside = m .next ≡ nowhere
 
 -- a function that reads x from a place on
 pub record Reads (text : List ℕ) (m : Move) (x : Read) : Type 0 where
-  pub told : Told text m x
+  pub told : ReadTo text m x
 
 -- a reader's answer to the text from the place on
 abbrev pub ReadsBy : Reader → List ℕ → Move → Type 0

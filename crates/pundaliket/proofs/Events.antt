@@ -21,7 +21,7 @@ use Rattle.chip.specs.declared.Answer.{Answer as HeldAnswer}
 use Rattle.chip.specs.Held.{answerIn}
 use Rattle.error_memory.specs.declared.Memory.{Memory}
 use Rattle.error_memory.specs.Event.{Recall, Forget}
-use Rattle.error_memory.specs.Memory.{emptyMemory, Card, CardAnswer, cardWith, around, eventIn}
+use Rattle.error_memory.specs.Memory.{emptyMemory, Card, CardAnswer, cardWith, cardAnswer, eventIn}
 use Rattle.error_memory.proofs.Good.{recalled, forgotten}
 use Rattle.state_bytes.specs.Bytes.{Sized, isState, stateOf, memoryIn, cardIn, stateBytesOf, memoryBytesOf, withMemory, laid, laidOut, doorOf}
 use Rattle.state_bytes.specs.Calls.{settingsOf, answeredBy, Signal, joinedOf, signalBy, unsent, signalOf, Signals}
@@ -66,10 +66,10 @@ module _ (l : List ℕ) (h : isState l ≡ true) (m : Memory) {y : List ℕ} (e 
 
   -- an event of the chip that is settled then is settled on what was there; a refused one left all as it was
   pub kept-behind : (a : HeldAnswer) (on : Settings) {r : ℕ} {left : List ℕ} {b : Answer} → Settles y a (memoryIn y) r left → answerIn a ≡ b
-      → ((numberOf (b .refusal) ≡ 0 → ⊥) → y ≡ l) → Signals (signalBy l (around on m b)) r left
+      → ((numberOf (b .refusal) ≡ 0 → ⊥) → y ≡ l) → Signals (signalBy l (cardAnswer on m b)) r left
   kept-behind a on {r} {left} {b} w is back =
       subst (λ (t : Signal). Signals t r left)
-      (ap (λ (x : Answer). signalBy y (around on (memoryIn y) x)) is ∙ by (eqb (numberOf (b .refusal)) 0) refl) (w on)
+      (ap (λ (x : Answer). signalBy y (cardAnswer on (memoryIn y) x)) is ∙ by (eqb (numberOf (b .refusal)) 0) refl) (w on)
     where
       signal : Bool → List ℕ → List ℕ → Signal
       signal x done state = record { result = joinedOf (numberOf (b .refusal)) (b .byte); state = cond x done state }
@@ -85,17 +85,17 @@ unchanged-memory l h = ap (λ (t : List ℕ). take 19 l ++ t) (sym (memory-behin
 
 -- ---- refused, or done and laid out
 module _ (state : List ℕ) (on : Settings) (m : Memory) (a : Answer) {n r : ℕ} (en : n ≡ numberOf (a .refusal)) (er : r ≡ joinedOf n (a .byte)) where
-  pub no-event : (n ≡ 0 → ⊥) → Signals (signalBy state (around on m a)) r state
+  pub no-event : (n ≡ 0 → ⊥) → Signals (signalBy state (cardAnswer on m a)) r state
   no-event g = rw (← en, ne-eqb n 0 g) record { result-is = er; state-is = refl }
 
-  pub an-event : {left : List ℕ} → n ≡ 0 → left ≡ laid (length state) (a .state) m → Signals (signalBy state (around on m a)) r left
+  pub an-event : {left : List ℕ} → n ≡ 0 → left ≡ laid (length state) (a .state) m → Signals (signalBy state (cardAnswer on m a)) r left
   an-event g d = rw (← en, eq-eqb n 0 g) record { result-is = er; state-is = d }
 
 -- the program's answer, found to be the chip's, with what is remembered as it was
 pub settled : (state : List ℕ) (a : HeldAnswer) (on : Settings) {r : ℕ} {left : List ℕ} {b : Answer} → Settles state a (memoryIn state) r left
-    → answerIn a ≡ b → Signals (signalBy state (around on (memoryIn state) b)) r left
+    → answerIn a ≡ b → Signals (signalBy state (cardAnswer on (memoryIn state) b)) r left
 settled state a on {r} {left} w e =
-    subst (λ (x : Answer). Signals (signalBy state (around on (memoryIn state) x)) r left) e (w on)
+    subst (λ (x : Answer). Signals (signalBy state (cardAnswer on (memoryIn state) x)) r left) e (w on)
 
 -- the memory read, and cleared
 module _ (on : Settings) (state : List ℕ) (h : isState state ≡ true) {r : ℕ} where

@@ -5,9 +5,9 @@ use Rattle.terms.specs.Settings.{Settings}
 use Rattle.chip.specs.declared.Answer.{Answer}
 use Rattle.chip.specs.Held.{answerIn}
 use Rattle.error_memory.specs.declared.Memory.{Memory}
-use Rattle.error_memory.specs.Memory.{around}
+use Rattle.error_memory.specs.Memory.{cardAnswer}
 use Rattle.state_bytes.specs.Calls.{Signals, signalBy}
 
 -- what the program does with the answer of an event of the chip, and with what that leaves remembered, whatever the settings
 abbrev pub Settles : List ℕ → Answer → Memory → ℕ → List ℕ → Type 0
-Settles state a m result left = (on : Settings) → Signals (signalBy state (around on m (answerIn a))) result left
+Settles state a m result left = (on : Settings) → Signals (signalBy state (cardAnswer on m (answerIn a))) result left

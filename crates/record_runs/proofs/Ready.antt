@@ -13,7 +13,7 @@ use Rattle.chip.specs.Step.{pushOf, popOf}
 use Rattle.chip.proofs.InTurn.{push-done, pop-done}
 use Rattle.chip.proofs.Ready.{Ready, Fair, push-fair, pop-fair, read-fair, reset-fair, acknowledge-fair, command-fair}
 use Rattle.error_memory.specs.Event.{Chip, Recall as RecallEvent, Forget as ForgetEvent}
-use Rattle.error_memory.specs.Memory.{Card, around}
+use Rattle.error_memory.specs.Memory.{Card, cardAnswer}
 use Rattle.error_memory.proofs.Good.{ReadyCard, FairCard, event-fair as card-fair}
 use Rattle.record_files.proofs.Through.{through}
 use Rattle.record_runs.specs.Record.{Event}
@@ -33,7 +33,7 @@ pop-all-fair zero a f = f
 pop-all-fair (suc n) a f = pop-all-fair n (popOf (a .state)) (pop-fair (a .state) (f .left))
 
 -- ---- every event
-block-fair : (c : Card) (a : Answer) → ReadyCard c → Fair a → FairCard (around (c .on) (c .memory) a)
+block-fair : (c : Card) (a : Answer) → ReadyCard c → Fair a → FairCard (cardAnswer (c .on) (c .memory) a)
 block-fair c a r f = record { left = record { chip = f .left; memory = r .memory }; small = f .small }
 
 pub event-fair : (c : Card) (p : List ℕ) (e : Event) → ReadyCard c → Bytes p → FairCard (answerOf c p e)

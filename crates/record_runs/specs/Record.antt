@@ -17,7 +17,7 @@ use Rattle.chip.specs.State.{busy}
 use Rattle.chip.specs.Step.{pushOf, popOf, readOf}
 use Rattle.chip.specs.InTurn.{bytesPopped}
 use Rattle.error_memory.specs.Event.{Chip, Recall as RecallEvent, Forget as ForgetEvent}
-use Rattle.error_memory.specs.Memory.{Card, CardAnswer, around, eventIn}
+use Rattle.error_memory.specs.Memory.{Card, CardAnswer, cardAnswer, eventIn}
 use Rattle.record_files.specs.Run as files
 use Rattle.terms.specs.declared.EventKind.{EventKind}
 use Rattle.terms.specs.declared.EventKind.the-variants.{Push as PushKind, Pop as PopKind, Command as CommandKind, Status as StatusKind}
@@ -167,8 +167,8 @@ popAll (suc n) a = popAll n (popOf (a .state))
 
 -- the answer to an event with this payload; a block leaves what is remembered
 abbrev pub answerOf : Card → List ℕ → Event → CardAnswer
-answerOf c payload (Push n) = around (c .on) (c .memory) (pushAll (before (c .chip)) payload)
-answerOf c payload (Pop n) = around (c .on) (c .memory) (popAll n (before (c .chip)))
+answerOf c payload (Push n) = cardAnswer (c .on) (c .memory) (pushAll (before (c .chip)) payload)
+answerOf c payload (Pop n) = cardAnswer (c .on) (c .memory) (popAll n (before (c .chip)))
 answerOf c payload (Command code) = eventIn c (Chip (CommandEvent code))
 answerOf c payload Status = eventIn c (Chip StatusEvent)
 answerOf c payload Reset = eventIn c (Chip ResetEvent)

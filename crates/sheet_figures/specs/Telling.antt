@@ -20,16 +20,16 @@ abbrev pub written : List (List ℕ) → List ℕ
 written l = length l ∷ different l ∷ repeated l ∷ improper l ∷ sumText (sum88 l)
 
 -- what the call returns, and what `out` holds after
-pub record Told : Type 0 where
+pub record FiguresCalled : Type 0 where
   pub result : ℕ
   pub out : List ℕ
 
 -- a refusal writes nothing
-abbrev pub refused : Refusal → List ℕ → Told
+abbrev pub refused : Refusal → List ℕ → FiguresCalled
 refused r out = record { result = numberOf r; out = out }
 
 -- 8 for another length of `out`, then 13
-unfoldable pub figuresOf : List ℕ → List ℕ → Told
+unfoldable pub figuresOf : List ℕ → List ℕ → FiguresCalled
 unfolding isSheets sum88
 figuresOf sheets out =
     cond (eqb (length out) figuresBytes)
@@ -37,6 +37,6 @@ figuresOf sheets out =
     (refused NoRoom out)
 
 -- what a call did beside the definition's
-pub record Tells (t : Told) (result : ℕ) (out : List ℕ) : Type 0 where
+pub record FiguresCalls (t : FiguresCalled) (result : ℕ) (out : List ℕ) : Type 0 where
   pub result-is : result ≡ t .result
   pub out-is : out ≡ t .out

@@ -18,7 +18,7 @@ use Rattle.state_bytes.proofs.Cards.{card-ready, card-returns}
 use Rattle.state_bytes.specs.Calls.{settingsOf}
 use Rattle.sheet_bytes.specs.Ledger as ledger
 use Rattle.sheet_bytes.proofs.Ledgers.{is-long}
-use Rattle.sheets.specs.Step.{Held, held, lineOf, runOf}
+use Rattle.sheets.specs.Step.{Held, holding, sheetStep, runOf}
 use Rattle.sheets.proofs.Lines.{lawful}
 use Rattle.sheet_promises.specs.Records.{recordsOf, joined}
 use Rattle.sheet_promises.specs.Runs.{Ran, onward, turn, ran}
@@ -32,7 +32,7 @@ use Rattle.sheet_promises.proofs.Runs.{run-is, run-card, run-on, run-sh
 module _ (mode rule : ℕ) (state sheets : List ℕ) (s : Start mode rule state sheets) where
   -- what the bytes stand for
   abbrev stood : Held
-  stood = held (cardIn (settingsOf mode rule) state) sheets
+  stood = holding (cardIn (settingsOf mode rule) state) sheets
 
   ready : ReadyCard (stood .card)
   ready = card-ready (settingsOf mode rule) state (bytes-are state (s .bytes)) (sym (state-is state) ∙ s .state-taken)
@@ -58,7 +58,7 @@ module _ (mode rule : ℕ) (state sheets : List ℕ) (s : Start mode rule state 
 
   turned : (l rest : List ℕ) (room more : ℕ) → StackBytes l
       → turn mode rule (laidOut 21 (runOf stood l room .state .card)) (runOf stood l room .state .sheets) rest more
-      ≡ seen (lineOf (runOf stood l room .state) rest more)
+      ≡ seen (sheetStep (runOf stood l room .state) rest more)
   turned l rest room more b =
       let h = runOf stood l room .state in
       turn-is mode rule (s .mode-taken) (s .rule-taken) (h .card) (run-card stood l room ready b) (run-on stood l room) (h .sheets) rest more
@@ -128,7 +128,7 @@ sums : (h : Held) (l : List ℕ) (room : ℕ) → SumsOf l (runOf h l room)
 sums =
     through lawful (λ h l room o. SumsOf l o) (λ h room. none []) (λ h l room p z. none l)
     (λ h l room p z more.
-    let t = lineOf h l room in
+    let t = sheetStep h l room in
     let w = runOf (t .state) (drop (t .taken) l) (room - length (t .written)) .written in
     let n = length-take-le (t .taken) l (lawful .within h l room z) in
     let k = length-append (take (t .taken) l) (joined (take (length (recordsOf w)) (recordsOf (drop (t .taken) l)))) in

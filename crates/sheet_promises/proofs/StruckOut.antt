@@ -18,7 +18,7 @@ use Rattle.record_runs.specs.Record.{turnOf}
 use Rattle.record_runs.specs.Run.{runOf as coreRun}
 use Rattle.record_runs.proofs.Prefix.{lawful as core-lawful}
 use Rattle.sheet_bytes.specs.Entering.{payloadFor}
-use Rattle.sheets.specs.Step.{Held, held, isOwnKind, lineOf, runOf}
+use Rattle.sheets.specs.Step.{Held, holding, isOwnKind, sheetStep, runOf}
 use Rattle.sheets.proofs.Lines.{own-kind, low-kind, taken, core-took, lawful}
 use Rattle.sheet_promises.specs.Records.{recordsOf, joined, struck, struckReplies}
 use Rattle.sheet_promises.proofs.CardHistory.{Struck}
@@ -48,7 +48,7 @@ data Whose (h : Held) (l : List ℕ) (room : ℕ) (t : Outcome Held) : Type 0 wh
 big : (kind : ℕ) → ltb ((kind + 32768) % 256 + (kind + 32768) / 256 * 256) 32768 ≡ false
 big kind = le-ltb ((kind + 32768) % 256 + (kind + 32768) / 256 * 256) 32768 (omega arith)
 
-whose : (h : Held) (l : List ℕ) (room : ℕ) → lineOf h l room .refusal ≡ 0 → Whose h l room (lineOf h l room)
+whose : (h : Held) (l : List ℕ) (room : ℕ) → sheetStep h l room .refusal ≡ 0 → Whose h l room (sheetStep h l room)
 whose h l room =
     taken (Whose h l room) h l room
     (λ o q g.
@@ -105,24 +105,24 @@ one-of : (card : Card) (l rest : List ℕ) (room more size : ℕ) (reply : List 
     → coreRun card (take size l ++ rest) more ≡ after size reply (coreRun st rest (more - length reply))
 one-of card l rest room more size reply st a b d z fits = rw (a, b, d) (one-more card l rest room more z fits)
 
-goes : (h : Held) (l : List ℕ) (room : ℕ) → lineOf h l room .refusal ≡ 0
-    → Strikes (lineOf h l room .state) (drop (lineOf h l room .taken) l) (room - length (lineOf h l room .written))
-    (runOf (lineOf h l room .state) (drop (lineOf h l room .taken) l) (room - length (lineOf h l room .written)))
-    → Strikes h l room (after (lineOf h l room .taken) (lineOf h l room .written)
-    (runOf (lineOf h l room .state) (drop (lineOf h l room .taken) l) (room - length (lineOf h l room .written))))
+goes : (h : Held) (l : List ℕ) (room : ℕ) → sheetStep h l room .refusal ≡ 0
+    → Strikes (sheetStep h l room .state) (drop (sheetStep h l room .taken) l) (room - length (sheetStep h l room .written))
+    (runOf (sheetStep h l room .state) (drop (sheetStep h l room .taken) l) (room - length (sheetStep h l room .written)))
+    → Strikes h l room (after (sheetStep h l room .taken) (sheetStep h l room .written)
+    (runOf (sheetStep h l room .state) (drop (sheetStep h l room .taken) l) (room - length (sheetStep h l room .written))))
 goes h l room z ih e more fits = by (whose h l room z)
   where
-    by : Whose h l room (lineOf h l room) → Want h l (after (lineOf h l room .taken) (lineOf h l room .written)
-        (runOf (lineOf h l room .state) (drop (lineOf h l room .taken) l) (room - length (lineOf h l room .written)))) more
+    by : Whose h l room (sheetStep h l room) → Want h l (after (sheetStep h l room .taken) (sheetStep h l room .written)
+        (runOf (sheetStep h l room .state) (drop (sheetStep h l room .taken) l) (room - length (sheetStep h l room .written)))) more
     by (ours o) =
-        let t = lineOf h l room in
+        let t = sheetStep h l room in
         let u = runOf (t .state) (drop (t .taken) l) (room - length (t .written)) in
         rw (its-records h l room z (u .written), its-replies h l room z (u .written), o .own-is, o .reply-kind)
         (subst (λ (card : Card). Struck (coreRun card (joined (struck (recordsOf (drop (t .taken) l)))) more) (joined (struck (recordsOf (drop (t .taken) l))))
         (joined (struckReplies (recordsOf (u .written)))) (u .state .card)) (o .core-is)
         (ih e more (omega arith)))
     by (cores c) =
-        let t = lineOf h l room in
+        let t = sheetStep h l room in
         let d = turnOf (h .card) l room in
         let u = runOf (t .state) (drop (t .taken) l) (room - length (t .written)) in
         let rest : List ℕ = joined (struck (recordsOf (drop (t .taken) l))) in
@@ -144,12 +144,12 @@ goes h l room z ih e more fits = by (whose h l room z)
         }
 
 -- of a file that ends with 0, in as much room or more
-pub struck-out : (c : Card) (sheets l : List ℕ) (room : ℕ) → runOf (held c sheets) l room .refusal ≡ 0 → (more : ℕ) → room ≤ more
+pub struck-out : (c : Card) (sheets l : List ℕ) (room : ℕ) → runOf (holding c sheets) l room .refusal ≡ 0 → (more : ℕ) → room ≤ more
     → Struck (coreRun c (joined (struck (recordsOf l))) more) (joined (struck (recordsOf l)))
-    (joined (struckReplies (recordsOf (runOf (held c sheets) l room .written)))) (runOf (held c sheets) l room .state .card)
+    (joined (struckReplies (recordsOf (runOf (holding c sheets) l room .written)))) (runOf (holding c sheets) l room .state .card)
 struck-out c sheets l room =
     through lawful Strikes
     (λ h room e more fits. rw (no-bytes, nothing core-lawful (h .card) more) record { refusal-is = refl; card-is = refl; taken-is = refl; written-is = refl })
     (λ h l room p z e. absurd (z e))
     (λ h l room p z ih. goes h l room z ih)
-    (held c sheets) l room
+    (holding c sheets) l room

@@ -18,7 +18,7 @@ use Rattle.sheet_bytes.specs.declared.Refusal.{Refusal}
 use Rattle.sheet_bytes.specs.declared.Refusal.the-variants.{Done, StillOpen, NoneOpen, NoSuchSlot, HalfPending, SlotEmpty, ListFull}
 use Rattle.sheet_bytes.specs.Ledger.{closedIn, isOpen, keptBits, dropped}
 use Rattle.sheet_bytes.specs.Entering.{Entered, numberOf, payloadFor, openOf, keepOf, closeOf}
-use Rattle.sheets.specs.Step.{Held, topOf, entryOf, coreBy, lineOf, runOf}
+use Rattle.sheets.specs.Step.{Held, topOf, entryOf, coreBy, sheetStep, runOf}
 use Rattle.sheets.proofs.Lines.{Owns, done, own-kind, low-kind, taken, core-took, lawful}
 use Rattle.sheet_promises.specs.Records.{recordsOf}
 use Rattle.sheet_promises.specs.History.{Entry}
@@ -141,7 +141,7 @@ core-tells h l room z p =
           (λ y. quiet-dropped e es (h .sheets) q ag) (λ y. quiet e es (h .sheets) q ag));
     }
 
-pub tells : (h : Held) (l : List ℕ) (room : ℕ) → 0 < length l → lineOf h l room .refusal ≡ 0 → TakenRecord h l room (lineOf h l room)
+pub tells : (h : Held) (l : List ℕ) (room : ℕ) → 0 < length l → sheetStep h l room .refusal ≡ 0 → TakenRecord h l room (sheetStep h l room)
 tells h l room p = taken (TakenRecord h l room) h l room (λ o q g. own-tells h l room o q) (λ z. core-tells h l room z p)
 
 -- ---- a run
@@ -151,23 +151,23 @@ no-replies c room before [] es = refl
 no-replies c room before (r ∷ rs) es = refl
 
 -- the records of a file whose first record is taken, and the replies
-module _ (h : Held) (l : List ℕ) (room : ℕ) (z : lineOf h l room .refusal ≡ 0) (w : List ℕ) where
-  pub its-records : recordsOf l ≡ take (lineOf h l room .taken) l ∷ recordsOf (drop (lineOf h l room .taken) l)
+module _ (h : Held) (l : List ℕ) (room : ℕ) (z : sheetStep h l room .refusal ≡ 0) (w : List ℕ) where
+  pub its-records : recordsOf l ≡ take (sheetStep h l room .taken) l ∷ recordsOf (drop (sheetStep h l room .taken) l)
   its-records =
-      let f : lineOf h l room .taken ≡ 2 + wordAt l 0 = taken (λ t. t .taken ≡ 2 + wordAt l 0) h l room (λ o q g. omega arith)
+      let f : sheetStep h l room .taken ≡ 2 + wordAt l 0 = taken (λ t. t .taken ≡ 2 + wordAt l 0) h l room (λ o q g. omega arith)
       (λ y. core-took (h .card) l room y .framed) z in
       let i = lawful .within h l room z in
       first-of l (omega arith) ∙ ap (λ (n : ℕ). take n l ∷ recordsOf (drop n l)) (sym f)
 
-  pub its-replies : recordsOf (lineOf h l room .written ++ w) ≡ lineOf h l room .written ∷ recordsOf w
+  pub its-replies : recordsOf (sheetStep h l room .written ++ w) ≡ sheetStep h l room .written ∷ recordsOf w
   its-replies =
-      record-then (lineOf h l room .written) w
+      record-then (sheetStep h l room .written) w
       (taken (λ t. length (t .written) ≡ 2 + wordAt (t .written) 0) h l room (λ o q g. refl) (λ y. core-took (h .card) l room y .reply-framed) z)
 
 -- over any history that went before, of a file whose first records the core has behind it: what goes on over every record that is taken goes on over a run
 module _ (P : List Entry → List ℕ → Type 0)
-    (goes-on : (h : Held) (l : List ℕ) (room : ℕ) → 0 < length l → lineOf h l room .refusal ≡ 0 → (es : List Entry) → P es (h .sheets)
-    → P (entryOn (h .card) (take (lineOf h l room .taken) l) (getD (lineOf h l room .written) 4 0) ∷ es) (lineOf h l room .state .sheets)) where
+    (goes-on : (h : Held) (l : List ℕ) (room : ℕ) → 0 < length l → sheetStep h l room .refusal ≡ 0 → (es : List Entry) → P es (h .sheets)
+    → P (entryOn (h .card) (take (sheetStep h l room .taken) l) (getD (sheetStep h l room .written) 4 0) ∷ es) (sheetStep h l room .state .sheets)) where
   abbrev Along : Held → List ℕ → ℕ → Outcome Held → Type 0
   Along h l room o =
       (c : Card) (all : ℕ) (before : List (List ℕ)) (es : List Entry) → Stands c all before (h .card) room → P es (h .sheets)
@@ -179,7 +179,7 @@ module _ (P : List Entry → List ℕ → Type 0)
       (λ h room c all before es s q. rw no-bytes q)
       (λ h l room p z c all before es s q. rw (no-bytes, no-replies c all before (recordsOf l) es) q)
       (λ h l room p z ih c all before es s q.
-      let t = lineOf h l room in
+      let t = sheetStep h l room in
       let o = runOf (t .state) (drop (t .taken) l) (room - length (t .written)) in
       let r : List ℕ = take (t .taken) l in
       rw (its-records h l room z (o .written), its-replies h l room z (o .written))

@@ -24,7 +24,7 @@ use Rattle.listing.specs.Text as text
 use Rattle.listing.specs.Listing as listing
 use Rattle.listing.proofs.Listed.{one-more}
 use Rattle.sheet_text.specs.Printout as printout
-use Rattle.sheets.specs.Step.{Held, held, lineOf, runOf}
+use Rattle.sheets.specs.Step.{Held, holding, sheetStep, runOf}
 use Rattle.sheets.specs.Calls.{Called, callOf}
 use Rattle.sheets.proofs.Lines.{taken, lawful}
 use Rattle.sheet_promises.specs.Bytes.{zeros, fourAt}
@@ -65,7 +65,7 @@ core-reply c l room =
     steps {most = mostPayload} (λ t. t .refusal ≡ 0 → Reply (t .written)) c l room (λ r a b z. let y : ⊥ = omega arith in absurd y)
     (λ e h g z. let d = length-dataOf c e in record { framed = omega arith; five = omega arith; marked = omega arith })
 
-line-reply : (h : Held) (l : List ℕ) (room : ℕ) → lineOf h l room .refusal ≡ 0 → Reply (lineOf h l room .written)
+line-reply : (h : Held) (l : List ℕ) (room : ℕ) → sheetStep h l room .refusal ≡ 0 → Reply (sheetStep h l room .written)
 line-reply h l room =
     taken (λ t. Reply (t .written)) h l room
     (λ o q g. let a = o .least in record { framed = refl; five = omega arith; marked = omega arith }) (λ y. core-reply (h .card) l room y)
@@ -129,7 +129,7 @@ lines-are =
     through lawful (λ h l room o. (number : ℕ) → listing.linesOf number (o .written) ≡ replyLines number (recordsOf (o .written)))
     (λ h room number. none-listed number) (λ h l room p z number. none-listed number)
     (λ h l room p z more number.
-    let t = lineOf h l room in
+    let t = sheetStep h l room in
     let q = line-reply h l room z in
     let w = runOf (t .state) (drop (t .taken) l) (room - length (t .written)) .written in
     listed number (t .written) w q ∙ ap (λ (k : List ℕ). replyLine number (t .written) ++ k) (more (number + 1))
@@ -197,7 +197,7 @@ call-listed mode rule state sheets input replies report n =
     calls (λ a. listing.linesOf 1 (repliesIn (a .replies) (a .report)) ≡ replyLines 1 (recordsOf (repliesIn (a .replies) (a .report))))
     mode rule state sheets input replies report (λ w. absurd (w n)) (λ r z. none-listed 1)
     (λ p.
-    let h = held (cardIn (given (modeOf mode) (ruleOf rule)) state) sheets in
+    let h = holding (cardIn (given (modeOf mode) (ruleOf rule)) state) sheets in
     let o = runOf h input (length replies) in
     subst (λ (w : List ℕ). listing.linesOf 1 w ≡ replyLines 1 (recordsOf w))
     (sym (read-back (o .written) replies (o .refusal) (o .taken) (few-bytes h input (length replies) (p .input-fits))))

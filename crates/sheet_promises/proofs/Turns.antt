@@ -42,7 +42,7 @@ use Rattle.sheet_bytes.specs.declared.Refusal.the-variants.{StillOpen, NoneOpen
 use Rattle.sheet_bytes.specs.Ledger as ledger
 use Rattle.sheet_bytes.specs.Entering as entering
 use Rattle.sheet_bytes.proofs.Laid.{four}
-use Rattle.sheets.specs.Step.{Held, held, coreBy, lineOf}
+use Rattle.sheets.specs.Step.{Held, holding, coreBy, sheetStep}
 use Rattle.sheets.proofs.Lines.{Owns, own-kind, kind-owned, ways, done, core-took}
 use Rattle.sheet_promises.specs.Bytes.{zeros}
 use Rattle.sheet_promises.specs.Sheets.{isOpen, numberIn, keptBits, opened, kept, closed}
@@ -277,7 +277,7 @@ module _ (mode rule : ℕ) (m : mode ≤ 1) (q : rule ≤ 1) (c : Card) (r : Rea
       ∙ ap (λ (o : Outcome Card). coreRan 21 o (zeros room)) (runs-alone c l room f)
 
   core-seen : (sheets l : List ℕ) (room : ℕ) → length sheets ≡ 1303 → Framed l → coreTurn mode rule (laidOut 21 c) sheets l room
-      ≡ seen (coreBy (held c sheets) (wordAt l 2) (turnOf c l room))
+      ≡ seen (coreBy (holding c sheets) (wordAt l 2) (turnOf c l room))
   core-seen sheets l room long f =
       let t = turnOf c l room in
       ap (fromCore sheets (wordAt l 2)) (core-alone l room f)
@@ -299,8 +299,8 @@ module _ (mode rule : ℕ) (m : mode ≤ 1) (q : rule ≤ 1) (c : Card) (r : Rea
       reply = let a = few .in-file in let b = first-long l f in let d = f .most in let e = few .few in omega arith
 
   -- every turn
-  pub turn-is : (sheets l : List ℕ) (room : ℕ) → length sheets ≡ 1303 → turn mode rule (laidOut 21 c) sheets l room ≡ seen (lineOf (held c sheets) l room)
-  turn-is sheets l room long = ways (λ t. turn mode rule (laidOut 21 c) sheets l room ≡ seen t) (held c sheets) l room bad full good core
+  pub turn-is : (sheets l : List ℕ) (room : ℕ) → length sheets ≡ 1303 → turn mode rule (laidOut 21 c) sheets l room ≡ seen (sheetStep (holding c sheets) l room)
+  turn-is sheets l room long = ways (λ t. turn mode rule (laidOut 21 c) sheets l room ≡ seen t) (holding c sheets) l room bad full good core
     where
       frame : Owns l → Framed l
       frame o = let a = o .in-range in let b = o .there in record { two = omega arith; least = a; most = o .short; there = b }
@@ -314,7 +314,7 @@ module _ (mode rule : ℕ) (m : mode ≤ 1) (q : rule ≤ 1) (c : Card) (r : Rea
       full : Owns l → wordAt l 0 ≡ 2 + payloadOf (wordAt l 2) → room < 5 → turn mode rule (laidOut 21 c) sheets l room ≡ stopped 8 (laidOut 21 c) sheets
       full o n g = rw (frames l (frame o), own o, eq-eqb _ _ n, lt-ltb room 5 g)
 
-      good : Owns l → wordAt l 0 ≡ 2 + payloadOf (wordAt l 2) → 5 ≤ room → turn mode rule (laidOut 21 c) sheets l room ≡ seen (done (held c sheets) l)
+      good : Owns l → wordAt l 0 ≡ 2 + payloadOf (wordAt l 2) → 5 ≤ room → turn mode rule (laidOut 21 c) sheets l room ≡ seen (done (holding c sheets) l)
       good o n g =
           let kind = wordAt l 2 in
           let d = length-drop 4 l in
@@ -335,9 +335,9 @@ module _ (mode rule : ℕ) (m : mode ≤ 1) (q : rule ≤ 1) (c : Card) (r : Rea
           }) (reply-is kind (entering.numberOf (entering.enteredOf sheets kind (take (payloadOf kind) (drop 4 l)) (c .chip .pending)
           (tos 4 (c .chip .stack)) .refusal)) (o .least) (o .most)))
 
-      core : (Owns l → ⊥) → turn mode rule (laidOut 21 c) sheets l room ≡ seen (coreBy (held c sheets) (wordAt l 2) (turnOf c l room))
+      core : (Owns l → ⊥) → turn mode rule (laidOut 21 c) sheets l room ≡ seen (coreBy (holding c sheets) (wordAt l 2) (turnOf c l room))
       core n =
-          either-eq (λ (x : ℕ). turn mode rule (laidOut 21 c) sheets l room ≡ seen (coreBy (held c sheets) (wordAt l 2) (turnOf c l room))) (framing l) 0 0 0
+          either-eq (λ (x : ℕ). turn mode rule (laidOut 21 c) sheets l room ≡ seen (coreBy (holding c sheets) (wordAt l 2) (turnOf c l room))) (framing l) 0 0 0
           (λ z. let f = framed l z in rw (z, other (isOwnKind (wordAt l 2)) refl f) (core-seen sheets l room long f))
           (λ z. rw (ne-eqb (framing l) 0 z, frame-stops c l room z, ne-eqb (framing l) 0 z))
         where

@@ -20,7 +20,7 @@ use Rattle.sheets.proofs.Lines.{lawful}
 use Rattle.state_bytes.specs.Bytes.{isState, cardIn, laidOut, doorOf, reportOf}
 use Rattle.state_bytes.proofs.Calling.{shut}
 use Rattle.sheet_bytes.specs.Ledger.{isSheets}
-use Rattle.sheets.specs.Step.{Held, held, runOf}
+use Rattle.sheets.specs.Step.{Held, holding, runOf}
 use Rattle.sheets.specs.Held.{beside}
 use Rattle.sheets.specs.Calls.{Calls, callOf, ranOf, away}
 
@@ -81,7 +81,7 @@ module _ (mode rule : ℕ) (state sheets input replies report : List ℕ) where
       too-long b d e = rw (eq-eqb (length report) reportBytes a, le-leb mode 1 k, le-leb rule 1 q, b, d, lt-ltb mostInput (length input) e)
 
       pub good : isState state ≡ true → isSheets sheets ≡ true → length input ≤ mostInput
-          → callOf mode rule state sheets input replies report ≡ ranOf (length state) (runOf (held (cardIn (given (modeOf mode) (ruleOf rule)) state) sheets)
+          → callOf mode rule state sheets input replies report ≡ ranOf (length state) (runOf (holding (cardIn (given (modeOf mode) (ruleOf rule)) state) sheets)
           input (length replies)) replies
       unfolding callOf
       good b d e = rw (eq-eqb (length report) reportBytes a, le-leb mode 1 k, le-leb rule 1 q, b, d, le-ltb mostInput (length input) e)

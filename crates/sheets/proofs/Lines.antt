@@ -25,7 +25,7 @@ use Rattle.record_runs.proofs.Steps.{steps}
 use Rattle.record_runs.proofs.Turning.{length-dataOf}
 use Rattle.record_runs.proofs.Prefix.{lawful as core-lawful}
 use Rattle.sheet_bytes.specs.Entering.{payloadFor}
-use Rattle.sheets.specs.Step.{Held, held, isFramed, isOwnKind, isOwn, entryOf, ownTurn, answered, coreBy, lineOf}
+use Rattle.sheets.specs.Step.{Held, holding, isFramed, isOwnKind, isOwn, entryOf, ownTurn, answered, coreBy, sheetStep}
 
 -- a whole record of this library at the front of a file
 pub record Owns (l : List ℕ) : Type 0 where
@@ -95,8 +95,8 @@ pub ways : (P : Outcome Held → Type 0) (h : Held) (l : List ℕ) (room : ℕ)
     → (Owns l → wordAt l 0 ≡ 2 + payloadFor (wordAt l 2) → room < 5 → P (ended 8 h))
     → (Owns l → wordAt l 0 ≡ 2 + payloadFor (wordAt l 2) → 5 ≤ room → P (done h l))
     → ((Owns l → ⊥) → P (coreBy h (wordAt l 2) (turnOf (h .card) l room)))
-    → P (lineOf h l room)
-unfolding lineOf
+    → P (sheetStep h l room)
+unfolding sheetStep
 ways P h l room bad full good core = pick (isOwn l) refl
   where
     pick : (b : Bool) → isOwn l ≡ b → P (cond b (ownTurn h l room) (coreBy h (wordAt l 2) (turnOf (h .card) l room)))
@@ -109,7 +109,7 @@ ways P h l room bad full good core = pick (isOwn l) refl
 
 -- with the sheets as they stand
 abbrev plain : Held → Outcome Card → Outcome Held
-plain h t = record { refusal = t .refusal; state = held (t .state) (h .sheets); taken = t .taken; written = t .written }
+plain h t = record { refusal = t .refusal; state = holding (t .state) (h .sheets); taken = t .taken; written = t .written }
 
 ended-core : (h : Held) (kind : ℕ) (t : Outcome Card) → (t .refusal ≡ 0 → ⊥) → t ≡ ended (t .refusal) (h .card) → coreBy h kind t ≡ ended (t .refusal) h
 ended-core h kind t z e = rw (ne-eqb (t .refusal) 0 z) (ap (plain h) e)
@@ -191,10 +191,10 @@ cut-own l k most i o =
     omega arith
 
 abbrev Alike : Held → List ℕ → List ℕ → ℕ → Outcome Held → Type 0
-Alike h l m more t = t .refusal ≡ 0 → take (t .taken) l ≡ take (t .taken) m → t .taken ≤ length m → length (t .written) ≤ more → lineOf h m more ≡ t
+Alike h l m more t = t .refusal ≡ 0 → take (t .taken) l ≡ take (t .taken) m → t .taken ≤ length m → length (t .written) ≤ more → sheetStep h m more ≡ t
 
 own-too : (h : Held) (l m : List ℕ) (more : ℕ) → Owns l → wordAt l 0 ≡ 2 + payloadFor (wordAt l 2) → Alike h l m more (done h l)
-unfolding lineOf
+unfolding sheetStep
 own-too h l m more o q z same fits has =
     let n = payloadFor (wordAt l 2) in
     let a : wordAt m 0 ≡ wordAt l 0 = word-too (4 + n) l m same 0 (omega arith) in
@@ -210,7 +210,7 @@ own-too h l m more o q z same fits has =
     rw (is-own m own, a, b, p, eq-eqb (wordAt l 0) (2 + n) q, le-ltb more 5 (omega arith))
 
 core-too : (h : Held) (l m : List ℕ) (room more : ℕ) → Alike h l m more (coreBy h (wordAt l 2) (turnOf (h .card) l room))
-unfolding lineOf
+unfolding sheetStep
 core-too h l m room more z same fits has =
     let t = turnOf (h .card) l room in
     let c = core-took (h .card) l room z in
@@ -218,21 +218,21 @@ core-too h l m room more z same fits has =
     let k = c .kind-is in
     rw (not-own m (λ o. let y = o .least in omega arith), b, core-lawful .alike (h .card) l m room more z same fits has)
 
-alike : (h : Held) (l m : List ℕ) (room more : ℕ) → Alike h l m more (lineOf h l room)
+alike : (h : Held) (l m : List ℕ) (room more : ℕ) → Alike h l m more (sheetStep h l room)
 alike h l m room more =
     ways (Alike h l m more) h l room (λ o q z. let y : ⊥ = omega arith in absurd y) (λ o q g z. let y : ⊥ = omega arith in absurd y)
     (λ o q g. own-too h l m more o q) (λ n. core-too h l m room more)
 
 -- cut through
 abbrev Cut : Held → List ℕ → ℕ → ℕ → Outcome Held → Type 0
-Cut h l room k t = t .refusal ≡ 0 → k < t .taken → lineOf h (take k l) room ≡ ended 6 h
+Cut h l room k t = t .refusal ≡ 0 → k < t .taken → sheetStep h (take k l) room ≡ ended 6 h
 
 cut-line : (h : Held) (l : List ℕ) (room k : ℕ) → (Owns (take k l) → ⊥) → turnOf (h .card) (take k l) room ≡ ended 6 (h .card)
-    → lineOf h (take k l) room ≡ ended 6 h
-unfolding lineOf
+    → sheetStep h (take k l) room ≡ ended 6 h
+unfolding sheetStep
 cut-line h l room k n e = rw (not-own (take k l) n, e)
 
-cut-through : (h : Held) (l : List ℕ) (room k : ℕ) → k ≤ length l → Cut h l room k (lineOf h l room)
+cut-through : (h : Held) (l : List ℕ) (room k : ℕ) → k ≤ length l → Cut h l room k (sheetStep h l room)
 cut-through h l room k most =
     ways (Cut h l room k) h l room (λ o q z. let y : ⊥ = omega arith in absurd y) (λ o q g z. let y : ⊥ = omega arith in absurd y)
     (λ o q g z i. cut-line h l room k (cut-own l k most (omega arith)) (cut-core (h .card) l room k most (o .in-range) (o .short) (omega arith)))
@@ -240,8 +240,8 @@ cut-through h l room k most =
     let f = core-took (h .card) l room z .framed in
     cut-line h l room k (cut-own l k most (omega arith)) (core-lawful .cut-through (h .card) l room k most z i))
 
-stops : (h : Held) (l : List ℕ) (room : ℕ) → (lineOf h l room .refusal ≡ 0 → ⊥)
-    → Stopping (lineOf h l room .refusal) × (lineOf h l room ≡ ended (lineOf h l room .refusal) h)
+stops : (h : Held) (l : List ℕ) (room : ℕ) → (sheetStep h l room .refusal ≡ 0 → ⊥)
+    → Stopping (sheetStep h l room .refusal) × (sheetStep h l room ≡ ended (sheetStep h l room .refusal) h)
 stops h l room =
     ways (λ t. (t .refusal ≡ 0 → ⊥) → Stopping (t .refusal) × (t ≡ ended (t .refusal) h)) h l room
     (λ o q z. ((lit≤ tt, lit≤ tt), refl)) (λ o q g z. ((lit≤ tt, lit≤ tt), refl)) (λ o q g z. absurd (z refl))
@@ -251,12 +251,12 @@ stops h l room =
 pub taken : (P : Outcome Held → Type 0) (h : Held) (l : List ℕ) (room : ℕ)
     → (Owns l → wordAt l 0 ≡ 2 + payloadFor (wordAt l 2) → 5 ≤ room → P (done h l))
     → (turnOf (h .card) l room .refusal ≡ 0 → P (coreBy h (wordAt l 2) (turnOf (h .card) l room)))
-    → lineOf h l room .refusal ≡ 0 → P (lineOf h l room)
+    → sheetStep h l room .refusal ≡ 0 → P (sheetStep h l room)
 taken P h l room good core =
     ways (λ t. t .refusal ≡ 0 → P t) h l room (λ o q z. let y : ⊥ = omega arith in absurd y) (λ o q g z. let y : ⊥ = omega arith in absurd y)
     (λ o q g z. good o q g) (λ n z. core z)
 
-pub lawful : Lawful (5 + mostPayload) lineOf
+pub lawful : Lawful (5 + mostPayload) sheetStep
 lawful = record {
   stops = stops;
   moves = λ h l room. taken (λ t. 0 < t .taken) h l room (λ o q g. omega arith) (λ z. core-lawful .moves (h .card) l room z);

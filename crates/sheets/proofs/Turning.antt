@@ -25,7 +25,7 @@ use Rattle.sheet_bytes.specs.declared.Refusal.{Refusal as SheetRefusal}
 use Rattle.sheet_bytes.specs.Ledger.{bytesAt, dropped}
 use Rattle.sheet_bytes.specs.Entering.{Entered, numberOf, payloadFor}
 use Rattle.sheet_bytes.proofs.Entering.{Enters}
-use Rattle.sheets.specs.Step.{Held, held, isFramed, isOwn, answered, entryOf, ownReply, ownTurn, sheetsAfter, coreBy, lineOf}
+use Rattle.sheets.specs.Step.{Held, holding, isFramed, isOwn, answered, entryOf, ownReply, ownTurn, sheetsAfter, coreBy, sheetStep}
 use Rattle.sheets.specs.Held.{beside}
 use Rattle.sheets.proofs.Lines.{own-kind}
 
@@ -54,7 +54,7 @@ pub own-done : {on : Settings} {w : Work} (before sheets l : List ℕ) (q : Shee
 own-done {on} {w} before sheets l q end er e z n k f = rw (eq-eqb _ _ e, le-ltb _ _ z) record {
   place-is = ap (λ (x : Pass). x .place) er ∙ ap (λ (m : ℕ). further (w .place) m 5) f;
   refusal-is = ap (λ (x : Pass). x .refusal) er;
-  state-is = ap (λ (x : Pass). beside on sheets (x .card)) er ∙ ap (held (cardUnder on (w .card))) (n .1);
+  state-is = ap (λ (x : Pass). beside on sheets (x .card)) er ∙ ap (holding (cardUnder on (w .card))) (n .1);
   left-is = k ∙ ap (λ (x : SheetRefusal). ownReply (wordAt l 2) (numberOf x) ++ drop 5 (w .room)) (n .0);
   fits = z;
 }
@@ -66,7 +66,7 @@ module _ {on : Settings} {w : Work} (sheets : List ℕ) (kind : ℕ) {t : Outcom
   core-passed after e = record {
     place-is = d .place-is;
     refusal-is = d .refusal-is;
-    state-is = ap (λ (k : Card). held k after) (d .state-is) ∙ ap (held (t .state)) (e ∙ ap (sheetsAfter sheets kind) (d .refusal-is));
+    state-is = ap (λ (k : Card). holding k after) (d .state-is) ∙ ap (holding (t .state)) (e ∙ ap (sheetsAfter sheets kind) (d .refusal-is));
     left-is = d .left-is;
     fits = d .fits;
   }
@@ -94,8 +94,8 @@ own-card h kind e true false = refl
 own-card h kind e false true = refl
 own-card h kind e false false = refl
 
-pub calm-line : (h : Held) (l : List ℕ) (room : ℕ) → Ready (h .card .chip) → lineOf h l room .state .card .chip .status < 128
-unfolding lineOf
+pub calm-line : (h : Held) (l : List ℕ) (room : ℕ) → Ready (h .card .chip) → sheetStep h l room .state .card .chip .status < 128
+unfolding sheetStep
 calm-line h l room r = by (isOwn l)
   where
     stays-calm : ownTurn h l room .state .card .chip .status < 128

@@ -8,11 +8,11 @@ use Rattle.error_memory.specs.declared.Card.{Card}
 use Rattle.error_memory.specs.Held.{cardUnder}
 use Rattle.record_runs.specs.Record.{turnOf}
 use Rattle.record_runs.specs.Held.{Work, Passed}
-use Rattle.sheets.specs.Step.{Held, held, ownTurn, coreBy}
+use Rattle.sheets.specs.Step.{Held, holding, ownTurn, coreBy}
 
 -- how a card is read: under these settings, beside these sheets
 abbrev pub beside : Settings → List ℕ → Card → Held
-beside on sheets c = held (cardUnder on c) sheets
+beside on sheets c = holding (cardUnder on c) sheets
 
 -- the turn of a record of this library, of the sheets before and after it, whatever the settings; and of one of the core
 abbrev pub PassesOwn : List ℕ → List ℕ → List ℕ → Work → Type 0

@@ -21,8 +21,8 @@ pub record Held : Type 0 where
   pub card : Card
   pub sheets : List ℕ
 
-abbrev pub held : Card → List ℕ → Held
-held card sheets = record { card = card; sheets = sheets }
+abbrev pub holding : Card → List ℕ → Held
+holding card sheets = record { card = card; sheets = sheets }
 
 -- ---- which record is this library's
 
@@ -49,7 +49,7 @@ ownReply kind refusal = le2 3 ++ (le2 (kind + 32768) ++ (refusal ∷ []))
 abbrev pub answered : Held → ℕ → Entered → Outcome Held
 answered h kind e = record {
   refusal = 0;
-  state = held (h .card) (e .sheets);
+  state = holding (h .card) (e .sheets);
   taken = 4 + payloadFor kind;
   written = ownReply kind (numberOf (e .refusal));
 }
@@ -78,15 +78,15 @@ sheetsAfter sheets kind refusal = cond (eqb refusal 0) (cond (eqb kind 5) (dropp
 abbrev pub coreBy : Held → ℕ → Outcome Card → Outcome Held
 coreBy h kind t = record {
   refusal = t .refusal;
-  state = held (t .state) (sheetsAfter (h .sheets) kind (t .refusal));
+  state = holding (t .state) (sheetsAfter (h .sheets) kind (t .refusal));
   taken = t .taken;
   written = t .written;
 }
 
 -- ---- the step and the run
 
-unfoldable pub lineOf : RecordStep Held
-lineOf h l room = cond (isOwn l) (ownTurn h l room) (coreBy h (wordAt l 2) (turnOf (h .card) l room))
+unfoldable pub sheetStep : RecordStep Held
+sheetStep h l room = cond (isOwn l) (ownTurn h l room) (coreBy h (wordAt l 2) (turnOf (h .card) l room))
 
 abbrev pub runOf : Held → List ℕ → ℕ → Outcome Held
-runOf h l room = runBy lineOf h l room
+runOf h l room = runBy sheetStep h l room

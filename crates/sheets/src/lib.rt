@@ -25,8 +25,8 @@ ghost use Rattle.terms.specs.Limits.{reportBytes, mostInput};
 ghost use Rattle.chip.specs.Step.{given};
 ghost use Rattle.state_bytes.specs.Bytes.{isState, cardIn};
 ghost use Rattle.sheet_bytes.specs.Ledger.{sheetsBytes};
-ghost use Rattle.sheet_figures.specs.Telling.{figuresOf, Tells};
-ghost use Rattle.sheets.specs.Step.{held, runOf};
+ghost use Rattle.sheet_figures.specs.Telling.{figuresOf, FiguresCalls};
+ghost use Rattle.sheets.specs.Step.{holding, runOf};
 ghost use Rattle.sheets.specs.Calls.{Calls, callOf, ranOf};
 
 // The run on a good state and good sheets, which are worked where they lie; reported.
@@ -42,7 +42,7 @@ fn run_good(
     requires { ⌜ (isState (now state) ≡ true) × (length (now sheets) ≡ sheetsBytes) ×
         (length (now report) ≡ reportBytes) × (length (now input) ≤ mostInput) ⌝ }
     ensures { λ r. ⌜ Calls (ranOf (length (now (state .entry)))
-        (runOf (held (cardIn (given mode rule) (now (state .entry))) (now (sheets .entry))) (now (input .entry))
+        (runOf (holding (cardIn (given mode rule) (now (state .entry))) (now (sheets .entry))) (now (input .entry))
         (length (now (replies .entry)))) (now (replies .entry))) r (now (state .exit)) (now (sheets .exit))
         (now (replies .exit)) (now (report .exit)) ⌝ }
 {
@@ -91,7 +91,7 @@ pub extern "C" fn sheets_run(
 // words that are not proper, the exact sum. Returns the refusal; 8, then 13; only on 0 is `out` written.
 #[no_mangle]
 pub extern "C" fn sheets_figures(sheets: &[u8], out: &mut [u8]) -> u32
-    ensures { λ r. ⌜ Tells (figuresOf (now (sheets .entry)) (now (out .entry))) r (now (out .exit)) ⌝ }
+    ensures { λ r. ⌜ FiguresCalls (figuresOf (now (sheets .entry)) (now (out .entry))) r (now (out .exit)) ⌝ }
 {
     put_figures(sheets, out)
 }

@@ -27,7 +27,7 @@ ghost use lib.ListN.{length};
 ghost use Rattle.chip.specs.Step.{given};
 ghost use Rattle.sheet_bytes.specs.Ledger.{sheetsBytes};
 ghost use Rattle.record_runs.specs.Held.{Begins, Stands, Passed};
-ghost use Rattle.sheets.specs.Step.{isOwn, lineOf};
+ghost use Rattle.sheets.specs.Step.{isOwn, sheetStep};
 ghost use Rattle.sheets.specs.Held.{beside, PassesOwn, PassesCore};
 
 // Whether a whole record of this library stands at the front of `rest`.
@@ -115,7 +115,7 @@ pub fn pass_line(
     requires { ⌜ (card .chip .status < 128) × (length (now sheets) ≡ sheetsBytes) × Begins place (length (now rest)) ×
         Stands place (length (now room)) ⌝ }
     ensures { λ r. ⌜ Passed (beside (given mode rule) (now (sheets .exit)))
-        (lineOf (beside (given mode rule) (now (sheets .entry)) card) (now (rest .entry)) (length (now (room .entry))))
+        (sheetStep (beside (given mode rule) (now (sheets .entry)) card) (now (rest .entry)) (length (now (room .entry))))
         (record { place = place; card = card; room = now (room .entry); pass = r; left = now (room .exit) }) ⌝ }
 {
     if is_own(rest, place) {

@@ -9,7 +9,7 @@ use Rattle.chip.specs.Step.{given}
 use Rattle.error_memory.specs.Memory.{cardWith}
 use Rattle.error_memory.specs.Held.{cardUnder}
 use Rattle.state_bytes.proofs.States.{state-sized, state-ready}
-use Rattle.sheets.specs.Step.{held}
+use Rattle.sheets.specs.Step.{holding}
 use Rattle.sheets.proofs.Calling.{called, run-small}
 use borrow.Author.Needs.{needs}
 use Rattle.sheets.proofs.run_good.Statement.{statement}
@@ -34,7 +34,7 @@ settle-requires c κs =
     let start = cardUnder (given (a .mode) (a .rule)) (r .before .before .before .card-in .result) in (
       state-sized (now (a .state)) (e .pre .0),
       e .pre .2,
-      omega (arith, r .run-lines .ensures .refusal-is, run-small (held start (now (a .sheets))) (now (a .input)) (length (now (a .replies)))),
+      omega (arith, r .run-lines .ensures .refusal-is, run-small (holding start (now (a .sheets))) (now (a .input)) (length (now (a .replies)))),
     )
 
 returns : tie.Need-returns

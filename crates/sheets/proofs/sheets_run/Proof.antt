@@ -15,7 +15,7 @@ use Rattle.state_bytes.specs.Bytes.{isState, cardIn, doorOf, reportOf}
 use Rattle.state_bytes.proofs.Calling.{Admitted, admitted}
 use Rattle.sheet_bytes.specs.Ledger.{sheetsBytes, isSheets}
 use Rattle.sheet_bytes.proofs.Ledgers.{is-long}
-use Rattle.sheets.specs.Step.{held, runOf}
+use Rattle.sheets.specs.Step.{holding, runOf}
 use Rattle.sheets.specs.Calls.{callOf, ranOf}
 use Rattle.sheets.proofs.Calling.{turned-away, bad-report, call-away, bad-sheets, too-long, good}
 use borrow.Author.Needs.{needs}
@@ -99,7 +99,7 @@ may-run k = (
 goes-on : (k : Passed) → let a = entry k .args in
     callOf (a .mode) (a .rule) (now (a .state)) (now (a .sheets)) (now (a .input)) (now (a .replies)) (now (a .report))
     ≡ ranOf (length (now (a .state)))
-    (runOf (held (cardIn (given (k .before .mode-of .result) (k .rule-of .result)) (now (a .state))) (now (a .sheets))) (now (a .input))
+    (runOf (holding (cardIn (given (k .before .mode-of .result) (k .rule-of .result)) (now (a .state))) (now (a .sheets))) (now (a .input))
     (length (now (a .replies)))) (now (a .replies))
 goes-on k =
     let a = entry k .args in
@@ -107,7 +107,7 @@ goes-on k =
     let m = may-run k in
     good (a .mode) (a .rule) (now (a .state)) (now (a .sheets)) (now (a .input)) (now (a .replies)) (now (a .report)) (m .2) (g .mode-is) (g .rule-is) (m .0)
     (are-sheets k) (m .3)
-    ∙ ap₂ (λ (x : Mode) (y : Rule). ranOf (length (now (a .state))) (runOf (held (cardIn (given x y) (now (a .state))) (now (a .sheets))) (now (a .input))
+    ∙ ap₂ (λ (x : Mode) (y : Rule). ranOf (length (now (a .state))) (runOf (holding (cardIn (given x y) (now (a .state))) (now (a .sheets))) (now (a .input))
     (length (now (a .replies)))) (now (a .replies))) (sym (k .before .mode-of .ensures)) (sym (k .rule-of .ensures))
 
 run-good-requires : tie.Need-run-good-requires

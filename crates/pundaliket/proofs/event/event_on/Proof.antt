@@ -13,7 +13,7 @@ use Rattle.chip.specs.Step.{pushOf, popOf, readOf, resetOf, acknowledgeOf, comm
 use Rattle.chip.specs.declared.Answer.{Answer as HeldAnswer}
 use Rattle.chip.specs.Held.{answerIn}
 use Rattle.chip.proofs.Held.{reset-done}
-use Rattle.error_memory.specs.Memory.{keptAfter, around}
+use Rattle.error_memory.specs.Memory.{keptAfter, cardAnswer}
 use Rattle.state_bytes.specs.Bytes.{Sized, stateOf, memoryIn, withMemory}
 use Rattle.state_bytes.specs.Calls.{joinedOf, signalBy, Signals}
 use Rattle.state_bytes.proofs.States.{least, state-sized, state-ready}
@@ -48,7 +48,7 @@ keep-requires-5 c κs =
 -- an event that is a method of the chip, with what is remembered as it was
 by-method : (e : tie.Start) (f : State → Answer) (a : HeldAnswer) {s : State} {r : ℕ} {left : List ℕ} → let l = now (e .args .state) in
     answerIn a ≡ f s → s ≡ stateOf l → Settles l a (memoryIn l) r left
-    → Signals (signalBy l (around (given (e .args .mode) (e .args .rule)) (memoryIn l) (f (stateOf l)))) r left
+    → Signals (signalBy l (cardAnswer (given (e .args .mode) (e .args .rule)) (memoryIn l) (f (stateOf l)))) r left
 by-method e f a is read kept = settled (now (e .args .state)) a (given (e .args .mode) (e .args .rule)) kept (is ∙ ap f read)
 
 returns : tie.Need-returns

@@ -14,7 +14,7 @@ use Rattle.stack.specs.Stack.{poppedAll, handedOut}
 use Rattle.stack.specs.Words.{bytesIn}
 use Rattle.chip.specs.Step.{done}
 use Rattle.chip.specs.Held.{flipped, stateIn}
-use Rattle.error_memory.specs.Memory.{around}
+use Rattle.error_memory.specs.Memory.{cardAnswer}
 use Rattle.record_runs.specs.Record.{Pop, le2}
 use Rattle.record_runs.proofs.Blocks.{popped-block}
 use Rattle.record_runs.proofs.Writes.{all-rest, back}
@@ -108,8 +108,8 @@ returns-3 c =
     (q .ensures .1 ∙ ap (λ (l : List ℕ). handedOut n (bytesIn (s .stack)) ++ drop n l) (all-rest room 5)) in
     λ on file same.
     rw (pop-counts mostPayload (length (now (a .payload))) n one (go .0) (go .1))
-    (took file (Pop n) (around on m (done (getD left (n - 1) 0) (stateIn (q .result)))) (c .finish .ensures)
-    (ap (around on m) (ap (done (getD left (n - 1) 0)) (q .ensures .0) ∙ e .0)) refl refl (e .1)
+    (took file (Pop n) (cardAnswer on m (done (getD left (n - 1) 0) (stateIn (q .result)))) (c .finish .ensures)
+    (ap (cardAnswer on m) (ap (done (getD left (n - 1) 0)) (q .ensures .0) ∙ e .0)) refl refl (e .1)
     (c .before .before .before .open-reply .ensures
     ∙ ap (λ (l : List ℕ). le2 (3 + n) ++ (le2 130 ++ (0 ∷ l))) (ap (drop 5) (back room 5 left) ∙ behind room left (omega (arith, go .2))))
     (go .2))

@@ -11,7 +11,7 @@ use Rattle.stack.specs.Stack.{pushedAll}
 use Rattle.stack.specs.Words.{bytesIn}
 use Rattle.chip.specs.Step.{done}
 use Rattle.chip.specs.Held.{flipped, stateIn}
-use Rattle.error_memory.specs.Memory.{around}
+use Rattle.error_memory.specs.Memory.{cardAnswer}
 use Rattle.record_runs.specs.Record.{Push, pushRow, before, pushAll}
 use Rattle.record_runs.proofs.Blocks.{pushed-block}
 use Rattle.record_runs.proofs.Turning.{clears, held-up, took, may-finish}
@@ -43,8 +43,8 @@ returns-2 c =
     let block = pushed-block (stateIn s) (entry .pre .0) q (pushedAll (bytesIn (s .stack)) q) (flipped (length q) (s .pending)) refl refl in
     λ on file same.
     rw (le-ltb (length q) 1 (leb-true 1 (length q) (go .0)))
-    (took file (Push (length q)) (around on m (done 0 (stateIn (after .result)))) (c .finish .ensures)
-    (ap (around on m) (ap (done 0) (after .ensures) ∙ block ∙ ap (pushAll (before (stateIn s))) (sym same))) refl refl refl
+    (took file (Push (length q)) (cardAnswer on m (done 0 (stateIn (after .result)))) (c .finish .ensures)
+    (ap (cardAnswer on m) (ap (done 0) (after .ensures) ∙ block ∙ ap (pushAll (before (stateIn s))) (sym same))) refl refl refl
     (c .before .before .before .open-reply .ensures) (go .1))
 
 pub pass-push-spec : {M : Type 1} → statement M

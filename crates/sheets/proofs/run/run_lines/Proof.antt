@@ -12,7 +12,7 @@ use Rattle.record_files.specs.Run.{Outcome}
 use Rattle.record_runs.specs.Held.{atStart}
 use Rattle.record_runs.proofs.Looping.{Going, starts, in-input, in-replies, begins, stands, same-length, stops, less, goes-on, ends, same-room}
 use Rattle.sheet_bytes.specs.Ledger.{sheetsBytes}
-use Rattle.sheets.specs.Step.{Held, lineOf}
+use Rattle.sheets.specs.Step.{Held, sheetStep}
 use Rattle.sheets.specs.Held.{beside}
 use Rattle.sheets.proofs.Lines.{lawful}
 use Rattle.sheets.proofs.Turning.{calm-line}
@@ -22,7 +22,7 @@ use Rattle.sheets.proofs.run.run_lines.Tie as tie
 
 abbrev Inv-loop : tie.InvT-loop
 Inv-loop mode rule sheets₀ input replies₀ card₀ place₀ sheets replies card place =
-    (length sheets ≡ sheetsBytes) × (card .chip .status < 128) × ((o : Outcome Held) × Going (beside (given mode rule) sheets) lineOf
+    (length sheets ≡ sheetsBytes) × (card .chip .status < 128) × ((o : Outcome Held) × Going (beside (given mode rule) sheets) sheetStep
     (beside (given mode rule) sheets₀ card₀) input (record {
       place = atStart (length input) (length replies₀);
       card = card₀;
