@@ -35,6 +35,7 @@ pub mod NearBench
 pub mod Undo
 pub mod CloseReadings
 pub mod StepsAsked
+pub mod SerialSteps
 pub mod Serial
 pub mod Doubles
 pub mod DoubleBench
