@@ -1,4 +1,6 @@
 -- The statements' proofs, each file under its spec's name.
+pub mod float
+pub mod host_floats
 pub mod Measures
 pub mod Remembered
 pub mod Determined

@@ -141,8 +141,8 @@ module _ {A : Type 0} (bits : A → ℕ) (step : A → A) (line : A → List ℕ
 
       go : (t : Bool) → (t ≡ false → bits s ≡ 0 → ⊥) → ((bits s ≡ 0 → ⊥) → (count (step s) ≤ count end)
           × (linesUpTo bits step line n (step s) ≡ linesAfter task (count end - count (step s)) (count (step s))))
-          → (count s ≤ count (cond t s end)) × (cond t [] (line (step s) ++ linesUpTo bits step line n (step s)) ≡ linesAfter task (count (cond t s end) - count s)
-          (count s))
+          → (count s ≤ count (cond t s end))
+          × (cond t [] (line (step s) ++ linesUpTo bits step line n (step s)) ≡ linesAfter task (count (cond t s end) - count s) (count s))
       go true f g = (omega arith, sym (ap (λ (k : ℕ). linesAfter task k (count s)) (sub-self (count s))))
       go false f g =
           let w = g (f refl) in

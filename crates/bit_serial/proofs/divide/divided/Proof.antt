@@ -24,8 +24,7 @@ bits-again c =
     let l = c .before .before .before .before .before .bits in subtracts _ _ _ (l .s) (l .inv) (omega arith) (c .before .if2 .left) (c .subtracted .ensures)
 
 pub divided-spec : {M : Type 1} → statement M
-divided-spec =
-    tie.close
-    (tie.spec Inv-bits μ-bits (λ c κs. tt) (λ c. starts _ _ _ (c .begun .ensures)) subtracted-requires
-    (λ c. omega (arith, ap (λ (s : Division). s .left) (c .subtracted .ensures))) bits-again (λ c. all-made _ _ _ (c .before .before .bits .inv .leads)
-    (omega arith)) (λ c. early _ _ _ (c .before .before .before .before .bits .inv .leads) (c .if2 .taken)))
+divided-spec = tie.close (tie.spec Inv-bits μ-bits (λ c κs. tt) (λ c. starts _ _ _ (c .begun .ensures)) subtracted-requires
+    (λ c. omega (arith, ap (λ (s : Division). s .left) (c .subtracted .ensures))) bits-again
+    (λ c. all-made _ _ _ (c .before .before .bits .inv .leads) (omega arith))
+    (λ c. early _ _ _ (c .before .before .before .before .bits .inv .leads) (c .if2 .taken)))

@@ -23,8 +23,7 @@ bits-again : tie.Need-bits-again Inv-bits μ-bits
 bits-again c = let l = c .before .before .before .before .before .bits in adds _ _ _ (l .p) (l .inv) (omega arith) (c .before .if2 .left) (c .added .ensures)
 
 pub multiplied-spec : {M : Type 1} → statement M
-multiplied-spec =
-    tie.close
-    (tie.spec Inv-bits μ-bits (λ c κs. tt) (λ c. starts _ _ _ (c .begun .ensures)) added-requires
-    (λ c. omega (arith, ap (λ (p : Product). p .steps) (c .added .ensures))) bits-again (λ c. all-made _ _ _ (c .before .before .bits .inv .leads) (omega arith))
+multiplied-spec = tie.close (tie.spec Inv-bits μ-bits (λ c κs. tt) (λ c. starts _ _ _ (c .begun .ensures)) added-requires
+    (λ c. omega (arith, ap (λ (p : Product). p .steps) (c .added .ensures))) bits-again
+    (λ c. all-made _ _ _ (c .before .before .bits .inv .leads) (omega arith))
     (λ c. early _ _ _ (c .before .before .before .before .bits .inv .leads) (c .if2 .taken)))

@@ -11,16 +11,8 @@ returns-9 c =
     let k = c .before .args .code in
     let r = c .match .rest in
     let s = r .0 .0 .0 .0 in
-    rw (
-      ne-eqb k 0x6E (s .0 .0 .0 .1),
-      ne-eqb k 0x76 (s .0 .0 .1),
-      ne-eqb k 0x6F (s .0 .1),
-      ne-eqb k 0x2E (s .1),
-      ne-eqb k 0x36 (r .0 .0 .0 .1),
-      ne-eqb k 0x2F (r .0 .0 .1),
-      ne-eqb k 0x12 (r .0 .1),
-      ne-eqb k 0x13 (r .1),
-    )
+    rw (ne-eqb k 0x6E (s .0 .0 .0 .1), ne-eqb k 0x76 (s .0 .0 .1), ne-eqb k 0x6F (s .0 .1), ne-eqb k 0x2E (s .1))
+    (rw (ne-eqb k 0x36 (r .0 .0 .0 .1), ne-eqb k 0x2F (r .0 .0 .1), ne-eqb k 0x12 (r .0 .1), ne-eqb k 0x13 (r .1)))
 
 pub operation-at-spec : {M : Type 1} → statement M
 unfolding operationAt

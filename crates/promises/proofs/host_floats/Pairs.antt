@@ -16,12 +16,12 @@ use Rattle.numbers.proofs.Differences.{either, above, beneath, parts, le-parts,
 use Rattle.terms.specs.declared.Rule.{Rule}
 use Rattle.terms.specs.declared.Rule.the-variants.{Cut, Nearest}
 use Rattle.float.specs.Word.{mantissa, exponent, size88}
-use Rattle.float.specs.Cut.{lastPlace}
-use Rattle.float.specs.Nearest.{belowMark, aboveMark, Between, PairBy}
-use Rattle.float.proofs.cut.NearPair.{mark-least, mark-more, least-or-more}
-use Rattle.float.proofs.cut.RulePair.{rescaled}
-use Rattle.float.proofs.Moved.{word-size}
-use Rattle.float.proofs.Steps.{size-lt}
+use Rattle.promises.proofs.float.OnePair.{lastPlace}
+use Rattle.promises.proofs.float.NearPair.{mark-least, mark-more, least-or-more}
+use Rattle.promises.proofs.float.RulePair.{rescaled}
+use Rattle.promises.proofs.float.Moved.{word-size}
+use Rattle.promises.proofs.float.Steps.{size-lt}
+use Rattle.promises.specs.FloatResults.{belowMark, aboveMark, Between, PairBy}
 
 -- ---- one fraction written in two ways
 exchanged : (c u d : ℕ) → c * u * d ≡ d * u * c

@@ -13,14 +13,14 @@ use lib.Ieee.{Float, binary32, ofBits}
 use Rattle.terms.specs.declared.Refusal.the-variants.{NotFinite, TooLarge, TooSmall, MinusZero}
 use Rattle.numbers.proofs.Differences.{either}
 use Rattle.float.specs.Word.{negative, biased, mantissa, size88}
 use Rattle.host_floats.specs.Host.{exponentField, fraction, minusZero, wordOf, takenOf}
-use Rattle.host_floats.specs.Values.{HasWord, Endless, IsMinusZero, Large, Small}
+use Rattle.promises.specs.HostFloats.{HasWord, Endless, IsMinusZero, Large, Small}
 use Rattle.host_floats.specs.declared.Taken.{Taken}
 use Rattle.host_floats.specs.declared.Taken.the-variants.{Word, Refused}
-use Rattle.host_floats.proofs.Patterns.{leading, leading-many, bits-value, all-ones}
-use Rattle.host_floats.proofs.Sizes.{same-of, large-of}
-use Rattle.host_floats.proofs.Classes.{sizeIn, below-ones, zero-right, minus-right, minus-bits, small-right}
+use Rattle.host_floats.proofs.Patterns.{leading, leading-many, bits-value}
+use Rattle.promises.proofs.host_floats.Sizes.{same-of, large-of}
+use Rattle.promises.proofs.host_floats.Classes.{sizeIn, all-ones, below-ones, zero-right, minus-right, minus-bits, small-right}
 use Rattle.host_floats.proofs.WordSizes.{packed, packed-mantissa, packed-biased, packed-negative, packed-lt, size-is}
 
 -- ---- the word of an f32, field by field
 pub record Parts (p : ℕ) : Type 0 where

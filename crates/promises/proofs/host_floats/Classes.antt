@@ -1,25 +1,39 @@
 -- Which floats are infinite or no number, minus zero, zero, and too small, by the fields of their bits, in either format. Assumes nothing.
 use mathlib.Core.Path.{_≡_, refl, sym, ap, _∙_, subst}
 use mathlib.Core.Logic.{inr, ⊎-elim}
-use mathlib.Core.Bool.{true}
+use mathlib.Core.Bool.{Bool, true, false, cond}
 use Prim.Native.Nat.{ℕ, _+_, _-_, _*_, _%_, _^_, _≤_, _<_}
 use native.Mathlib.Nat.{zero-mul, mul-le-mul-left, mul-lt-mul-of-pos-right, mul-pos, lt-of-lt-of-le, lt-of-le-of-lt, le-of-eq, pos-of-ne-zero, eq-zero-or-pos}
 use native.Mathlib.Nat.{lt-irrefl, mod-lt}
 use native.Mathlib.Omega.{arith}
-use lib.Dec.{lit<}
+use lib.Dec.{eqb, lit<}
 use lib.Pow.{pow-pos, pow-mono}
 use borrow.Author.Tests.{leb-true}
-use lib.Ieee.{Format, binary32, binary64, emax, low, hid, ones, top, ofBits}
+use lib.Ieee.{nan, inf, Format, binary32, binary64, emax, low, hid, ones, top, ofBits, ofFields}
 use Rattle.numbers.proofs.Differences.{either}
-use Rattle.host_floats.specs.Values.{HasWord, IsMinusZero, Small}
-use Rattle.host_floats.proofs.Patterns.{signIn, fieldIn, digitsIn, leading, leading-lt, leading-none, leading-some, bits-value, all-ones}
-use Rattle.host_floats.proofs.Sizes.{same-of, small-of, first-zero, minus-of, of-minus}
-use Rattle.host_floats.proofs.Apart.{endless-minus}
+use Rattle.promises.specs.HostFloats.{HasWord, Endless, IsMinusZero, Small}
+use Rattle.host_floats.proofs.Patterns.{signIn, fieldIn, digitsIn, leading, leading-lt, leading-none, leading-some, bits-value, of-bits}
+use Rattle.promises.proofs.host_floats.Sizes.{same-of, small-of, first-zero, minus-of, of-minus}
+use Rattle.promises.proofs.host_floats.Apart.{endless-minus}
 use Rattle.host_floats.proofs.WordSizes.{size-zero}
 
 -- the size of bits whose field is not all ones, in units of the least value
 abbrev pub sizeIn : Format → ℕ → ℕ
 sizeIn f p = leading f (fieldIn f p) (digitsIn f p) * 2 ^ (fieldIn f p - 1)
+
+-- bits whose field is all ones have none
+no-value : (s b : Bool) → Endless (cond b (inf s) nan)
+no-value s true = tt
+no-value s false = tt
+
+ones-endless : (f : Format) (s : Bool) (t : ℕ) → Endless (ofFields f s (ones f) t)
+unfolding ofFields
+ones-endless binary32 s t = no-value s (eqb t 0)
+ones-endless binary64 s t = no-value s (eqb t 0)
+
+pub all-ones : (f : Format) (p : ℕ) → fieldIn f p ≡ ones f → Endless (ofBits f p)
+all-ones f p e =
+    subst Endless (sym (of-bits f p ∙ ap (λ (x : ℕ). ofFields f (signIn f p) x (digitsIn f p)) e)) (ones-endless f (signIn f p) (digitsIn f p))
 
 -- ---- the fields of a format
 pub below-ones : (f : Format) (p : ℕ) → (fieldIn f p ≡ ones f → ⊥) → fieldIn f p < ones f

@@ -10,12 +10,12 @@ use lib.Signed.{_≤ℤ_}
 use Rattle.numbers.specs.Signed.{withSign}
 use Rattle.numbers.proofs.Differences.{le-opposite}
 use Rattle.numbers.proofs.Signs.{opposite}
 use Rattle.float.specs.Word.{negative, biased, mantissa, size88, value, FloatWord}
 use Rattle.terms.specs.declared.Rule.{Rule}
 use Rattle.float.specs.Cut.{cut}
 use Rattle.float.specs.Float.{add, sub}
 use Rattle.float.specs.Convert.{chsf}
-use Rattle.float.specs.Order.{Le}
+use Rattle.promises.proofs.float.Order.{Le}
 
 flip-down : (w : ℕ) → 2147483648 ≤ w → 8388608 ≤ mantissa w → chsf w ≡ w - 2147483648
 unfolding chsf

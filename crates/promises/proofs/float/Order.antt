@@ -3,9 +3,9 @@
 use mathlib.Core.Path.{_≡_, refl, sym, ap, _∙_, subst₂}
 use mathlib.Core.Bool.{Bool, true, false, cond}
 use Prim.Native.Nat.{ℕ, _+_, _*_, _^_, _≤_, _<_}
-use native.Mathlib.Nat.{mul-one, mul-right-comm, mul-le-mul-right, mul-pos, pos-of-ne-zero, zero-mul}
+use native.Mathlib.Nat.{mul-one, mul-right-comm, mul-le-mul-right, zero-mul}
 use native.Mathlib.Omega.{arith}
-use borrow.Author.Tests.{eq-eqb, ne-eqb}
+use borrow.Author.Tests.{eq-eqb}
 use lib.IntN.{ℤ, pos, negℤ, natAbs, _*ℤ_}
 use lib.Signed.{_≤ℤ_}
 use lib.Ieee.{unlike}
@@ -13,15 +13,24 @@ use lib.Pow.{pow-pos}
 use Rattle.numbers.specs.Signed.{withSign}
 use Rattle.numbers.proofs.Differences.{le-sum-left, le-sum-right, le-opposite}
 use Rattle.numbers.proofs.Signs.{opposite, times}
 use Rattle.float.specs.declared.Flagged.{Flagged}
-use Rattle.float.specs.Word.{negative, biased, mantissa, size88, value}
+use Rattle.float.specs.Word.{negative, mantissa, size88, value}
 use Rattle.terms.specs.declared.Rule.{Rule}
 use Rattle.float.specs.Cut.{below0, cutSize, cut}
 use Rattle.float.specs.Float.{exactSum, exactDifference, exactProduct, dividend, divisor, add, sub, mul, div}
-use Rattle.float.specs.Order.{Le, LeBy}
 use Rattle.float.proofs.cut.Pair.{grid-mono}
 use Rattle.float.proofs.cut.Signs.{signed-parts, times-size, signed-le, le-signed, cut-sign}
 use Rattle.float.proofs.cut.Values.{grid, grid-zero, cut-value}
+use Rattle.float.proofs.Results.{size-pos, div-cut}
+
+-- the value of v is at most that of w
+abbrev pub Le : ℕ → ℕ → Type 0
+Le v w = value v ≤ℤ value w
+
+-- the order kept, for false, or turned round, for true
+abbrev pub LeBy : Bool → ℕ → ℕ → Type 0
+LeBy true v w = Le w v
+LeBy false v w = Le v w
 
 -- ---- magnitudes with a sign
 module _ (r : Rule) (n d n' d' : ℕ) (D : 0 < d) (D' : 0 < d') where
@@ -156,14 +165,6 @@ mul-order r b b' a h e e' = cut-by r (negative a) (exactProduct b a) (exactProdu
 pub no-zero-divisor : (r : Rule) (b a : ℕ) → (div r b a) .error ≡ 0 → mantissa a ≡ 0 → ⊥
 unfolding div
 no-zero-divisor r b a e z = let x : _≡_ {A = ℕ} 8 0 = rw (eq-eqb (mantissa a) 0 z) at e in omega arith
-
-pub size-pos : (w : ℕ) → (mantissa w ≡ 0 → ⊥) → 0 < size88 w
-unfolding size88
-size-pos w nz = mul-pos (pos-of-ne-zero nz) (pow-pos (biased w))
-
-pub div-cut : (r : Rule) (b a : ℕ) → (mantissa a ≡ 0 → ⊥) → div r b a ≡ cut r (dividend b a) (divisor a)
-unfolding div
-div-cut r b a nz = rw (ne-eqb (mantissa a) 0 nz)
 
 dividend-is : (b a : ℕ) → value b *ℤ withSign (negative a) 1 ≡ dividend b a
 unfolding value

@@ -10,10 +10,10 @@ use lib.Pow.{pow-pos}
 use lib.Ieee.{Float, nan, inf, fin, up, down}
 use lib.Ieee.Fits.{down-pos, up-pos}
 use Rattle.float.specs.Word.{negative, mantissa, size88, value}
-use Rattle.float.proofs.cut.Kept.{same-word}
-use Rattle.host_floats.specs.Values.{HasWord, Endless, IsMinusZero, Large, Small}
-use Rattle.host_floats.proofs.Signs.{of-signed, parted}
+use Rattle.promises.proofs.float.Kept.{same-word}
+use Rattle.promises.specs.HostFloats.{HasWord, Endless, IsMinusZero, Large, Small}
+use Rattle.promises.proofs.host_floats.Signs.{of-signed, parted}
 use Rattle.host_floats.proofs.WordSizes.{proper-cases, size-zero, size-some, size-lt}
 
 value-same : (w v : ℕ) → size88 w ≡ size88 v → (negative w ≡ negative v) ⊎ (size88 v ≡ 0) → value w ≡ value v
 unfolding value

@@ -16,15 +16,16 @@ use Rattle.numbers.specs.Signed.{withSign}
 use Rattle.numbers.proofs.Differences.{either}
 use Rattle.numbers.proofs.Signs.{times}
 use Rattle.terms.specs.declared.Rule.{Rule}
-use Rattle.float.specs.Word.{negative, biased, mantissa, size88, value, FloatWord}
+use Rattle.float.specs.Word.{negative, biased, mantissa, size88, value}
+use Rattle.promises.specs.FloatWords.{FloatWord}
 use Rattle.float.proofs.cut.Signs.{alone}
-use Rattle.float.proofs.cut.Kept.{own-value}
+use Rattle.promises.proofs.float.Kept.{own-value}
 use Rattle.host_floats.specs.Double.{doubleSign, doubleField, doubleFraction, doubleBits, broughtOf}
 use Rattle.host_floats.proofs.Patterns.{joined, leading-many, bits-value, rejoined}
 use Rattle.host_floats.proofs.WordSizes.{proper-cases}
 use Rattle.host_floats.proofs.Outward.{not-zero}
 use Rattle.host_floats.proofs.DoubleOut.{double-some}
 use Rattle.host_floats.proofs.DoubleIn.{doubleSize}
 
 word-times : (w d : ℕ) → value w *ℤ pos d ≡ withSign (negative w) (size88 w * d)
 unfolding value

@@ -1,20 +1,25 @@
 -- The root rounded to nearest has one pair: its halves lie beside twice a number exactly as its square lies beside that number's square. Assumes nothing.
 use mathlib.Core.Path.{_≡_, sym, ap, ap₂, _∙_, subst}
 use mathlib.Core.Logic.{_⊎_, inl, inr}
-use Prim.Native.Nat.{ℕ, _+_, _-_, _*_, _^_, _≤_, _<_}
+use Prim.Native.Nat.{ℕ, _+_, _*_, _^_, _≤_, _<_}
 use native.Mathlib.Nat.{le-trans, le-of-eq, lt-of-lt-of-le, lt-of-le-of-lt, not-le-of-lt, le-of-lt, mul-assoc, mul-comm, mul-le-mul, mul-pos}
 use native.Mathlib.Omega.{arith}
 use lib.IntN.{ℤ, pos, subℕ, _+ℤ_, _-ℤ_, -ℤ-+ℤ-cancel}
 use lib.Ieee.{up, down}
 use lib.Pow.{pow-add, pow-pos}
-use Rattle.float.specs.Nearest.{belowMark, aboveMark, Marks}
-use Rattle.float.specs.Root.{wholeRoot, rootHalves, squareExponent, SquareMarks, NearRoot}
+use Rattle.float.specs.Root.{wholeRoot, rootHalves}
 use Rattle.float.proofs.Powers.{parted}
 use Rattle.numbers.proofs.Differences.{either, sum-differences, same, above, beneath, parts}
-use Rattle.float.proofs.cut.OnePair.{scaled, other, down-pos}
-use Rattle.float.proofs.cut.NearPair.{NearAt, near-only}
-use Rattle.float.proofs.cut.RulePair.{rescaled}
+use Rattle.promises.proofs.float.OnePair.{scaled, other, down-pos}
+use Rattle.promises.proofs.float.NearPair.{NearAt, near-only}
+use Rattle.promises.proofs.float.RulePair.{rescaled}
 use Rattle.float.proofs.root.WholeRoot.{is-root, root-ge, halves-cases, halves-near}
+use Rattle.promises.specs.FloatResults.{belowMark, aboveMark, Between, squareExponent, NearRoot}
+use Rattle.promises.proofs.float.NearPair.{Marks}
+
+-- n / u lies between the squares of the marks of m; at either of them m is even
+abbrev pub SquareMarks : ℕ → ℕ → ℕ → Type 0
+SquareMarks n u m = Between (16 * n) (belowMark m * belowMark m * u) (aboveMark m * aboveMark m * u) m
 
 -- ---- the halves of a root beside 2 * y, and its square beside y * y
 halves-ge : (n y : ℕ) → y * y ≤ n → 2 * y ≤ rootHalves n

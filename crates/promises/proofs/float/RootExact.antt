@@ -4,8 +4,8 @@ use mathlib.Core.Path.{_≡_, refl, sym, ap, ap₂, _∙_, subst, subst₂}
 use mathlib.Core.Logic.{_⊎_, inl, inr}
 use mathlib.Core.Bool.{Bool, true, false}
 use Prim.Native.Nat.{ℕ, _+_, _-_, _*_, _^_, _≤_, _<_}
-use native.Mathlib.Nat.{le-refl, le-trans, le-of-eq, lt-of-lt-of-le, lt-of-le-of-lt, eq-zero-or-pos, mul-assoc, mul-comm, mul-one, mul-mul-mul-comm, mul-le-mul}
-use native.Mathlib.Nat.{mul-le-mul-left, mul-le-mul-right, mul-lt-mul-of-pos-right, le-of-mul-le-mul-right, lt-of-mul-lt-mul-right}
+use native.Mathlib.Nat.{le-refl, le-trans, lt-of-lt-of-le, lt-of-le-of-lt, eq-zero-or-pos, mul-assoc, mul-comm, mul-one, mul-mul-mul-comm, mul-le-mul}
+use native.Mathlib.Nat.{mul-le-mul-right, mul-lt-mul-of-pos-right, le-of-mul-le-mul-right, lt-of-mul-lt-mul-right}
 use native.Mathlib.Omega.{arith}
 use borrow.Author.Tests.{lt-ltb}
 use lib.Dec.{lit<, lit≤}
@@ -15,28 +15,32 @@ use lib.Ieee.{up, down}
 use lib.Pow.{pow-add, pow-pos}
 use Rattle.numbers.specs.Signed.{withSign}
 use Rattle.numbers.proofs.Differences.{sum-differences, same, above, beneath, parts, le-differences, less-difference}
 use Rattle.float.specs.declared.Flagged.{Flagged}
-use Rattle.float.specs.Word.{negative, size88, value, proper, FloatWord}
+use Rattle.float.specs.Word.{negative, size88, value, proper}
+use Rattle.promises.specs.FloatWords.{FloatWord}
 use Rattle.terms.specs.declared.Rule.{Rule}
 use Rattle.terms.specs.declared.Rule.the-variants.{Cut, Nearest}
 use Rattle.float.specs.Cut.{lost, kept, mantissaOf, digitsOf, stored, cutSize}
-use Rattle.float.specs.Nearest.{Marks}
-use Rattle.float.specs.Float.{Result}
-use Rattle.float.specs.Order.{Le}
-use Rattle.float.specs.Root.{wholeRoot, rootHalves, radicand, sqrt, squareExponent, RootPair, SquareMarks, RootBy, RootCutsBy, ExactlyRootBy}
+use Rattle.float.specs.Root.{wholeRoot, rootHalves, radicand, sqrt}
 use Rattle.float.proofs.Powers.{parted}
 use Rattle.float.proofs.cut.Signs.{signed-le, le-signed, cut-scaled}
 use Rattle.float.proofs.cut.Pair.{PairAt, kept-le, cuts-only, cuts-one, grid-mono}
 use Rattle.float.proofs.cut.Jams.{stands-cut}
-use Rattle.float.proofs.cut.OnePair.{to-le, from-le, to-lt, from-lt}
+use Rattle.promises.proofs.float.OnePair.{to-le, from-le, to-lt, from-lt}
 use Rattle.float.proofs.cut.Values.{packed-mantissa, packed-sign, digits-near, cut-stored, cut-value}
-use Rattle.float.proofs.Steps.{steps, lost-least, place-most, size-lt, size-ge}
-use Rattle.float.proofs.Results.{zero-result, cut-result, kept-big, mantissa-big}
-use Rattle.float.proofs.cut.NearPair.{near-one}
-use Rattle.float.proofs.root.NearRoot.{squares-of, near-at, one-near-root}
-use Rattle.float.proofs.cut.Kept.{own-value}
+use Rattle.promises.proofs.float.Steps.{steps, place-most, size-lt}
+use Rattle.float.proofs.Results.{kept-big, mantissa-big}
+use Rattle.promises.proofs.float.NearPair.{near-one}
+use Rattle.promises.proofs.float.NearRoot.{squares-of, near-at, one-near-root}
+use Rattle.promises.proofs.float.Kept.{own-value}
 use Rattle.float.proofs.root.WholeRoot.{is-root, root-ge, root-lt, halves-square, halves-near, halves-mono}
 use Rattle.float.proofs.root.RootCut.{root-negative, root-cut, root-none}
+use Rattle.promises.specs.FloatResults.{squareExponent, RootPair, RootBy, RootCutsBy, ExactlyRootBy}
+use Rattle.promises.proofs.float.NearPair.{Marks}
+use Rattle.promises.proofs.float.NearRoot.{SquareMarks}
+use Rattle.promises.proofs.float.Order.{Le}
+use Rattle.float.proofs.cut.Pair.{lost-least}
+use Rattle.float.proofs.Results.{size-ge, root-low}
 
 -- ---- the pair of the root of n * 2 ^ (j + j), at k digits
 abbrev pub RootAt : ℕ → ℕ → ℕ → ℕ → Type 0
@@ -119,14 +123,6 @@ one-root n m m' e e' p p' =
     (sym (c .0) ∙ c' .0, sym (-ℤ-+ℤ-cancel e (pos 24)) ∙ ap (λ (z : ℤ). z +ℤ pos 24) y ∙ -ℤ-+ℤ-cancel e' (pos 24))
 
 -- ---- the digits that a root loses
-root-low : (a : ℕ) → 2 ^ 23 ≤ size88 a → 2 ^ (23 + 144) * 2 ≤ rootHalves (radicand a)
-root-low a h =
-    let N = radicand a in
-    let s : 2 ^ 167 ≤ wholeRoot N = root-ge N (wholeRoot N) (2 ^ 167) (is-root N) (le-trans (lit≤ {m = 2 ^ 167 * 2 ^ 167} {n = 2 ^ 23 * 2 ^ 312} tt)
-    (mul-le-mul-right (2 ^ 312) h)) in
-    let c = halves-near N .0 in
-    le-trans (le-of-eq (mul-comm (2 ^ 167) 2)) (le-trans (mul-le-mul-left 2 s) c)
-
 root-most : (a : ℕ) → rootHalves (radicand a) ≤ 16777215 * 2 ^ 208 * 2
 root-most a =
     let N = radicand a in
@@ -203,6 +199,7 @@ root-is r a s h =
     })
 
 pub root-exactly : (r : Rule) (a : ℕ) → proper a ≡ true → ExactlyRootBy r a (sqrt r a)
+unfolding size88
 root-exactly r a p = go (negative a) refl (eq-zero-or-pos (size88 a))
   where
     go : (s : Bool) → negative a ≡ s → (size88 a ≡ 0) ⊎ (0 < size88 a) → ExactlyRootBy r a (sqrt r a)
@@ -222,17 +219,6 @@ root-no-error r a p s = go (eq-zero-or-pos (size88 a))
     go : (size88 a ≡ 0) ⊎ (0 < size88 a) → (sqrt r a) .error ≡ 0
     go (inl z) = ap (λ (x : Flagged). x .error) (root-none r a s z)
     go (inr l) = root-is r a s (size-ge a p l) .none
-
-pub root-result : (r : Rule) (a : ℕ) → FloatWord a → Result (sqrt r a)
-root-result r a A = go (negative a) refl (eq-zero-or-pos (size88 a))
-  where
-    go : (s : Bool) → negative a ≡ s → (size88 a ≡ 0) ⊎ (0 < size88 a) → Result (sqrt r a)
-    go true s z = subst (λ (x : Flagged). Result x) (root-negative r a s) (record { word = A; small = lit< tt })
-    go false s (inl z) = subst (λ (x : Flagged). Result x) (sym (root-none r a s z)) zero-result
-    go false s (inr l) =
-        subst (λ (x : Flagged). Result x) (sym (root-cut r a s))
-        (cut-result r false (rootHalves (radicand a)) 2 (lit< tt) (inr (le-trans (lit≤ {m = 8388608 * 2} {n = 2 ^ (23 + 144) * 2} tt)
-        (root-low a (size-ge a (A .is-proper) l)))))
 
 -- ---- the order of two words not below zero
 pub root-keeps : (r : Rule) (a b : ℕ) → proper a ≡ true → proper b ≡ true → negative a ≡ false → negative b ≡ false → Le a b

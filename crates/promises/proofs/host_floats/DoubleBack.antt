@@ -14,23 +14,25 @@ use lib.Ieee.Bits.{ofBits-fits, ofBits-toBits, toBits-lt}
 use lib.Ieee.Fits.{down-pos}
 use Rattle.terms.specs.declared.Refusal.the-variants.{NotFinite, TooLarge, TooSmall, MinusZero}
 use Rattle.terms.specs.declared.Rule.{Rule}
-use Rattle.float.specs.Word.{negative, mantissa, exponent, size88, value, FloatWord}
-use Rattle.float.proofs.Moved.{word-size}
-use Rattle.float.proofs.cut.Kept.{same-word}
-use Rattle.float.proofs.cut.RulePair.{one-pair-by}
-use Rattle.host_floats.specs.Values.{HasWord, Endless, IsMinusZero, Small, BroughtTo, LargeBy}
+use Rattle.float.specs.Word.{negative, mantissa, exponent, size88, value}
+use Rattle.promises.specs.FloatWords.{FloatWord}
+use Rattle.promises.proofs.float.Moved.{word-size}
+use Rattle.promises.proofs.float.Kept.{same-word}
+use Rattle.promises.proofs.float.RulePair.{one-pair-by}
+use Rattle.promises.specs.HostFloats.{HasWord, Endless, IsMinusZero, Small, BroughtTo, LargeBy}
 use Rattle.float.specs.declared.Flagged.{Flagged}
 use Rattle.host_floats.specs.Double.{doubleField, doubleBits, broughtOf, inwardOf}
 use Rattle.host_floats.specs.declared.entry.Inward.{Inward}
 use Rattle.host_floats.specs.declared.entry.Inward.the-variants.{Exact, Rounded, Refused}
-use Rattle.host_floats.proofs.Signs.{of-signed, united}
+use Rattle.promises.proofs.host_floats.Signs.{of-signed, united}
 use Rattle.host_floats.proofs.WordSizes.{size-zero}
-use Rattle.host_floats.proofs.Back.{word-not-minus}
-use Rattle.host_floats.proofs.Apart.{one-word, held-endless, held-small, endless-small, endless-minus, minus-small}
+use Rattle.promises.proofs.host_floats.Back.{word-not-minus}
+use Rattle.promises.proofs.host_floats.Apart.{one-word, held-endless, held-small, endless-small, endless-minus, minus-small}
 use Rattle.host_floats.proofs.DoubleOut.{double-value}
-use Rattle.host_floats.proofs.Pairs.{Reaches, word-below}
-use Rattle.host_floats.proofs.Brought.{held-large-by, endless-large-by, minus-large-by, small-large-by, Right, exact, rounded, endless, minus, small}
-use Rattle.host_floats.proofs.Brought.{large, own-word, right}
+use Rattle.promises.proofs.host_floats.Pairs.{Reaches, word-below}
+use Rattle.promises.proofs.host_floats.Brought.{held-large-by, endless-large-by, minus-large-by, small-large-by, Right, exact, rounded, endless, minus}
+use Rattle.promises.proofs.host_floats.Brought.{small}
+use Rattle.promises.proofs.host_floats.Brought.{large, own-word, right}
 
 -- ---- a float that the rule brings to a word
 pub brought-endless : (r : Rule) (x : Float) (w : ℕ) → BroughtTo r x w → Endless x → ⊥

@@ -9,11 +9,15 @@ use borrow.Author.Tests.{eq-eqb, ne-eqb, lt-ltb, le-ltb}
 use lib.Pow.{pow-add, pow-pos}
 use lib.Ieee.Nearest.{closest}
 use Rattle.terms.specs.declared.Rule.the-variants.{Cut, Nearest}
 use Rattle.float.specs.Cut.{lost, kept, mantissaOf, digitsOf}
-use Rattle.float.specs.Nearest.{belowMark, Marks}
 use Rattle.float.proofs.cut.Pair.{PairAt, kept-le, lost-is, cuts-one}
 use Rattle.float.proofs.Results.{kept-big}
 use Rattle.float.proofs.cut.NearWhole.{Nearby, sides, closest-near, closest-only}
+use Rattle.promises.specs.FloatResults.{belowMark, aboveMark, Between}
+
+-- n / u lies between the marks of m; at either of them m is even
+abbrev pub Marks : ℕ → ℕ → ℕ → Type 0
+Marks n u m = Between (4 * n) (belowMark m * u) (aboveMark m * u) m
 
 -- ---- the marks of m, by m
 pub mark-least : (m : ℕ) → m ≡ 8388608 → belowMark m ≡ 4 * m - 1
@@ -37,46 +41,24 @@ lessened u q h =
 
 -- ---- in the cut's own place
 module _ (n u q : ℕ) (U : 0 < u) (lo : 8388608 * u ≤ n) (b : 8388608 ≤ q) where
-  marks-of : Nearby n u q → Marks n u q
-  marks-of w = go (least-or-more q b)
+  both-ways : (Nearby n u q → Marks n u q) × (Marks n u q → Nearby n u q)
+  both-ways = go (least-or-more q b)
     where
-      go : (q ≡ 8388608) ⊎ (8388608 < q) → Marks n u q
+      go : (q ≡ 8388608) ⊎ (8388608 < q) → (Nearby n u q → Marks n u q) × (Marks n u q → Nearby n u q)
       go (inl e) =
-          let p = w .passed in
           let x : q * u ≡ 8388608 * u = ap (λ (y : ℕ). y * u) e in
-          let y : belowMark q * u ≡ 33554431 * u = ap (λ (z : ℕ). z * u) (mark-least q e ∙ omega arith) in
-          record { reached = omega arith; passed = omega arith; low-even = λ g. omega arith; high-even = λ g. omega arith }
+          let y : belowMark q * u ≡ 33554431 * u = ap (λ (z : ℕ). z * u) (mark-least q e ∙ omega arith) in (
+            λ w. let p = w .passed in record { reached = omega arith; passed = omega arith; low-even = λ g. omega arith; high-even = λ g. omega arith },
+            λ w. let p = w .passed in record { reached = omega arith; passed = omega arith; low-even = λ g. omega arith; high-even = λ g. omega arith },
+          )
       go (inr l) =
-          let p = w .passed in
-          let r = w .reached in
           let y : belowMark q * u ≡ (4 * q - 2) * u = ap (λ (z : ℕ). z * u) (mark-more q l) in
-          let z : (4 * q - 2) * u + 2 * u ≡ 4 * (q * u) = lessened u q (omega arith) in
-          record {
-            reached = omega arith;
-            passed = omega arith;
-            low-even = λ g. w .low-even (omega arith);
-            high-even = λ g. w .high-even (omega arith);
-          }
-
-  nearby-of : Marks n u q → Nearby n u q
-  nearby-of w = go (least-or-more q b)
-    where
-      go : (q ≡ 8388608) ⊎ (8388608 < q) → Nearby n u q
-      go (inl e) =
-          let p = w .passed in
-          let x : q * u ≡ 8388608 * u = ap (λ (y : ℕ). y * u) e in
-          record { reached = omega arith; passed = omega arith; low-even = λ g. omega arith; high-even = λ g. omega arith }
-      go (inr l) =
-          let p = w .passed in
-          let r = w .reached in
-          let y : belowMark q * u ≡ (4 * q - 2) * u = ap (λ (z : ℕ). z * u) (mark-more q l) in
-          let z : (4 * q - 2) * u + 2 * u ≡ 4 * (q * u) = lessened u q (omega arith) in
-          record {
-            reached = omega arith;
-            passed = omega arith;
-            low-even = λ g. w .low-even (omega arith);
-            high-even = λ g. w .high-even (omega arith);
-          }
+          let z : (4 * q - 2) * u + 2 * u ≡ 4 * (q * u) = lessened u q (omega arith) in (
+            λ w. let p = w .passed in let r = w .reached in
+                record { reached = omega arith; passed = omega arith; low-even = λ g. w .low-even (omega arith); high-even = λ g. w .high-even (omega arith) },
+            λ w. let p = w .passed in let r = w .reached in
+                record { reached = omega arith; passed = omega arith; low-even = λ g. w .low-even (omega arith); high-even = λ g. w .high-even (omega arith) },
+          )
 
 -- ---- at 2 ^ 24 steps of u, which are 2 ^ 23 steps of v
 top-marks : (n u v : ℕ) → v ≡ 2 * u → n < 16777216 * u → Nearby n u 16777216 → Marks n v 8388608
@@ -131,7 +113,7 @@ near-one n d D h = go (sides (kept Nearest n d) 16777216)
         (digitsOf (kept Nearest n d) (lost n d))
     go (inl x) =
         rw (lt-ltb (kept Nearest n d) 16777216 x)
-        (record { low = kept-big Nearest n d D h; high = x; marks = marks-of n (d * 2 ^ lost n d) (kept Nearest n d) U lo (kept-big Nearest n d D h) near })
+        (record { low = kept-big Nearest n d D h; high = x; marks = both-ways n (d * 2 ^ lost n d) (kept Nearest n d) U lo (kept-big Nearest n d D h) .0 near })
     go (inr (inl e)) =
         rw (le-ltb (kept Nearest n d) 16777216 (le-of-eq (sym e)))
         (record {
@@ -156,7 +138,7 @@ near-only n d m k D w = go (sides n (8388608 * (d * 2 ^ (k + 1))))
         let p = w .marks .passed in
         let g : (4 * m + 2) * u ≤ 67108862 * u = mul-le-mul-right u (let i = w .high in omega arith) in
         let f : lost n d ≡ k + 1 = lost-is n d (k + 1) D lo (omega arith) in
-        let e : kept Nearest n d ≡ m = ap (λ (x : ℕ). closest n (d * 2 ^ x)) f ∙ closest-only n u U m (nearby-of n u m U lo (w .low) (w .marks)) in
+        let e : kept Nearest n d ≡ m = ap (λ (x : ℕ). closest n (d * 2 ^ x)) f ∙ closest-only n u U m (both-ways n u m U lo (w .low) .1 (w .marks)) in
         subst (λ (x : ℕ). (mantissaOf (kept Nearest n d) ≡ m) × (digitsOf (kept Nearest n d) x ≡ k + 1)) (sym f) (under (kept Nearest n d) e)
 
     top : n < 8388608 * (d * 2 ^ (k + 1)) → (mantissaOf (kept Nearest n d) ≡ m) × (digitsOf (kept Nearest n d) (lost n d) ≡ k + 1)

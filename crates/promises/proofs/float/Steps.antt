@@ -4,39 +4,39 @@
 use mathlib.Core.Path.{_≡_, refl, sym, ap, _∙_, subst, subst₂}
 use mathlib.Core.Logic.{_⊎_, inl, inr, ⊎-elim}
 use mathlib.Core.Bool.{Bool, true, false, not, cond}
-use Prim.Native.Nat.{ℕ, _+_, _-_, _*_, _/_, _%_, _^_, _≤_, _<_}
+use Prim.Native.Nat.{ℕ, _+_, _-_, _*_, _%_, _^_, _≤_, _<_}
 use native.Mathlib.Nat.{le-refl, le-trans, le-of-eq, le-of-lt, lt-of-lt-of-le, lt-of-le-of-lt, eq-zero-or-pos, mul-one, one-mul, zero-mul, mul-zero, mul-pos}
-use native.Mathlib.Nat.{mul-le-mul, mul-le-mul-left, mul-le-mul-right, mul-lt-mul-of-pos-right, le-div-iff-mul-le, mod-lt}
+use native.Mathlib.Nat.{mul-le-mul, mul-le-mul-left, mul-le-mul-right, mul-lt-mul-of-pos-right, mod-lt}
 use native.Mathlib.Omega.{arith}
 use borrow.Author.Tests.{lt-ltb, eq-eqb}
 use lib.Dec.{lit<, lit≤}
 use lib.IntN.{ℤ, pos, negℤ, natAbs, subℕ, _+ℤ_, _-ℤ_}
 use lib.Signed.{_≤ℤ_}
-use lib.Ieee.{size, unlike}
+use lib.Ieee.{unlike}
 use lib.Pow.{pow-add, pow-pos, pow-mono}
 use Rattle.numbers.specs.Signed.{withSign}
 use Rattle.numbers.proofs.Differences.{either, same, above, beneath, parts, le-parts, le-differences, differences-le, less-difference, more-difference}
 use Rattle.numbers.proofs.Differences.{size-difference}
 use Rattle.numbers.proofs.Signs.{sum-signs, opposite, times, size-of-signed}
 use Rattle.float.specs.declared.Flagged.{Flagged}
 use Rattle.float.specs.Word.{negative, biased, exponent, mantissa, size88, value, proper}
 use Rattle.terms.specs.declared.Rule.{Rule}
 use Rattle.terms.specs.declared.Rule.the-variants.{Cut, Nearest}
-use Rattle.float.specs.Cut.{Pair, lost, kept, mantissaOf, digitsOf, packed, stored, below0, cut}
+use Rattle.float.specs.Cut.{lost, kept, mantissaOf, digitsOf, packed, stored, below0, cut}
 use Rattle.float.specs.Float.{exactSum, exactDifference, exactProduct, dividend, divisor, add, sub, mul, div}
-use Rattle.float.specs.Nearest.{PairBy}
-use Rattle.float.specs.Exact.{Steps, CutsBy, ExactlyBy}
-use Rattle.float.proofs.word.Proper.{proper-norm}
-use Rattle.float.proofs.cut.Pair.{size-gt, kept-le, grid-mono, cuts-one, cut-zero}
-use Rattle.float.proofs.cut.OnePair.{from-scale}
-use Rattle.float.proofs.cut.NearPair.{near-one}
-use Rattle.float.proofs.cut.RulePair.{from-near}
+use Rattle.float.proofs.cut.Pair.{kept-le, grid-mono, cuts-one, cut-zero}
+use Rattle.promises.proofs.float.OnePair.{from-scale}
+use Rattle.promises.proofs.float.NearPair.{near-one}
+use Rattle.promises.proofs.float.RulePair.{from-near}
 use Rattle.float.proofs.cut.Signs.{nought}
 use Rattle.float.proofs.cut.Values.{packed-mantissa, packed-biased, packed-sign, error-in, error-over, error-under}
 use Rattle.float.proofs.cut.Values.{digits-near, settled, grid, cut-stored}
 use Rattle.float.proofs.Results.{kept-big, mantissa-big}
-use Rattle.float.proofs.cut.Kept.{fits-exact}
-use Rattle.float.proofs.Order.{size-pos, div-cut}
+use Rattle.promises.proofs.float.Kept.{fits-exact}
+use Rattle.promises.specs.FloatResults.{Pair, PairBy, Steps, CutsBy, ExactlyBy}
+use Rattle.float.proofs.Results.{size-pos, div-cut}
+use Rattle.float.proofs.Results.{size-ge}
+use Rattle.float.proofs.cut.Pair.{lost-least}
 
 -- ---- the exponent e = k - 176, in its three ranges
 stored-exponent : (s : Bool) (m k b : ℕ) → m < 16777216 → (k + 16) % 128 ≡ b → exponent (packed s m k) ≡ subℕ b 64
@@ -63,12 +63,6 @@ steps s m k M K = record {
 }
 
 -- ---- the digits that are lost, between two bounds
-pub lost-least : (n d i : ℕ) → 0 < d → 2 ^ (23 + i) * d ≤ n → i ≤ lost n d
-lost-least n d i D h = count (size (n / d)) (size-gt (n / d) (23 + i) (le-div-iff-mul-le D .1 h))
-  where
-    count : (z : ℕ) → 23 + i < z → i ≤ z - 24
-    count z l = omega arith
-
 -- a magnitude of at most 2 ^ 24 - 1 steps of 2 ^ j is brought to no more, so no more than j digits are lost below m
 pub place-most : (r : Rule) (n d j : ℕ) → 0 < d → 8388608 * d ≤ n → n ≤ 16777215 * 2 ^ j * d → digitsOf (kept r n d) (lost n d) ≤ j
 place-most r n d j D h l =
@@ -155,14 +149,6 @@ unfolding size88
 size-lt w =
     lt-of-lt-of-le (mul-lt-mul-of-pos-right (mod-lt w (lit< {m = 0} {n = 16777216} tt)) (pow-pos (biased w)))
     (le-trans (mul-le-mul-left 16777216 (pow-mono {i = biased w} {j = 127} (omega arith))) (le-refl (2 ^ 151)))
-
-pub size-ge : (w : ℕ) → proper w ≡ true → 0 < size88 w → 2 ^ 23 ≤ size88 w
-unfolding size88
-size-ge w p h = go (proper-norm w p)
-  where
-    go : (mantissa w ≡ 0) ⊎ (8388608 ≤ mantissa w) → 8388608 ≤ mantissa w * 2 ^ biased w
-    go (inl z) = let e : mantissa w * 2 ^ biased w ≡ 0 = ap (λ (x : ℕ). x * 2 ^ biased w) z ∙ zero-mul (2 ^ biased w) in absurd (omega arith)
-    go (inr l) = le-trans l (le-trans (le-of-eq (sym (mul-one (mantissa w)))) (mul-le-mul-left (mantissa w) (pow-pos (biased w))))
 
 -- a word's magnitude is at most 2 ^ 24 - 1 steps of 2 ^ 127
 pub size-most : (w : ℕ) → size88 w ≤ 16777215 * 2 ^ 127

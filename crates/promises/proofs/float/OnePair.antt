@@ -13,8 +13,13 @@ use lib.Ieee.{up, down, size}
 use lib.Ieee.Digits.{size-lt}
 use Rattle.numbers.proofs.Differences.{either, sub-lt, sub-ge, same, above, beneath, parts}
 use Rattle.terms.specs.declared.Rule.the-variants.{Cut}
-use Rattle.float.specs.Cut.{lastPlace, Pair, kept, lost}
+use Rattle.float.specs.Cut.{kept, lost}
 use Rattle.float.proofs.cut.Pair.{PairAt, cuts-only, cuts-one}
+use Rattle.promises.specs.FloatResults.{Pair}
+
+-- the place of m's last digit: a word is m * 2 ^ (e - 24)
+abbrev pub lastPlace : ℤ → ℤ
+lastPlace e = e -ℤ pos 24
 
 -- ---- 2 ^ (k - J), as a fraction
 pub scale : (k J : ℕ) → up (subℕ k J) * 2 ^ J ≡ 2 ^ k * down (subℕ k J)

@@ -15,17 +15,18 @@ use lib.Ieee.{size, nearest}
 use lib.Ieee.Digits.{size-le}
 use Rattle.numbers.specs.Signed.{withSign}
 use Rattle.numbers.proofs.Signs.{size-of-signed}
 use Rattle.float.specs.declared.Flagged.{Flagged}
-use Rattle.float.specs.Word.{negative, biased, mantissa, size88, value, FloatWord}
+use Rattle.float.specs.Word.{negative, biased, mantissa, size88, value}
+use Rattle.promises.specs.FloatWords.{FloatWord}
 use Rattle.terms.specs.declared.Rule.{Rule}
 use Rattle.terms.specs.declared.Rule.the-variants.{Cut, Nearest}
 use Rattle.float.specs.Cut.{whole, lost, packed, stored, below0, cutSize, cut}
 use Rattle.float.proofs.Powers.{parted}
 use Rattle.float.proofs.word.Proper.{proper-cases}
 use Rattle.float.proofs.cut.Pair.{whole-same, lost-is, cut-of, cut-zero}
 use Rattle.float.proofs.cut.Jams.{same-cut, stands-cut}
 use Rattle.float.proofs.cut.Signs.{signed-parts, nought, times-size, cut-sign}
 use Rattle.float.proofs.cut.Values.{grid, error-in}
 
 -- ---- under either rule a whole number stays
 whole-one : (r : Rule) (q : ℕ) → whole r q 1 ≡ q

@@ -7,13 +7,14 @@ use native.Mathlib.Omega.{arith}
 use lib.IntN.{ℤ, pos, subℕ, _-ℤ_}
 use lib.Ieee.{up, down}
 use lib.Pow.{pow-add, pow-pos, pow-mono}
-use Rattle.float.specs.Nearest.{belowMark, Marks, NearPair, apart, NoNearer}
 use Rattle.float.proofs.Powers.{sub-mul}
 use Rattle.numbers.proofs.Differences.{either, above, beneath}
-use Rattle.float.proofs.cut.OnePair.{scaled, other, at-one}
+use Rattle.promises.proofs.float.OnePair.{scaled, other, at-one}
 use Rattle.float.proofs.cut.NearWhole.{sides}
-use Rattle.float.proofs.cut.NearPair.{NearAt, mark-least, mark-more, least-or-more, lessened}
-use Rattle.float.proofs.cut.RulePair.{to-near}
+use Rattle.promises.proofs.float.NearPair.{NearAt, mark-least, mark-more, least-or-more, lessened}
+use Rattle.promises.proofs.float.RulePair.{to-near}
+use Rattle.promises.specs.FloatResults.{belowMark, NearPair, apart, NoNearer}
+use Rattle.promises.proofs.float.NearPair.{Marks}
 
 -- ---- on plain numbers: n lies no further than half of u from a, or a quarter
 beyond : (n a c u : ℕ) → a + u ≤ c → 4 * n ≤ 4 * a + 2 * u → apart n a ≤ apart n c

@@ -10,10 +10,14 @@ use lib.Signed.{_≤ℤ_}
 use lib.Ieee.{up, down}
 use Rattle.numbers.proofs.Differences.{either, above, beneath, parts, le-differences, less-difference}
 use Rattle.terms.specs.declared.Rule.{Rule}
 use Rattle.float.specs.declared.Flagged.{Flagged}
 use Rattle.float.specs.Word.{biased, exponent, mantissa, size88}
-use Rattle.float.specs.Exact.{Steps, CutsBy, IsSize}
-use Rattle.float.proofs.cut.OnePair.{scale}
+use Rattle.promises.proofs.float.OnePair.{scale}
+use Rattle.promises.specs.FloatResults.{Steps, CutsBy}
+
+-- the magnitude x, times 2 ^ 88, is m * 2 ^ (e - 24)
+abbrev pub IsSize : ℕ → ℕ → ℤ → Type 0
+IsSize x m e = x * down (e -ℤ pos 24) ≡ m * (2 ^ 88 * up (e -ℤ pos 24))
 
 -- the magnitude of every word is m * 2 ^ (e - 24)
 pub word-size : (w : ℕ) → IsSize (size88 w) (mantissa w) (exponent w)

@@ -22,28 +22,28 @@ use Rattle.terms.specs.declared.Refusal.the-variants.{NotFinite, TooLarge, TooS
 use Rattle.terms.specs.declared.Rule.{Rule}
 use Rattle.terms.specs.declared.Rule.the-variants.{Cut, Nearest}
 use Rattle.float.specs.declared.Flagged.{Flagged}
-use Rattle.float.specs.Word.{negative, mantissa, exponent, size88, FloatWord}
+use Rattle.float.specs.Word.{negative, mantissa, exponent, size88}
+use Rattle.promises.specs.FloatWords.{FloatWord}
 use Rattle.float.specs.Cut.{below0}
-use Rattle.float.specs.Exact.{CutsBy}
 use Rattle.float.specs.Float.{Result}
-use Rattle.float.specs.Nearest.{PairBy}
 use Rattle.float.proofs.cut.Signs.{cut-sign}
 use Rattle.float.proofs.Results.{cut-result}
-use Rattle.float.proofs.Steps.{exactly}
-use Rattle.float.proofs.Moved.{stored-as-is}
-use Rattle.float.proofs.cut.RulePair.{one-pair-by, a-pair-by}
-use Rattle.host_floats.specs.Values.{HasWord, Endless, IsMinusZero, Small, PairOf, Signed, BroughtTo, LargeBy}
+use Rattle.promises.proofs.float.Steps.{exactly}
+use Rattle.promises.proofs.float.Moved.{stored-as-is}
+use Rattle.promises.proofs.float.RulePair.{one-pair-by, a-pair-by}
+use Rattle.promises.specs.HostFloats.{HasWord, Endless, IsMinusZero, Small, PairOf, Signed, BroughtTo, LargeBy}
 use Rattle.host_floats.specs.Double.{doubleSign, doubleField, doubleFraction, doubleBits, broughtOf, inwardOf}
 use Rattle.host_floats.specs.declared.entry.Inward.{Inward}
 use Rattle.host_floats.specs.declared.entry.Inward.the-variants.{Exact, Rounded, Refused}
-use Rattle.host_floats.proofs.Signs.{parted, same-value}
+use Rattle.promises.proofs.host_floats.Signs.{parted, same-value}
 use Rattle.host_floats.proofs.WordSizes.{proper-cases, size-zero}
-use Rattle.host_floats.proofs.Patterns.{all-ones}
-use Rattle.host_floats.proofs.Classes.{below-ones, zero-right, minus-right, minus-bits, small-right}
+use Rattle.promises.proofs.host_floats.Classes.{all-ones, below-ones, zero-right, minus-right, minus-bits, small-right}
 use Rattle.host_floats.proofs.DoubleOut.{double-value}
 use Rattle.host_floats.proofs.DoubleIn.{doubleSize, overflows}
-use Rattle.host_floats.proofs.Pairs.{pair-same, own-pair, exponent-reaches, Reaches, pair-reaches, reaches-large, word-below}
-use Rattle.host_floats.proofs.Owned.{normal-value, own-cut, own-bits}
+use Rattle.promises.proofs.host_floats.Pairs.{pair-same, own-pair, exponent-reaches, Reaches, pair-reaches, reaches-large, word-below}
+use Rattle.promises.proofs.host_floats.Owned.{normal-value, own-cut, own-bits}
+use Rattle.promises.specs.FloatResults.{CutsBy, PairBy}
+use Rattle.promises.proofs.Measures.{ours-word}
 
 -- ---- the pair of a float from the fraction a / c that it is in size
 pair-of : (r : Rule) (x : Float) (s : Bool) (a c m : ℕ) (e : ℤ) → 0 < c → HasValue x s a c → PairBy r a c m e → PairOf r x m e
@@ -157,9 +157,9 @@ module _ (rule : Rule) (p : ℕ) (lo : 958 ≤ doubleField p) (hi : doubleField 
 
   proper-word : FloatWord (broughtOf rule p .word)
   proper-word =
-      subst Result (sym (cut-sign rule (doubleSign p) (doubleSize p) (2 ^ 1074)))
+      ours-word (subst Result (sym (cut-sign rule (doubleSign p) (doubleSize p) (2 ^ 1074)))
       (cut-result rule (doubleSign p) (doubleSize p * 2 ^ 200) (2 ^ 1074) (pow-pos 1074)
-      (inr (le-trans (lit≤ {m = 8388608 * 2 ^ 1074} {n = 2 ^ 52 * 2 ^ 957 * 2 ^ 200} tt) (mul-le-mul-right (2 ^ 200) least)))) .word
+      (inr (le-trans (lit≤ {m = 8388608 * 2 ^ 1074} {n = 2 ^ 52 * 2 ^ 957 * 2 ^ 200} tt) (mul-le-mul-right (2 ^ 200) least)))) .word)
 
   -- no error: the word is the rule's
   brought-right : broughtOf rule p .error ≡ 0 → BroughtTo rule (ofBits binary64 p) (broughtOf rule p .word)

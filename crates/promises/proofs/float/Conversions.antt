@@ -1,7 +1,7 @@
 -- FLTD and FLTS never set an error, and FLTS is exact; FIXD and FIXS give the whole part toward zero, or overflow exactly where it is too
 -- large. Assumes nothing.
 use mathlib.Core.Path.{_≡_, refl, sym, ap, _∙_, subst}
-use mathlib.Core.Logic.{inl, inr, ⊎-elim}
+use mathlib.Core.Logic.{_⊎_, inl, inr, ⊎-elim}
 use mathlib.Core.Bool.{Bool, true, false, cond}
 use Prim.Native.Nat.{ℕ, zero, suc, _+_, _-_, _*_, _/_, _%_, _^_, _≤_, _<_}
 use native.Mathlib.Nat.{le-refl, le-trans, le-of-eq, lt-of-le-of-lt, mul-one, one-mul, mul-le-mul-right, mod-eq-of-lt, mod-self, div-mul-le-self}
@@ -15,19 +15,24 @@ use lib.Pow.{pow-pos}
 use Rattle.numbers.specs.Signed.{withSign}
 use Rattle.numbers.proofs.Differences.{either}
 use Rattle.numbers.proofs.Signs.{times, size-of-signed}
 use Rattle.float.specs.declared.Flagged.{Flagged}
 use Rattle.float.specs.Word.{negative, size88, value}
 use Rattle.terms.specs.declared.Rule.{Rule}
 use Rattle.terms.specs.declared.Rule.the-variants.{Cut}
 use Rattle.float.specs.Cut.{below0, cutSize, cut}
 use Rattle.float.specs.Convert.{integer, fltd, flts, wholePart, complement, fix}
-use Rattle.float.specs.Exact.{ExactlyBy, Truncated, Fixes}
 use Rattle.float.proofs.Powers.{parted}
 use Rattle.float.proofs.cut.Signs.{signed-parts, alone, times-size, cut-sign}
 use Rattle.float.proofs.cut.Values.{grid, cut-value}
-use Rattle.float.proofs.Steps.{exactly, no-error-within}
-use Rattle.float.proofs.cut.Kept.{fits-exact, own-value}
+use Rattle.promises.proofs.float.Steps.{exactly, no-error-within}
+use Rattle.promises.proofs.float.Kept.{fits-exact, own-value}
 use Rattle.float.proofs.Results.{flts-result}
+use Rattle.promises.specs.FloatResults.{ExactlyBy, Truncated}
+use Rattle.promises.proofs.Measures.{ours-word}
+
+-- what 01 asks of FIXD and FIXS: the whole part where it is below half, A and overflow exactly where it is not
+abbrev pub Fixes : ℕ → ℕ → Flagged → Type 0
+Fixes half a r = ((wholePart a < half) × Truncated half a r) ⊎ ((half ≤ wholePart a) × (r ≡ record { word = a; error = 1 }))
 
 -- ---- FLTD and FLTS
 -- what a number of two's complement stands for, as a sign and a magnitude
@@ -87,7 +92,7 @@ flts-exact a h =
 -- so no rule gives another word
 pub flts-either : (r : Rule) (a : ℕ) → a < 65536 → cut r (integer (2 ^ 15) a) 1 ≡ flts a
 flts-either r a h =
-    own-value r ((flts a) .word) (integer (2 ^ 15) a) 1 (flts-result a .word) (le-refl 1) (once (value ((flts a) .word)) ∙ flts-exact a h)
+    own-value r ((flts a) .word) (integer (2 ^ 15) a) 1 (ours-word (flts-result a .word)) (le-refl 1) (once (value ((flts a) .word)) ∙ flts-exact a h)
     ∙ ap (λ (e : ℕ). record { word = (flts a) .word; error = e }) (sym (flts-no-error a h))
   where
     once : (z : ℤ) → z *ℤ pos 1 ≡ z
@@ -115,6 +120,7 @@ complement-is half (suc n) true h =
     (rw (e, le-leb half (2 * half - suc n) (omega arith)) (ap (λ (x : ℕ). withSign true x) b), subst (λ (x : ℕ). x < 2 * half) (sym e) (omega arith))
 
 pub fix-law : (half a : ℕ) → Fixes half a (fix half a)
+unfolding size88 wholePart
 fix-law half a = ⊎-elim within over (either (wholePart a) half)
   where
     within : wholePart a < half → Fixes half a (fix half a)

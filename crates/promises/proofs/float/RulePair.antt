@@ -9,11 +9,13 @@ use lib.Ieee.{up, down, size}
 use lib.Ieee.Digits.{size-lt}
 use Rattle.terms.specs.declared.Rule.{Rule}
 use Rattle.terms.specs.declared.Rule.the-variants.{Cut, Nearest}
-use Rattle.float.specs.Cut.{lastPlace, kept, lost, mantissaOf, digitsOf}
-use Rattle.float.specs.Nearest.{belowMark, aboveMark, Between, Marks, NearPair, PairBy}
+use Rattle.float.specs.Cut.{kept, lost, mantissaOf, digitsOf}
 use Rattle.numbers.proofs.Differences.{same, above, beneath, parts}
-use Rattle.float.proofs.cut.OnePair.{scaled, other, down-pos, one-pair, a-pair}
-use Rattle.float.proofs.cut.NearPair.{NearAt, near-one, near-only}
+use Rattle.promises.proofs.float.OnePair.{scaled, other, down-pos, one-pair, a-pair}
+use Rattle.promises.proofs.float.NearPair.{NearAt, near-one, near-only}
+use Rattle.promises.specs.FloatResults.{belowMark, aboveMark, Between, NearPair, PairBy}
+use Rattle.promises.proofs.float.OnePair.{lastPlace}
+use Rattle.promises.proofs.float.NearPair.{Marks}
 
 -- ---- all three by one factor
 between-up : (n lo hi m c : ℕ) → 0 < c → Between n lo hi m → Between (n * c) (lo * c) (hi * c) m

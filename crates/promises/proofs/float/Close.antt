@@ -8,25 +8,26 @@ use native.Mathlib.Nat.{le-refl, le-trans, le-of-eq, le-of-lt, lt-of-lt-of-le, n
 use native.Mathlib.Nat.{mul-one, zero-mul, mul-pos, mul-le-mul, mul-lt-mul-of-pos-right, le-of-mul-le-mul-right, mod-lt}
 use native.Mathlib.Omega.{arith}
 use lib.Dec.{lit<, lit≤}
-use lib.IntN.{ℤ, pos, _+ℤ_, +ℤ-comm}
+use lib.IntN.{ℤ, _+ℤ_, +ℤ-comm}
 use lib.Ieee.{unlike}
 use lib.Pow.{pow-add, pow-pos, pow-mono}
 use Rattle.float.specs.declared.Flagged.{Flagged}
-use Rattle.float.specs.Word.{negative, biased, mantissa, size88, value, FloatWord}
+use Rattle.float.specs.Word.{negative, biased, mantissa, size88, value}
+use Rattle.promises.specs.FloatWords.{FloatWord}
 use Rattle.terms.specs.declared.Rule.{Rule}
 use Rattle.float.specs.Cut.{lost, kept, mantissaOf, digitsOf, packed, zeroWord, cutSize, cut}
 use Rattle.float.specs.Float.{exactDifference, sub}
-use Rattle.float.specs.Close.{Close, Lossless}
 use Rattle.float.proofs.Powers.{parted, sub-mul}
 use Rattle.float.proofs.cut.Pair.{kept-le, cut-zero}
 use Rattle.numbers.specs.Signed.{withSign}
 use Rattle.numbers.proofs.Differences.{either}
 use Rattle.numbers.proofs.Signs.{zero-signed, opposite, sum-unlike, times}
 use Rattle.float.proofs.word.Proper.{proper-cases}
 use Rattle.float.proofs.cut.Signs.{alone, cut-scaled}
 use Rattle.float.proofs.cut.Values.{packed-mantissa, packed-biased, packed-sign, size-kept, error-in, error-under, settled, cut-stored}
-use Rattle.float.proofs.cut.Kept.{fits-exact}
-use Rattle.float.proofs.Steps.{place-most}
+use Rattle.promises.proofs.float.Kept.{fits-exact}
+use Rattle.promises.proofs.float.Steps.{place-most}
+use Rattle.promises.specs.FloatResults.{Close, Lossless}
 
 -- ---- fewer than 2 ^ 24 steps of 2 ^ k fine units are kept whole: the word has them, or with underflow 2 ^ 128 times as many
 abbrev Whole : Bool → ℕ → Flagged → Type 0
@@ -65,10 +66,6 @@ kept-whole r s j k P J lo hi =
     less : j < 16777216 → j ≤ 16777215
     less h = omega arith
 
-zero-value : value 0 ≡ pos 0
-unfolding value size88
-zero-value = refl
-
 of-size : (x : Flagged) (s : Bool) (z : ℕ) → negative (x .word) ≡ s → size88 (x .word) ≡ z → value (x .word) ≡ withSign s z
 unfolding value
 of-size x s z a b = ap₂ withSign a b
@@ -76,6 +73,7 @@ of-size x s z a b = ap₂ withSign a b
 -- ---- a whole number d of units of 2 ^ -88 that is fewer than 2 ^ 24 steps of 2 ^ e
 module _ (s : Bool) (d : ℕ) where
   from-whole : (x : Flagged) (n : ℕ) → d * 2 ^ 112 ≡ n → Whole s n x → Lossless (withSign s d) x
+  unfolding value
   from-whole x n same (t, inl v) = record {
     exact = λ h. of-size x s d t (eq-of-mul-eq-mul-right (2 ^ 112) (pow-pos 112) _ _ (v .1 ∙ sym same));
     under = λ h. let y = v .0 in absurd (omega arith);
@@ -101,7 +99,7 @@ module _ (s : Bool) (d : ℕ) where
           let dz : d ≡ 0 = p ∙ ap (λ (x : ℕ). x * 2 ^ e) z ∙ zero-mul (2 ^ e) in
           let c : cut r (withSign s d) (2 ^ 88) ≡ zeroWord = scaled ∙ cut-zero r s (d * 2 ^ 112) 1 (ap (λ (x : ℕ). x * 2 ^ 112) dz ∙ zero-mul (2 ^ 112)) in
           subst (λ (x : Flagged). Lossless (withSign s d) x) (sym c)
-          (record { exact = λ h. zero-value ∙ sym (ap (withSign s) dz ∙ zero-signed s); under = λ h. absurd (omega arith); no-other = inl refl })
+          (record { exact = λ h. sym (ap (withSign s) dz ∙ zero-signed s); under = λ h. absurd (omega arith); no-other = inl refl })
       go (inr g) =
           let n = j * 2 ^ (e + 112) in
           let same : d * 2 ^ 112 ≡ n = ap (λ (x : ℕ). x * 2 ^ 112) p ∙ sym (parted j (e + 112) e 112 refl) in
@@ -149,9 +147,11 @@ module _ (b a : ℕ) (c : Close b a) where
   digits w W n = ⊎-elim (λ (z : w ≡ 0). absurd (n z)) (λ (l : 8388608 ≤ mantissa w). l) (proper-cases w (W .is-proper))
 
   steps-above : FloatWord b → FloatWord a → size88 a ≤ size88 b → (j : ℕ) × (size88 b - size88 a ≡ j * 2 ^ biased a) × (j < 16777216)
+  unfolding size88
   steps-above B A h = steps-of b a (digits b B (c .some-b)) (digits a A (c .some-a)) h (c .b-within)
 
   steps-below : FloatWord b → FloatWord a → size88 b < size88 a → (j : ℕ) × (size88 a - size88 b ≡ j * 2 ^ biased b) × (j < 16777216)
+  unfolding size88
   steps-below B A h = steps-of a b (digits a A (c .some-a)) (digits b B (c .some-b)) (le-of-lt h) (c .a-within)
 
 -- FSUB of them

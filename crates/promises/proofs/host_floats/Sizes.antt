@@ -10,8 +10,8 @@ use lib.Ieee.Exact.{HasValue}
 use lib.Ieee.Positive.{first-pos}
 use lib.Ieee.Fits.{down-pos, up-pos}
 use Rattle.float.specs.Word.{negative, size88}
-use Rattle.host_floats.specs.Values.{Same, IsMinusZero, Large, Small}
-use Rattle.host_floats.proofs.Signs.{united}
+use Rattle.promises.specs.HostFloats.{Same, IsMinusZero, Large, Small}
+use Rattle.promises.proofs.host_floats.Signs.{united}
 
 pub same-of : (x : Float) (s : Bool) (a c w : ℕ) → 0 < c → HasValue x s a c → a * 2 ^ 88 ≡ size88 w * c → (s ≡ negative w) ⊎ (size88 w ≡ 0) → Same x w
 same-of nan s a c w p h e t = absurd h

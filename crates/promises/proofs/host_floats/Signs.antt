@@ -13,7 +13,7 @@ use lib.Ieee.Fits.{down-pos}
 use Rattle.numbers.specs.Signed.{withSign}
 use Rattle.numbers.proofs.Signs.{zero-signed}
 use Rattle.float.specs.Word.{negative, size88}
-use Rattle.host_floats.specs.Values.{Same}
+use Rattle.promises.specs.HostFloats.{Same}
 
 pos-same : {a b : ℕ} → pos a ≡ pos b → a ≡ b
 pos-same e = (cc)
@@ -37,11 +37,13 @@ module _ (s : Bool) (m : ℕ) (e : ℤ) (w : ℕ) where
   no-size z = ⊎-elim (λ h. h) (λ (h : 0 < size88 w). let p = mul-pos h (down-pos e) in absurd (omega arith)) (eq-zero-or-pos (size88 w))
 
   pub parted : Same (fin s m e) w → (m * up e * 2 ^ 88 ≡ size88 w * down e) × ((s ≡ negative w) ⊎ (size88 w ≡ 0))
+  unfolding size88
   parted h =
       let p = signed s (negative w) (m * up e * 2 ^ 88) (size88 w * down e) h in
       (p .0, ⊎-elim (λ q. inl q) (λ z. inr (no-size z)) (p .1))
 
   pub united : m * up e * 2 ^ 88 ≡ size88 w * down e → (s ≡ negative w) ⊎ (size88 w ≡ 0) → Same (fin s m e) w
+  unfolding size88
   united p q =
       of-signed s (negative w) (m * up e * 2 ^ 88) (size88 w * down e) p
       (⊎-elim (λ h. inl h) (λ z. inr (ap (λ (n : ℕ). n * down e) z ∙ zero-mul (down e))) q)

@@ -10,19 +10,20 @@ use lib.Ieee.{Float, binary32, ofBits, toBits}
 use lib.Ieee.Bits.{ofBits-fits, ofBits-toBits, toBits-lt}
 use lib.Ieee.Exact.{HasValue}
 use Rattle.terms.specs.declared.Refusal.the-variants.{NotFinite, TooLarge, TooSmall, MinusZero}
-use Rattle.float.specs.Word.{negative, mantissa, proper, size88, FloatWord}
+use Rattle.float.specs.Word.{negative, mantissa, proper, size88}
+use Rattle.promises.specs.FloatWords.{FloatWord}
 use Rattle.host_floats.specs.Host.{exponentField, minusZero, hostBits, wordOf, takenOf}
-use Rattle.host_floats.specs.Values.{Same, HasWord, Endless, IsMinusZero, Large, Small}
+use Rattle.promises.specs.HostFloats.{Same, HasWord, Endless, IsMinusZero, Large, Small}
 use Rattle.host_floats.specs.declared.Taken.{Taken}
 use Rattle.host_floats.specs.declared.Taken.the-variants.{Word, Refused}
-use Rattle.host_floats.proofs.Signs.{same-value}
+use Rattle.promises.proofs.host_floats.Signs.{same-value}
 use Rattle.host_floats.proofs.Patterns.{joined, rejoined}
-use Rattle.host_floats.proofs.Sizes.{of-minus}
+use Rattle.promises.proofs.host_floats.Sizes.{of-minus}
 use Rattle.host_floats.proofs.WordSizes.{proper-cases, size-some}
 use Rattle.host_floats.proofs.Outward.{bits-some, word-value}
-use Rattle.host_floats.proofs.Apart.{one-word, held-endless, held-large, held-small, endless-large, endless-small, large-small, endless-minus}
-use Rattle.host_floats.proofs.Apart.{minus-large, minus-small}
-use Rattle.host_floats.proofs.Inward.{parts, Right, held, endless, minus, large, small, right}
+use Rattle.promises.proofs.host_floats.Apart.{one-word, held-endless, held-large, held-small, endless-large, endless-small, large-small, endless-minus}
+use Rattle.promises.proofs.host_floats.Apart.{minus-large, minus-small}
+use Rattle.promises.proofs.host_floats.Inward.{parts, Right, held, endless, minus, large, small, right}
 
 -- ---- each answer, given the value
 module _ (x : Float) (r : Taken) where
