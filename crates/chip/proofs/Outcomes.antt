@@ -16,8 +16,7 @@ use Rattle.float.specs.Word.{proper}
 use Rattle.terms.specs.declared.Rule.{Rule}
 use Rattle.float.specs.Convert.{flts, fltd, fixs, fixd, chsf}
 use Rattle.float.specs.Root.{sqrt}
-use Rattle.float.proofs.Results.{fltd-result, flts-result}
-use Rattle.float.proofs.root.RootExact.{root-result}
+use Rattle.float.proofs.Results.{fltd-result, flts-result, root-result}
 use Rattle.stack.specs.Stack.{IsStack, tos, nos, rotated, overA, overZero, replaced, copied, exchanged, pushedWord, converted, widened}
 use Rattle.stack.specs.Stack.{narrowed}
 use Rattle.stack.proofs.Words.{tos-lt, nos-lt}

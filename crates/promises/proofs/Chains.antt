@@ -13,12 +13,11 @@ use Rattle.terms.specs.declared.Width.the-variants.{Double}
 use Rattle.terms.specs.declared.Rule.{Rule}
 use Rattle.terms.specs.Settings.{Settings}
 use Rattle.float.specs.Word.{value, FloatWord}
-use Rattle.float.specs.Order.{Le, LeBy}
 use Rattle.float.specs.Float.{Result, add, sub, mul, div}
 use Rattle.float.specs.Convert.{chsf}
 use Rattle.float.proofs.Results.{add-result, sub-result, mul-result, div-result}
-use Rattle.float.proofs.Order.{add-keeps, sub-keeps, sub-turns, mul-order, div-order}
-use Rattle.float.proofs.convert.SignChange.{chsf-word, chsf-turns}
+use Rattle.promises.proofs.float.Order.{Le, LeBy, add-keeps, sub-keeps, sub-turns, mul-order, div-order}
+use Rattle.promises.proofs.float.SignChange.{chsf-word, chsf-turns}
 use Rattle.stack.specs.Stack.{tos, bytesOf}
 use Rattle.stack.proofs.Words.{number-bytes}
 use Rattle.codes.specs.declared.FloatOp.the-variants.{Add as FAdd, Sub as FSub, Mul as FMul, Div as FDiv}
@@ -31,7 +30,7 @@ use Rattle.chip.specs.State.{State}
 use Rattle.chip.specs.Event.{Event}
 use Rattle.chip.specs.Status.{statusOf}
 use Rattle.chip.specs.Commands.{floats}
-use Rattle.chip.specs.Step.{pushOf, carried, commandUnder, under}
+use Rattle.chip.specs.Step.{pushOf, carried, commandUnder}
 use Rattle.promises.specs.BusEvents.{afterEvents, answered, quiet, pushesOf}
 use Rattle.chip.proofs.Outcomes.{status-lt}
 use Rattle.promises.proofs.OnTop.{idle, floated, exchanged-words, sign-changed}

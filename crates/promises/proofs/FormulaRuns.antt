@@ -10,7 +10,7 @@ use Rattle.terms.specs.declared.Rule.{Rule}
 use Rattle.terms.specs.Settings.{Settings}
 use Rattle.float.specs.Word.{FloatWord}
 use Rattle.float.proofs.Results.{add-result, sub-result, mul-result, div-result}
-use Rattle.float.proofs.convert.SignChange.{chsf-word}
+use Rattle.promises.proofs.float.SignChange.{chsf-word}
 use Rattle.stack.specs.Stack.{bytesOf}
 use Rattle.stack.proofs.Words.{length-bytes}
 use Rattle.codes.specs.declared.FloatOp.the-variants.{Add, Sub, Mul, Div}

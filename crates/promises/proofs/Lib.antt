@@ -1,4 +1,6 @@
 -- The statements' proofs, each file under its spec's name.
+pub mod float
+pub mod host_floats
 pub mod Measures
 pub mod Remembered
 pub mod OnTop
@@ -42,6 +44,7 @@ pub mod NearBench
 pub mod Undo
 pub mod CloseReadings
 pub mod StepsAsked
+pub mod SerialSteps
 pub mod Serial
 pub mod Doubles
 pub mod DoubleBench
