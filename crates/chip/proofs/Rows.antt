@@ -35,7 +35,8 @@ use Rattle.codes.specs.Command.{Flt, Fix, Sqrt, fixedIn, moveIn}
 use Rattle.chip.specs.declared.commands.Obeyed.{Obeyed}
 use Rattle.chip.specs.State.{CommandOutcome, left}
 use Rattle.chip.specs.Status.{sign, statusOf}
-use Rattle.chip.specs.Commands.{wordA, wordB, halfOf, ends, moves, keepsA, losesA, changesA, floats, converts, widens, narrows, roots, floatOf, outcomeOf, properOperands}
+use Rattle.chip.specs.Commands.{wordA, wordB, halfOf, ends, moves, keepsA, losesA, changesA, floats, converts}
+use Rattle.chip.specs.Commands.{widens, narrows, roots, floatOf, outcomeOf, properOperands}
 use Rattle.chip.specs.Held.{resultOf, fixedOf, Settles, SettlesEither}
 use Rattle.chip.proofs.Errors.{float-result, fix-error}
 
@@ -238,7 +239,8 @@ pub moved : (op : MoveOp) (w : Width) (s : Stack) (o : Obeyed) {k : MoveOp} {t :
 moved op w s o ek et h =
     subst (λ (x : MoveOp). SettlesEither (moveIn x w) s o) (sym ek) (λ rule. (row rule op .0, (h .0 ∙ ap (moves w) et ∙ row rule op .1, h .1)))
   where
-    row : (rule : Rule) (k : MoveOp) → (properOperands (moveIn k w) (bytesIn s) ≡ true) × (moves w (movedOf k (sizeOf w) (bytesIn s)) ≡ outcomeOf rule (moveIn k w) (bytesIn s))
+    row : (rule : Rule) (k : MoveOp) → (properOperands (moveIn k w) (bytesIn s) ≡ true)
+        × (moves w (movedOf k (sizeOf w) (bytesIn s)) ≡ outcomeOf rule (moveIn k w) (bytesIn s))
     row rule PtoOp = (refl, refl)
     row rule PopOp = (refl, refl)
     row rule XchOp = (refl, refl)

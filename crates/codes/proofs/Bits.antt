@@ -42,7 +42,8 @@ agree f g a (suc b) e n l h =
 abbrev fixedKind : Width → ℕ → Kind
 fixedKind w n = decoded (fixedCode w n)
 
-pub operation-is : (f : Width → Command) (w : Width) (n m : ℕ) → Known (f Single) ≡ decoded (fixedCode Single m) → Known (f Double) ≡ decoded (fixedCode Double m)
+pub operation-is : (f : Width → Command) (w : Width) (n m : ℕ) → Known (f Single) ≡ decoded (fixedCode Single m)
+    → Known (f Double) ≡ decoded (fixedCode Double m)
     → n ≡ m → Known (f w) ≡ decoded (fixedCode w n)
 operation-is f Single n m s d e = s ∙ ap (fixedKind Single) (sym e)
 operation-is f Double n m s d e = d ∙ ap (fixedKind Double) (sym e)

@@ -34,7 +34,8 @@ use Rattle.chip.specs.Step.{pushOf, carried, commandUnder}
 use Rattle.promises.specs.BusEvents.{afterEvents, answered, quiet, pushesOf}
 use Rattle.chip.proofs.Outcomes.{status-lt}
 use Rattle.promises.proofs.OnTop.{idle, floated, exchanged-words, sign-changed}
-use Rattle.promises.proofs.Events.{after-append, answered-append, quiet-append, at-rest-lt, tops-idle, underWord, does-then, does-pushes, does-command, does-float}
+use Rattle.promises.proofs.Events.{after-append, answered-append, quiet-append, at-rest-lt, tops-idle, underWord}
+use Rattle.promises.proofs.Events.{does-then, does-pushes, does-command, does-float}
 use Rattle.promises.proofs.Events.{Tops, Does, pushes-do}
 use Rattle.promises.specs.FloatWords.{FloatWord as Proper}
 use Rattle.promises.proofs.Measures.{theirs-word, ours-word, theirs-le, ours-le}

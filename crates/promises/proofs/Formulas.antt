@@ -56,7 +56,8 @@ theirs-takes {text} {letters} {room} {f} T = record {
 }
 
 -- ---- the refusals
-is-refused : (text letters file : List ℕ) (n : ℕ) → Refuses text letters (length file) n → formulaCall text letters file ≡ record { result = 65536 * n; file = file }
+is-refused : (text letters file : List ℕ) (n : ℕ) → Refuses text letters (length file) n
+    → formulaCall text letters file ≡ record { result = 65536 * n; file = file }
 is-refused text letters file n (no-formula h) =
     ⊎-elim (λ x. absurd (h (leaf (x .0)) (ours-stated (x .1)))) (λ z. crate.written-so text letters file (z .says-30 (length file))) (crate.looked text letters)
 is-refused text letters file n (improper f S p) =
@@ -80,7 +81,8 @@ is-translated text letters file f T =
 
 either-way : (text letters file : List ℕ) → ((n : ℕ) × Refuses text letters (length file) n) ⊎ ((f : Formula) × Takes text letters (length file) f)
 either-way text letters file =
-    ⊎-elim (λ x. by (leaf (x .0)) (ours-stated (x .1))) (λ z. inl (30, no-formula (λ f S. z .not-stated (tree f) (theirs-stated S)))) (crate.looked text letters)
+    ⊎-elim (λ x. by (leaf (x .0)) (ours-stated (x .1))) (λ z. inl (30, no-formula (λ f S. z .not-stated (tree f) (theirs-stated S))))
+    (crate.looked text letters)
   where
     by : (f : Formula) → Stated text letters f → ((n : ℕ) × Refuses text letters (length file) n) ⊎ ((f : Formula) × Takes text letters (length file) f)
     by f S = go (book.properIn letters f) refl (ltb 4 (needOf f)) refl (ltb (length file) (length (book.fileOf letters f))) refl

@@ -252,10 +252,12 @@ module _ (g : Given) (C : Chosen g) where
     bad-kind = λ state kind byte i h. chosen state kind byte (bad-kind set state kind byte (theirs-state i) h);
     byte-ignored = λ state kind byte other a b. byte-ignored g state kind byte other a b;
     push-call = λ b l p u v t P.
-        chosen (laid l p u v t) 1 b (signals l p u v t P set 1 b 0 _ (behindIs t) (ap (cardAnswer set (behindIs t)) (pushes l p u v t P b)) (tail-back l p u v t P))
+        chosen (laid l p u v t) 1 b (signals l p u v t P set 1 b 0 _ (behindIs t)
+        (ap (cardAnswer set (behindIs t)) (pushes l p u v t P b)) (tail-back l p u v t P))
         ∙ ap (signalled 0) (turned l p u v t P (b ∷ take 15 l));
     pop-call = λ b byte l p u v t P.
-        chosen (laid (b ∷ l) p u v t) 2 byte (signals (b ∷ l) p u v t P set 2 byte b _ (behindIs t) (ap (cardAnswer set (behindIs t)) (pops b l p u v (P .ready)))
+        chosen (laid (b ∷ l) p u v t) 2 byte (signals (b ∷ l) p u v t P set 2 byte b _ (behindIs t)
+        (ap (cardAnswer set (behindIs t)) (pops b l p u v (P .ready)))
         (tail-back (b ∷ l) p u v t P)) ∙ ap (signalled b) (turned (b ∷ l) p u v t P (l ++ (b ∷ [])));
     status-call = λ byte l p u v t P.
         chosen (laid l p u v t) 4 byte (signals l p u v t P set 4 byte u _ (behindIs t) (ap (cardAnswer set (behindIs t)) (statuses l p u v t P))

@@ -1,5 +1,5 @@
--- A single event on a good state: refused or settled, with what is remembered as it was or written behind the chip's bytes; the memory read and cleared; what the
--- door says of it. Assumes nothing.
+-- A single event on a good state: refused or settled, with what is remembered as it was or written behind the chip's bytes; the memory
+-- read and cleared; what the door says of it. Assumes nothing.
 use mathlib.Core.Path.{_≡_, refl, sym, ap, subst, _∙_}
 use mathlib.Core.Bool.{Bool, true, false, cond}
 use mathlib.Core.List.{List, _++_}

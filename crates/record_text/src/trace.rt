@@ -61,8 +61,8 @@ fn add_lines(out: &mut [u8], mode: u32, rule: u32, input: &[u8]) -> usize
     place
 }
 
-// The trace of an input for a call of so many words, the program's own name among them, with the first two behind it, at
-// the front of the lent text: the answer says how many bytes.
+// The trace of an input for a call of so many words, the program's own name among them, with the first two behind it,
+// at the front of the lent text: the answer says how many bytes.
 pub fn trace(
     words: usize,
     first: &[u8],

@@ -1,11 +1,9 @@
 // The program behind ./records: `records RULE text` reads lines of text from standard input and writes the records that
-// they say; `records RULE read` reads a record file and writes a line for each record; `records trace` reads one and writes
-// the state after each record, from reset, with `--am9511` and `--nearest` as the listing program has them. The last line is `end`; or
-// `wrong`, the number of the line, the place in it and the number of the fault; or `stopped`, the bytes before the
-// record that has no words and the refusal. What stands before a last line that is not `end` is no answer.
-use decimals::ends::line_end;
-use decimals::ends::trimmed;
-use decimals::read::rule_named;
+// they say; `records RULE read` reads a record file and writes a line for each record; `records trace` reads one and
+// writes the state after each record, from reset, with `--am9511` and `--nearest` as the listing program has them.
+// The last line is `end`; or `wrong`, the number of the line, the place in it and the number of the fault; or
+// `stopped`, the bytes before the record that has no words and the refusal. What stands before a last line that is not
+// `end` is no answer.
 use libc::STDIN_FILENO;
 use libc::STDOUT_FILENO;
 use numbers::two;

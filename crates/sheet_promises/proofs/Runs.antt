@@ -84,7 +84,8 @@ pub line-sheets : (h : Held) (l : List ℕ) (room : ℕ) → 0 < length l → le
 line-sheets h l room p g =
     either-eq (λ (x : ℕ). ledger.isSheets (sheetStep h l room .state .sheets) ≡ true) (sheetStep h l room .refusal) 0 0 0
     (λ z.
-    subst (λ (o : Outcome Held). ledger.isSheets (o .state .sheets) ≡ true) (alone lawful h l room p z) (run-sheets h (take (sheetStep h l room .taken) l) room g))
+    subst (λ (o : Outcome Held). ledger.isSheets (o .state .sheets) ≡ true) (alone lawful h l room p z)
+    (run-sheets h (take (sheetStep h l room .taken) l) room g))
     (λ z. subst (λ (t : Outcome Held). ledger.isSheets (t .state .sheets) ≡ true) (sym (lawful .stops h l room z .1)) g)
 
 -- ---- the run

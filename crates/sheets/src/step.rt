@@ -115,7 +115,8 @@ pub fn pass_line(
     requires { ⌜ (card .chip .status < 128) × (length (now sheets) ≡ sheetsBytes) × Begins place (length (now rest)) ×
         Stands place (length (now room)) ⌝ }
     ensures { λ r. ⌜ Passed (beside (given mode rule) (now (sheets .exit)))
-        (sheetStep (beside (given mode rule) (now (sheets .entry)) card) (now (rest .entry)) (length (now (room .entry))))
+        (sheetStep (beside (given mode rule) (now (sheets .entry)) card) (now (rest .entry))
+        (length (now (room .entry))))
         (record { place = place; card = card; room = now (room .entry); pass = r; left = now (room .exit) }) ⌝ }
 {
     if is_own(rest, place) {

@@ -71,7 +71,8 @@ add-listing-requires-2 c κs =
 returns-2 : tie.Need-returns-2
 returns-2 c =
     let at-run = c .before .before .before .before .before .before .before in
-    told-as (of-run (under at-run) (file at-run) (work at-run) (ran at-run) (refl, refl) (at-run .before .before .before .if1 .left)) (c .add-listing2 .ensures .0)
+    told-as (of-run (under at-run) (file at-run) (work at-run) (ran at-run) (refl, refl) (at-run .before .before .before .if1 .left))
+    (c .add-listing2 .ensures .0)
 
 pub list-spec : {M : Type 1} → statement M
 list-spec =

@@ -128,5 +128,6 @@ sheets-run-spec =
     (λ c. search needs) (λ c. search needs) returns-2 (λ c κs. search needs) (λ c κs. search needs) (λ c κs. search needs) (λ c. search needs)
     (λ c. search needs) (λ c. search needs) returns-3 (λ c κs. search needs) (λ c κs. search needs) (λ c. search needs) (λ c. search needs)
     (λ c. search needs) returns-4 (λ c κs. search needs) (λ c κs. search needs) run-good-requires (λ c. search needs) (λ c. search needs)
-    (λ c. search needs) (λ c. search needs) returns-5 (λ c κs. may-run (c .before .before .before .before .before)) (λ c. search needs) (λ c. search needs) (λ c. search needs)
+    (λ c. search needs) (λ c. search needs) returns-5 (λ c κs. may-run (c .before .before .before .before .before))
+    (λ c. search needs) (λ c. search needs) (λ c. search needs)
     (λ c. search needs) returns-6)

@@ -30,8 +30,8 @@ returns-2 c =
 returns-3 : tie.Need-returns-3
 returns-3 c =
     let at-words = c .before .before .before .before .before in
-    for-call traceOf (now (at-words .before .before .before .before .args .input)) (at-words .asked-of .ensures) (c .before .before .before .enum-told .given .1)
-    refl (c .add3 .ensures)
+    for-call traceOf (now (at-words .before .before .before .before .args .input)) (at-words .asked-of .ensures)
+    (c .before .before .before .enum-told .given .1) refl (c .add3 .ensures)
 
 pub trace-spec : {M : Type 1} → statement M
 trace-spec =
