@@ -4,6 +4,9 @@
 // The last line is `end`; or `wrong`, the number of the line, the place in it and the number of the fault; or
 // `stopped`, the bytes before the record that has no words and the refusal. What stands before a last line that is not
 // `end` is no answer.
+use decimals::ends::line_end;
+use decimals::ends::trimmed;
+use decimals::read::rule_named;
 use libc::STDIN_FILENO;
 use libc::STDOUT_FILENO;
 use numbers::two;
