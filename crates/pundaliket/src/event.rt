@@ -1,13 +1,8 @@
 // A single event on the bytes of a good state: the chip's answer settled, what is remembered written behind it.
-use chip::Answer;
-use error_memory::empty;
 use state_bytes::chip_in;
 use state_bytes::memory_in;
-use state_bytes::put_chip;
 use state_bytes::put_memory;
 use terms::EventKind;
-use terms::Mode;
-use terms::Refusal;
 use terms::Rule;
 use terms::number;
 ghost use mathlib.Core.Path.{_≡_};
@@ -29,7 +24,7 @@ pub fn joined(refusal: u8, byte: u8) -> u32
 }
 
 // What an event of the chip answered, the memory as it stands; the state is written on 0 alone.
-fn keep(a: Answer, state: &mut [u8]) -> u32
+fn keep(a: chip::Answer, state: &mut [u8]) -> u32
     requires { ⌜ Sized (now state) ⌝ }
     ensures { λ r. ⌜ Settles (now (state .entry)) a (memoryIn (now (state .entry))) r (now (state .exit)) ⌝ }
 {
@@ -39,12 +34,12 @@ fn keep(a: Answer, state: &mut [u8]) -> u32
         return joined(refusal, a.byte);
     }
     let chip = a.state;
-    put_chip(state, chip);
+    state_bytes::put_chip(state, chip);
     joined(refusal, a.byte)
 }
 
 // What a command leaves remembered.
-fn keep_errors(a: Answer, code: u8, state: &mut [u8])
+fn keep_errors(a: chip::Answer, code: u8, state: &mut [u8])
     requires { ⌜ Sized (now state) ⌝ }
     ensures { λ _. ⌜ now (state .exit) ≡ withMemory (now (state .entry))
         (keptAfter (memoryIn (now (state .entry))) (CommandEvent code) (answerIn a)) ⌝ }
@@ -57,7 +52,7 @@ fn keep_errors(a: Answer, code: u8, state: &mut [u8])
 }
 
 // One event of a kind on a good state; the byte is the one pushed or the code, else ignored.
-pub fn event_on(mode: Mode, rule: Rule, state: &mut [u8], kind: EventKind, byte: u8) -> u32
+pub fn event_on(mode: terms::Mode, rule: Rule, state: &mut [u8], kind: EventKind, byte: u8) -> u32
     requires { ⌜ isState (now state) ≡ true ⌝ }
     ensures { λ r. ⌜ Signals (signalBy (now (state .entry))
         (answeredBy (cardIn (given mode rule) (now (state .entry))) byte kind)) r (now (state .exit)) ⌝ }
@@ -72,15 +67,15 @@ pub fn event_on(mode: Mode, rule: Rule, state: &mut [u8], kind: EventKind, byte:
         }
         EventKind::Status => keep(chip_in(state).read(), state),
         EventKind::Reset => {
-            put_memory(state, empty());
+            put_memory(state, error_memory::empty());
             keep(chip_in(state).reset(mode), state)
         }
         EventKind::Acknowledge => keep(chip_in(state).acknowledge(), state),
         EventKind::Recall => joined(0, memory_in(state).bits),
         EventKind::Forget => {
-            put_memory(state, empty());
+            put_memory(state, error_memory::empty());
             joined(0, 0)
         }
-        EventKind::Unknown => joined(number(Refusal::NoSuchKind), 0),
+        EventKind::Unknown => joined(number(terms::Refusal::NoSuchKind), 0),
     }
 }

@@ -2,8 +2,6 @@
 // asks nothing of its caller, and says what each slice holds after. Each is thin over the function that does its work.
 pub mod event;
 
-use crate::event::event_on;
-use crate::event::joined;
 use terms::kind_of;
 use terms::mode_of;
 use terms::number;
@@ -43,9 +41,9 @@ pub extern "C" fn pundaliket_event(
 {
     let refusal = number(state_bytes::admit(mode, rule, state));
     if refusal != 0 {
-        return joined(refusal, 0);
+        return crate::event::joined(refusal, 0);
     }
-    event_on(mode_of(mode), rule_of(rule), state, kind_of(kind), byte)
+    crate::event::event_on(mode_of(mode), rule_of(rule), state, kind_of(kind), byte)
 }
 
 // The reply of a conversion, its 32 bits to `out` on 0 alone; a slice that is not four bytes first.

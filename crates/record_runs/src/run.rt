@@ -1,9 +1,7 @@
 // The run of a file: every record in turn, by the record step, with the card in locals of the loop.
 use crate::step::Pass;
 use crate::step::Place;
-use chip::State;
 use error_memory::Card;
-use terms::Mode;
 use terms::Rule;
 ghost use mathlib.Core.Path.{_≡_};
 ghost use Prim.Native.Nat.{_≤_, _<_};
@@ -42,7 +40,7 @@ pub fn begin(size: usize, room: usize) -> Place
 
 // Every record of `input` in turn, until one is refused or none is left. The state is laid down part by part: a copy of
 // the whole would carry the bytes between its parts through memory, at each record.
-pub fn run_all(start: Card, mode: Mode, rule: Rule, input: &[u8], replies: &mut [u8]) -> Pass
+pub fn run_all(start: Card, mode: terms::Mode, rule: Rule, input: &[u8], replies: &mut [u8]) -> Pass
     requires { ⌜ (start .chip .status < 128) × (length (now input) ≤ mostInput) ⌝ }
     ensures { λ r. ⌜ Passed (cardUnder (given mode rule))
         (runOf (cardUnder (given mode rule) start) (now (input .entry)) (length (now (replies .entry))))
@@ -66,7 +64,7 @@ pub fn run_all(start: Card, mode: Mode, rule: Rule, input: &[u8], replies: &mut 
         let stack = t.card.chip.stack;
         let memory = t.card.memory;
         card = Card {
-            chip: State {
+            chip: chip::State {
                 stack,
                 pending: t.card.chip.pending,
                 status: t.card.chip.status,

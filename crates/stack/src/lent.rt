@@ -1,8 +1,5 @@
 // Bytes that a caller lends, and the stack: blocks of bytes pushed and popped.
 use super::Stack;
-use numbers::eight_at;
-use numbers::put_eight;
-use numbers::reversed_8;
 use terms::Width;
 ghost use mathlib.Core.Path.{_≡_};
 ghost use mathlib.Core.List.{_++_};
@@ -20,7 +17,7 @@ impl Stack {
         let mut i = 0;
         while 8 <= p.len() - i {
             let rest = s.top;
-            let top = eight_at(p, i);
+            let top = numbers::eight_at(p, i);
             s = Stack { top, rest };
             i += 8;
         }
@@ -48,7 +45,7 @@ impl Stack {
         let mut i = 0;
         while 8 <= n - i {
             let end = i + 8;
-            put_eight(&mut room[i..end], reversed_8(s.top));
+            numbers::put_eight(&mut room[i..end], numbers::reversed_8(s.top));
             let rest = s.top;
             let top = s.rest;
             s = Stack { top, rest };

@@ -1,15 +1,7 @@
 // The run of a file on the bytes of a state: what the exported call does.
-use crate::admit;
-use crate::card_in;
-use crate::settle;
 use crate::turn_away;
-use record_runs::run::run_all;
-use terms::Mode;
 use terms::Refusal;
-use terms::Rule;
-use terms::mode_of;
 use terms::number;
-use terms::rule_of;
 ghost use mathlib.Core.Path.{_≡_};
 ghost use mathlib.Core.Bool.{true};
 ghost use Prim.Native.Nat.{_≤_};
@@ -22,8 +14,8 @@ ghost use Rattle.state_bytes.specs.Calls.{Calls, ranOf, callOf};
 
 // The run on a good state; reported.
 fn run_good(
-    mode: Mode,
-    rule: Rule,
+    mode: terms::Mode,
+    rule: terms::Rule,
     state: &mut [u8],
     input: &[u8],
     replies: &mut [u8],
@@ -35,8 +27,8 @@ fn run_good(
         (runOf (cardIn (given mode rule) (now (state .entry))) (now (input .entry)) (length (now (replies .entry))))
         (now (replies .entry))) r (now (state .exit)) (now (replies .exit)) (now (report .exit)) ⌝ }
 {
-    let r = run_all(card_in(state), mode, rule, input, replies);
-    settle(r, state, report)
+    let r = record_runs::run::run_all(crate::card_in(state), mode, rule, input, replies);
+    crate::settle(r, state, report)
 }
 
 // A file of records run on a state. Returns the refusal; 14, then 16, 17, 13, 9 before any record.
@@ -56,15 +48,15 @@ pub fn run(
     if report.len() != terms::REPORT_BYTES {
         return number(Refusal::BadReport) as u32;
     }
-    let refusal = number(admit(mode, rule, state));
+    let refusal = number(crate::admit(mode, rule, state));
     if refusal != 0 {
         return turn_away(report, refusal);
     }
     if terms::MOST_INPUT < input.len() {
         return turn_away(report, number(Refusal::InputTooLong));
     }
-    let part = mode_of(mode);
-    let way = rule_of(rule);
+    let part = terms::mode_of(mode);
+    let way = terms::rule_of(rule);
     if state.len() == terms::STATE_BYTES {
         return run_good(part, way, state, input, replies, report);
     }
