@@ -1,6 +1,7 @@
 # How a program or a library is proved and built, and when anew, and how a program for x86-64 is started here.
 # To be read by a script that has set `top`, the repository's folder. Defines say, room, toolchain, start, crates_of,
-# contents, current, note, build, make_library. Needs a POSIX shell with the usual tools of Linux; from `toolchain` on rt.
+# contents, current, note, memory_folder, in_memory, build, make_library. Needs a POSIX shell with the usual tools of Linux;
+# from `toolchain` on rt.
 
 # say TEXT: a line on standard error, if there is one
 say() { echo "${0##*/}: $1" >&2 || :; }
@@ -127,7 +128,7 @@ stopped() {
         kill -s TERM -- "-$proving" 2>/dev/null || kill -s TERM $(below "$proving") 2>/dev/null || :
         kill "$ticking" "$telling" 2>/dev/null || :
         wait "$proving" 2>/dev/null || :
-        rm -rf "$pipes"
+        rm -rf "$pipes" ${memory:+"$memory"}
         say "stopped; what is proved so far is kept, and the next call goes on from there"
     fi
     exit $((128 + $1))
@@ -212,26 +213,49 @@ renewed() {
     done
 }
 
+# memory_folder: prints a new folder in memory for the provers' temporary files, or nothing: where TMPDIR names a folder, where
+# there is little memory, or where no program may be run from there. A prover copies up to 250 MB of proofs into its folder,
+# which on a disk takes up to 4 seconds of the processor for each crate. What a script that was killed left there is removed.
+memory_folder() {
+    for folder in /dev/shm/pundaliket.*; do
+        left=${folder#*.}
+        [ ! -O "$folder" ] || kill -0 "${left%.*}" 2>/dev/null || rm -rf "$folder"
+    done
+    [ -z "${TMPDIR:-}" ] && [ "$(awk '/^MemAvailable:/ { print $2 }' /proc/meminfo 2>/dev/null || :)" -ge 4194304 ] 2>/dev/null &&
+        [ "$(df -P -k /dev/shm 2>/dev/null | awk 'NR == 2 { print $4 }')" -ge 1048576 ] 2>/dev/null &&
+        folder=$(mktemp -d "/dev/shm/pundaliket.$$.XXXXXX" 2>/dev/null) || return 0
+    if chmod 711 "$folder" && printf '#!/bin/sh\n' >"$folder/try" && chmod +x "$folder/try" && "$folder/try"; then
+        rm "$folder/try"
+        echo "$folder"
+    else
+        rm -rf "$folder"
+    fi 2>/dev/null
+}
+
+# in_memory: temporary files go to $memory, if that is a folder
+in_memory() { [ -z "$memory" ] || export TMPDIR="$memory"; }
+
 # proves COMMAND..: runs COMMAND in the repository's folder and says how far it is; sets built_status
 proves() {
     built_status=2
     pipes=$(mktemp -d) && mkfifo "$pipes/said" && true >"$pipes/began" && true >"$pipes/proved" && true >"$made.log" || return 0
     began=$(date +%s)
+    memory=$(memory_folder)
     progress "$made.log" "$(echo "$built_on" | wc -l)" <"$pipes/said" &
     telling=$!
     at_work &
     ticking=$!
     # in a session of its own, so that one signal stops all provers; a function of the script cannot have one
     case $(command -v "$1"):$(command -v setsid) in
-    /*:/*) (cd "$top" && exec setsid "$@") >"$pipes/said" 2>&1 </dev/null & ;;
-    *) (cd "$top" && "$@") >"$pipes/said" 2>&1 </dev/null & ;;
+    /*:/*) (cd "$top" && in_memory && exec setsid "$@") >"$pipes/said" 2>&1 </dev/null & ;;
+    *) (cd "$top" && in_memory && "$@") >"$pipes/said" 2>&1 </dev/null & ;;
     esac
     proving=$! built_status=0
     wait "$proving" || built_status=$?
     proving=''
     kill "$ticking" 2>/dev/null || :
     wait "$telling" || :
-    rm -rf "$pipes"
+    rm -rf "$pipes" ${memory:+"$memory"}
 }
 
 # build FILE COMMAND..: makes FILE by COMMAND, a program or a function, unless it is current. Each crate is named on standard

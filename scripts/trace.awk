@@ -1,37 +1,16 @@
 # A run for people: of each record its words, what it read or why it was refused, and the state after it. Reads four files:
-# the record bytes as `od -A n -v -t x1` shows them, the listing with words, the states of `buslist --trace`, and what the
-# program `word` tells of each word of a stack. Listing, states and decimals are proved; the words beside them are not.
+# the words of the records and the states of the run, both of the program `records`, between them the listing with words, and
+# what the program `word` tells of each word of a stack. These are proved; how they are put together is not.
 
 BEGIN {
     split("00 NOP 01 SQRT 02 SIN 03 COS 04 TAN 05 ASIN 06 ACOS 07 ATAN 08 LOG 09 LN 0A EXP 0B PWR 10 FADD 11 FSUB 12 FMUL 13 FDIV " \
         "15 CHSF 17 PTOF 18 POPF 19 XCHF 1A PUPI 1C FLTD 1D FLTS 1E FIXD 1F FIXS 2C DADD 2D DSUB 2E DMUL 2F DDIV 34 CHSD 36 DMUU " \
         "37 PTOD 38 POPD 39 XCHD 6C SADD 6D SSUB 6E SMUL 6F SDIV 74 CHSS 76 SMUU 77 PTOS 78 POPS 79 XCHS", list, " ")
     for (i = 1; i in list; i += 2) name[list[i]] = list[i + 1]
-    split("push pop command status reset acknowledge recall forget", kind, " ")
-    at = count = 0
 }
 
 function hex(text,    n, i) { for (i = 1; i <= length(text); i++) n = 16 * n + index("0123456789ABCDEF", substr(text, i, 1)) - 1; return n }
 function signed(text,    n, all) { n = hex(text); all = 16 ^ length(text); return n < all / 2 ? n : n - all }
-
-# the words of the record at byte `at`, whose kind the listing has, as crate record_text tells them: the bytes of a push as
-# words of four, then one of two, then one, low byte first
-function record_words(    size, said, code, step, i, j) {
-    size = hex(byte[at]) + 256 * hex(byte[at + 1]) - 2
-    code = byte[at + 4]
-    said = kind[$2]
-    if ($2 == 1) {
-        for (i = 0; i < size; i += step) {
-            step = size - i >= 4 ? 4 : size - i >= 2 ? 2 : 1
-            said = said " "
-            for (j = step - 1; j >= 0; j--) said = said byte[at + 4 + i + j]
-        }
-    } else if ($2 == 2) said = said " " hex(code)
-    else if ($2 == 3 && sprintf("%02X", hex(code) % 128) in name) said = name[sprintf("%02X", hex(code) % 128)] (hex(code) < 128 ? "" : " sr")
-    else if ($2 == 3) said = said " " code
-    at += size + 4
-    return said
-}
 
 # words of a status or of the errors remembered
 function letters(text,    n, said) {
@@ -69,14 +48,14 @@ function state(number,    s, i, word) {
 }
 
 FNR == 1 { file++ }
-file == 1 { for (i = 1; i <= NF; i++) byte[count++] = toupper($i); next }
+file == 1 { words[FNR] = $0; next }
 file == 2 { lines = FNR; i = index($0, "  # "); line[FNR] = i ? substr($0, 1, i - 1) : $0; note[FNR] = i ? substr($0, i + 4) : ""; next }
 file == 3 { after[$1] = $0; next }
 { decimal[$1] = $0 ~ / improper$/ ? "improper" : substr($0, 10) }
 END {
     for (k = 1; k < lines; k++) {
         $0 = line[k]
-        said = k " " record_words()
+        said = k " " words[k]
         if ($3 != 0) said = said ": refused " $3 substr(note[k], 8)
         else if (NF > 3) {
             said = said ": reads"

@@ -1,4 +1,4 @@
-"""What `buslist --trace` must tell of a run, worked out from documents 01 and 02 with exact fractions, against what it tells.
+"""What `records trace` must tell of a run, worked out from documents 01 and 02 with exact fractions, against what it tells.
 
 states.py COUNT PROGRAM..: COUNT drawn files of records, under both rules and both resets.
 """

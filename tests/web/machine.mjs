@@ -13,7 +13,7 @@ const words = ({ older, nearest }) => [...(older ? ['--am9511'] : []), ...(neare
 const many = (n, make) => Array.from({ length: n }, make);
 const latin = bytes => Buffer.from(bytes).toString('latin1');
 
-// ---- listings, and the state behind a record: what buslist --trace tells of it; of a file with sheets what the native
+// ---- listings, and the state behind a record: what `records trace` tells of it; of a file with sheets what the native
 // program pops behind it, and tells of status and errors
 
 const ASKED = [3, 0, 2, 0, 16, 2, 0, 4, 0, 2, 0, 7, 0];
@@ -34,7 +34,7 @@ const listed = async (job, what, input, settings, every) => {
   is(`${job} ${what}: records of the words`, back, input.subarray(0, r.taken));
   if (job === 'list') {
     const states = r.rows.map((row, i) => `${i + 1} ${texts.hexes(row.state)}\n`).join('');
-    is(`${job} ${what}: states`, `${states}end\n`, latin(native(top, 'buslist', input, ['--trace', ...words(settings)])));
+    is(`${job} ${what}: states`, `${states}end\n`, latin(native(top, 'records', input, ['trace', ...words(settings)])));
     return;
   }
   for (const [i, row] of r.rows.entries()) {

@@ -1,14 +1,13 @@
 -- The steps of a product: after k of them the last k bits of the multiplier were used, so the partial sum is x times those and the others are left.
 -- Assumes nothing.
-use mathlib.Core.Path.{_≡_, refl, sym, ap, _∙_}
-use mathlib.Core.Bool.{Bool, cond}
+use mathlib.Core.Path.{_≡_, sym, ap, _∙_, subst}
 use Prim.Native.Nat.{ℕ, zero, suc, _+_, _-_, _*_, _/_, _%_, _^_, _≤_, _<_}
 use native.Mathlib.Nat.{mul-assoc, mul-le-mul-left, one-mul, zero-mul, mod-lt, sub-zero}
 use native.Mathlib.Omega.{arith}
 use lib.Pow.{pow-add, pow-mono, shl-exact}
-use borrow.Author.Tests.{eq-eqb, ne-eqb}
 use Rattle.bit_serial.specs.declared.multiply.Product.{Product}
 use Rattle.bit_serial.specs.Product.{begun, shifted, added, addedUpTo, product}
+use Rattle.bit_serial.proofs.UpTo.{onward}
 
 -- ---- one step within 64 bits
 pub shifts : (x k : ℕ) → x < 2 ^ 32 → k < 32 → x * 2 ^ k % 2 ^ 64 ≡ x * 2 ^ k
@@ -36,28 +35,18 @@ unset x p o =
     ap (λ (n : ℕ). record { partial = n; left = p .left / 2; steps = p .steps + 1 }) (sym (ap (λ (n : ℕ). p .partial + n * shifted x p) z
     ∙ ap (λ (n : ℕ). p .partial + n) (zero-mul (shifted x p)) ∙ (omega arith)))
 
--- ---- the loop
-pub stops : (n x : ℕ) (p : Product) → p .left ≡ 0 → addedUpTo n x p ≡ p
-unfolding addedUpTo
-stops zero x p e = refl
-stops (suc n) x p e = ap (λ (t : Bool). cond t p (addedUpTo n x (added x p))) (eq-eqb (p .left) 0 e)
-
-pub goes-on : (n x : ℕ) (p : Product) → (p .left ≡ 0 → ⊥) → addedUpTo (suc n) x p ≡ addedUpTo n x (added x p)
-unfolding addedUpTo
-goes-on n x p e = ap (λ (t : Bool). cond t p (addedUpTo n x (added x p))) (ne-eqb (p .left) 0 e)
-
 -- what holds where the loop stands: the steps that are left to make lead to the product
 pub record Adding (n x y : ℕ) (p : Product) : Type 0 where
   pub leads : addedUpTo (n - p .steps) x p ≡ product n x y
   pub few : p .steps ≤ n
   pub within : p .partial ≤ shifted x p
 
-pub starts : (n x y : ℕ) → Adding n x y (begun y)
-starts n x y = record { leads = ap (λ (m : ℕ). addedUpTo m x (begun y)) (sub-zero n); few = omega arith; within = omega arith }
+pub starts : (n x y : ℕ) {p : Product} → p ≡ begun y → Adding n x y p
+starts n x y b = subst (Adding n x y) (sym b) record { leads = ap (λ (m : ℕ). addedUpTo m x (begun y)) (sub-zero n); few = omega arith; within = omega arith }
 
-pub adds : (n x y : ℕ) (p : Product) → Adding n x y p → p .steps < n → (p .left ≡ 0 → ⊥) → Adding n x y (added x p)
-adds n x y p a l e = record {
-  leads = sym (goes-on (n - (p .steps + 1)) x p e) ∙ ap (λ (m : ℕ). addedUpTo m x p) (omega arith) ∙ a .leads;
+pub adds : (n x y : ℕ) (p : Product) {q : Product} → Adding n x y p → p .steps < n → (p .left ≡ 0 → ⊥) → q ≡ added x p → Adding n x y q
+adds n x y p a l e f = subst (Adding n x y) (sym f) record {
+  leads = onward (λ (p : Product). p .left) (added x) (n - p .steps) (n - (p .steps + 1)) (a .leads) (omega arith) e;
   few = omega arith;
   within = bit (p .left % 2) (mod-lt (p .left) (omega arith));
 }
@@ -66,10 +55,3 @@ adds n x y p a l e = record {
     bit zero h = let g = doubles x (p .steps) in let w = a .within in omega arith
     bit (suc zero) h = let g = doubles x (p .steps) in let w = a .within in omega arith
     bit (suc (suc b)) h = absurd (omega arith)
-
-pub ends-early : (n x y : ℕ) (p : Product) → Adding n x y p → p .left ≡ 0 → p ≡ product n x y
-ends-early n x y p a e = sym (stops (n - p .steps) x p e) ∙ a .leads
-
-pub ends-whole : (n x y : ℕ) (p : Product) → Adding n x y p → n ≤ p .steps → p ≡ product n x y
-unfolding addedUpTo
-ends-whole n x y p a l = let e : 0 ≡ n - p .steps = omega arith in ap (λ (m : ℕ). addedUpTo m x p) e ∙ a .leads

@@ -1,11 +1,10 @@
 -- The operations by their cases: an operation's width has words of at most 32 bits, and what its case says is said of it. Assumes nothing.
 use mathlib.Core.Path.{_≡_, refl, sym, ap, _∙_}
 use mathlib.Core.Bool.{Bool, true, false, _&&_, cond}
-use Prim.Native.Nat.{ℕ, _*_, _^_, _<_}
+use Prim.Native.Nat.{ℕ, _*_, _^_, _≤_, _<_}
 use native.Mathlib.Omega.{arith}
 use borrow.Author.Tests.{eq-eqb, ne-eqb}
 use lib.Dec.{eqb}
-use Rattle.terms.specs.declared.Rule.{Rule}
 use Rattle.terms.specs.declared.Width.{Width}
 use Rattle.terms.specs.declared.Width.the-variants.{Single, Double}
 use Rattle.terms.specs.Width.{bitsOf}
@@ -13,10 +12,9 @@ use Rattle.fixed.specs.Fixed.{half, eitherLeast}
 use Rattle.fixed.specs.Parts.{Words, magnitudeAt}
 use Rattle.float.specs.Word.{mantissa, proper}
 use Rattle.bit_serial.specs.declared.Operation.{Operation}
-use Rattle.bit_serial.specs.declared.Answer.{Answer}
 use Rattle.bit_serial.specs.declared.tasks.Task.{Task}
 use Rattle.bit_serial.specs.declared.tasks.Task.the-variants.{Nothing, Multiply, Divide}
-use Rattle.bit_serial.specs.Work.{widthOf, Operands, answerOf, taskOf, Narrow, mulTask, divTask, fmulTask, fdivTask, sizesTask, mantissasTask}
+use Rattle.bit_serial.specs.Work.{widthOf, Operands, mulTask, divTask, fmulTask, fdivTask, sizesTask, mantissasTask}
 
 -- words of an operation's width
 pub words : (op : Operation) (h b a : ℕ) → h ≡ half (bitsOf (widthOf op)) → Operands op b a → Words h b a
@@ -26,18 +24,24 @@ words op h b a f l = by-width (widthOf op) f l
     by-width Single g m = record { some = omega arith; narrow = omega arith; left = omega arith; right = omega arith }
     by-width Double g m = record { some = omega arith; narrow = omega arith; left = omega arith; right = omega arith }
 
--- ---- what is said of an operation's case k, at the width of the operation, is said of it
-module _ {op k : Operation} {h n : ℕ} (is : op ≡ k) (H : h ≡ half (bitsOf (widthOf op))) (N : n ≡ bitsOf (widthOf op)) where
-  at-width : {A : Type 0} (f : ℕ → ℕ → A) → f h n ≡ f (half (bitsOf (widthOf k))) (bitsOf (widthOf k))
-  at-width f = (λ i. f (H i) (N i)) ∙ ap (λ (o : Operation). f (half (bitsOf (widthOf o))) (bitsOf (widthOf o))) is
+-- ---- an operation's words, with the half h and the bits n of its width
+pub record Sized (op : Operation) (b a h n : ℕ) : Type 0 where
+  pub half-is : h ≡ half (bitsOf (widthOf op))
+  pub bits-is : n ≡ bitsOf (widthOf op)
+  pub given : Words h b a × (n ≤ 32)
 
-  pub answered : (rule : Rule) (b a : ℕ) (f : ℕ → ℕ → Answer) → f (half (bitsOf (widthOf k))) (bitsOf (widthOf k)) ≡ answerOf k rule b a
-      → (r : Answer) → r ≡ f h n → r ≡ answerOf op rule b a
-  answered rule b a f e r p = p ∙ at-width f ∙ e ∙ ap (λ (o : Operation). answerOf o rule b a) (sym is)
+pub sized : (op : Operation) (b a : ℕ) {w : Width} {h n : ℕ} → w ≡ widthOf op → h ≡ half (bitsOf w) → (n ≡ bitsOf w) × (n ≤ 32) → Operands op b a
+    → Sized op b a h n
+sized op b a {h = h} W H N l =
+    let H : h ≡ half (bitsOf (widthOf op)) = H ∙ ap (λ (w : Width). half (bitsOf w)) W in
+    record { half-is = H; bits-is = N .0 ∙ ap bitsOf W; given = (words op h b a H l, N .1) }
 
-  pub tasked : (b a : ℕ) (f : ℕ → ℕ → Task) → f (half (bitsOf (widthOf k))) (bitsOf (widthOf k)) ≡ taskOf k b a → (r : Task)
-      → (r ≡ f h n) × Narrow r → (r ≡ taskOf op b a) × Narrow r
-  tasked b a f e r p = (p .0 ∙ at-width f ∙ e ∙ ap (λ (o : Operation). taskOf o b a) (sym is), p .1)
+-- what is said of the operation's case k, at its width, is said of it
+pub said : {op k : Operation} {b a h n : ℕ} {A : Type 0} → Sized op b a h n → op ≡ k → (of : Operation → A) (f : ℕ → ℕ → ℕ → ℕ → A)
+    → f (half (bitsOf (widthOf k))) (bitsOf (widthOf k)) b a ≡ of k
+    → f h n b a ≡ of op
+said {b = b} {a = a} s is of f e =
+    (λ i. f (s .half-is i) (s .bits-is i) b a) ∙ ap (λ (o : Operation). f (half (bitsOf (widthOf o))) (bitsOf (widthOf o)) b a) is ∙ e ∙ ap of (sym is)
 
 -- ---- the tasks
 always : (t : Bool) (x : Task) → x ≡ cond t x x

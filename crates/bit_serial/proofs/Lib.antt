@@ -1,4 +1,5 @@
 -- Laws of the steps: what one does, and where they end.
+pub mod UpTo
 pub mod Adding
 pub mod Subtracting
 pub mod Products
@@ -6,4 +7,3 @@ pub mod Quotients
 pub mod Answers
 pub mod Same
 pub mod Cases
-pub mod Steps

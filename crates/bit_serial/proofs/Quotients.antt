@@ -3,16 +3,17 @@
 use mathlib.Core.Path.{_≡_, refl, sym, ap, _∙_, subst}
 use mathlib.Core.Logic.{_⊎_, inl, inr, ⊎-elim}
 use mathlib.Core.Bool.{Bool, true, false, cond}
-use Prim.Native.Nat.{ℕ, zero, suc, _+_, _-_, _*_, _/_, _%_, _^_, _≤_, _<_}
+use Prim.Native.Nat.{ℕ, _+_, _-_, _*_, _/_, _%_, _^_, _≤_, _<_}
 use native.Mathlib.Nat.{le-trans, le-add-right, mul-assoc, mul-one, mul-pos, mod-lt, mod-eq-of-lt, div-add-mod', mul-add-mod-self-right, div-eq-of-lt-le}
 use native.Mathlib.Nat.{mul-mod-left}
 use native.Mathlib.Omega.{arith}
-use lib.Dec.{leb, eqb}
+use lib.Dec.{leb}
 use lib.Pow.{pow-add, pow-pos}
-use borrow.Author.Tests.{eqb-true, eqb-false, leb-true, leb-false}
+use borrow.Author.Tests.{leb-true, leb-false}
 use Rattle.numbers.proofs.Differences.{either}
 use Rattle.bit_serial.specs.declared.divide.Division.{Division}
-use Rattle.bit_serial.specs.Quotient.{begun, shifted, subtracted, subtractedUpTo, division}
+use Rattle.bit_serial.specs.Quotient.{begun, shifted, subtracted, division}
+use Rattle.bit_serial.proofs.UpTo.{Ended, along}
 use Rattle.bit_serial.proofs.Subtracting.{halves, Subtracting, starts, subtracts}
 
 -- what holds after each step, and, of the n digits, that bits remained before each that was found
@@ -55,31 +56,6 @@ next n v d s D l m a = record {
     same : (i : ℕ) → s .left - 1 < i → i ≤ s .left → s .left ≡ i
     same i h g = omega arith
 
--- what each step keeps while bits remain holds where the steps end
-pub along : (P : Division → Type 0) (d : ℕ) → ((s : Division) → 0 < s .left → (s .rest ≡ 0 → ⊥) → P s → P (subtracted d s)) → (n : ℕ) (s : Division)
-    → s .left ≡ n → P s → P (subtractedUpTo n d s)
-unfolding subtractedUpTo
-along P d step zero s e h = h
-along P d step (suc n) s e h = go (eqb (s .rest) 0) (eqb-false (s .rest) 0) (λ m. along P d step n (subtracted d s) (omega arith) (step s (omega arith) m h))
-  where
-    go : (t : Bool) → (t ≡ false → s .rest ≡ 0 → ⊥) → ((s .rest ≡ 0 → ⊥) → P (subtractedUpTo n d (subtracted d s)))
-        → P (cond t s (subtractedUpTo n d (subtracted d s)))
-    go true f g = h
-    go false f g = g (f refl)
-
--- the steps end where no bits remain, or when all were made
-pub ends : (n d : ℕ) (s : Division) → s .left ≡ n → (subtractedUpTo n d s .rest ≡ 0) ⊎ (subtractedUpTo n d s .left ≡ 0)
-unfolding subtractedUpTo
-ends zero d s e = inr e
-ends (suc n) d s e = go (eqb (s .rest) 0) (eqb-true (s .rest) 0) (ends n d (subtracted d s) (omega arith))
-  where
-    t : Division
-    t = subtractedUpTo n d (subtracted d s)
-
-    go : (b : Bool) → (b ≡ true → s .rest ≡ 0) → (t .rest ≡ 0) ⊎ (t .left ≡ 0) → (cond b s t .rest ≡ 0) ⊎ (cond b s t .left ≡ 0)
-    go true f w = inl (f refl)
-    go false f w = w
-
 -- a quotient and a rest below the divisor
 pub parts : (q d r v : ℕ) → q * d + r ≡ v → r < d → (q ≡ v / d) × (r ≡ v % d)
 parts q d r v e l =
@@ -92,20 +68,28 @@ units v a j h z =
     ap (λ (x : ℕ). x % a) w ∙ mul-mod-left (v / (a * 2 ^ j) * 2 ^ j) a
 
 module _ (n v d : ℕ) (D : 0 < d) (h : v < d * 2 ^ n) where
-  pub all : Found n v d (division n v d)
-  all = along (Found n v d) d (λ s. next n v d s D) n (begun v n) refl (first n v d h)
+  ended : Ended (λ (s : Division). s .rest) (λ (m : ℕ) (s : Division). (s .left ≡ m) × Found n v d s) (division n v d)
+  ended = along (λ (s : Division). s .rest) (subtracted d) (λ (m : ℕ) (s : Division). (s .left ≡ m) × Found n v d s)
+      (λ m s b h. (omega (arith, h .0), next n v d s D (omega (arith, h .0)) b (h .1))) n (begun v n) (refl, first n v d h)
+
+  all : Found n v d (division n v d)
+  all = ended .holds .1
+
+  -- the steps end where no bits remain, or when all were made
+  ends : (division n v d .rest ≡ 0) ⊎ (division n v d .left ≡ 0)
+  ends = ⊎-elim inl (λ (z : ended .left ≡ 0). inr (ended .holds .0 ∙ z)) (ended .why)
 
   -- the whole quotient, and the remainder
   pub whole : (division n v d .quotient ≡ v / d) × (division n v d .rest ≡ v % d)
   whole = parts (division n v d .quotient) d (division n v d .rest) v (all .whole) (⊎-elim (λ z. subst (λ (x : ℕ). x < d) (sym z) D) last
-      (ends n d (begun v n) refl))
+      ends)
     where
       last : division n v d .left ≡ 0 → division n v d .rest < d
       last e = subst (λ (x : ℕ). x < d) (sym (all .rest ∙ ap (λ (x : ℕ). v % (d * 2 ^ x)) e ∙ ap (λ (x : ℕ). v % x) (mul-one d))) (mod-lt v D)
 
   -- fewer steps exactly where no bits remain
   pub then-none : (k : ℕ) → k < n → n - division n v d .left ≤ k → v % (d * 2 ^ (n - k)) ≡ 0
-  then-none k l m = ⊎-elim early (λ (e : division n v d .left ≡ 0). absurd (omega arith)) (ends n d (begun v n) refl)
+  then-none k l m = ⊎-elim early (λ (e : division n v d .left ≡ 0). absurd (omega arith)) ends
     where
       i : ℕ
       i = division n v d .left
@@ -123,5 +107,8 @@ module _ (n v d : ℕ) (D : 0 < d) (h : v < d * 2 ^ n) where
 
 -- no more digits are found than asked for, and the quotient has no more
 pub digits : (n v d : ℕ) → (division n v d .left ≤ n) × (division n v d .quotient ≤ 2 ^ n)
-digits n v d = let a = along (Subtracting n v d) d (λ s l m a. subtracts n v d s a l m) n (begun v n) refl (starts n v d)
-    in (a .few, le-trans (le-add-right (division n v d .quotient) (2 ^ division n v d .left)) (a .room))
+digits n v d =
+    let e = along (λ (s : Division). s .rest) (subtracted d) (λ (m : ℕ) (s : Division). (s .left ≡ m) × Subtracting n v d s)
+    (λ m s b h. (omega (arith, h .0), subtracts n v d s (h .1) (omega (arith, h .0)) b refl)) n (begun v n) (refl, starts n v d refl) in
+    let a = e .holds .1 in
+    (a .few, le-trans (le-add-right (division n v d .quotient) (2 ^ division n v d .left)) (a .room))

@@ -2,14 +2,15 @@
 -- the dividend. Assumes nothing.
 use mathlib.Core.Path.{_≡_, refl, sym, ap, ap₂, _∙_, subst}
 use mathlib.Core.Bool.{Bool, true, false, cond}
-use Prim.Native.Nat.{ℕ, zero, suc, _+_, _-_, _*_, _%_, _^_, _≤_, _<_}
+use Prim.Native.Nat.{ℕ, _+_, _-_, _*_, _%_, _^_, _≤_, _<_}
 use native.Mathlib.Nat.{le-trans, one-mul, zero-mul}
 use native.Mathlib.Omega.{arith}
 use lib.Dec.{leb}
 use lib.Pow.{pow-add, pow-mono, shl-exact}
-use borrow.Author.Tests.{eq-eqb, ne-eqb, le-leb, lt-leb}
+use borrow.Author.Tests.{le-leb, lt-leb}
 use Rattle.bit_serial.specs.declared.divide.Division.{Division}
 use Rattle.bit_serial.specs.Quotient.{begun, shifted, digit, subtracted, subtractedUpTo, division, Places}
+use Rattle.bit_serial.proofs.UpTo.{onward}
 
 -- ---- one step within 64 bits
 pub unit : (k : ℕ) → k < 32 → 1 * 2 ^ k % 2 ^ 64 ≡ 2 ^ k
@@ -42,28 +43,18 @@ stays d s t e l =
     let y : s .rest ≡ s .rest - digit d s * shifted d s = omega (arith, ap (λ (n : ℕ). n * shifted d s) o ∙ zero-mul (shifted d s)) in
     ap₂ (λ (x y : ℕ). record { quotient = x; rest = y; left = s .left - 1 }) x y
 
--- ---- the loop
-pub stops : (n d : ℕ) (s : Division) → s .rest ≡ 0 → subtractedUpTo n d s ≡ s
-unfolding subtractedUpTo
-stops zero d s e = refl
-stops (suc n) d s e = ap (λ (t : Bool). cond t s (subtractedUpTo n d (subtracted d s))) (eq-eqb (s .rest) 0 e)
-
-pub goes-on : (n d : ℕ) (s : Division) → (s .rest ≡ 0 → ⊥) → subtractedUpTo (suc n) d s ≡ subtractedUpTo n d (subtracted d s)
-unfolding subtractedUpTo
-goes-on n d s e = ap (λ (t : Bool). cond t s (subtractedUpTo n d (subtracted d s))) (ne-eqb (s .rest) 0 e)
-
 -- what holds where the loop stands: the digits that are left to find lead to the quotient
 pub record Subtracting (n v d : ℕ) (s : Division) : Type 0 where
   pub leads : subtractedUpTo (s .left) d s ≡ division n v d
   pub few : s .left ≤ n
   pub room : s .quotient + 2 ^ s .left ≤ 2 ^ n
 
-pub starts : (n v d : ℕ) → Subtracting n v d (begun v n)
-starts n v d = record { leads = refl; few = omega arith; room = omega arith }
+pub starts : (n v d : ℕ) {s : Division} → s ≡ begun v n → Subtracting n v d s
+starts n v d b = subst (Subtracting n v d) (sym b) record { leads = refl; few = omega arith; room = omega arith }
 
-pub subtracts : (n v d : ℕ) (s : Division) → Subtracting n v d s → 0 < s .left → (s .rest ≡ 0 → ⊥) → Subtracting n v d (subtracted d s)
-subtracts n v d s a l e = record {
-  leads = sym (goes-on (s .left - 1) d s e) ∙ ap (λ (m : ℕ). subtractedUpTo m d s) (omega arith) ∙ a .leads;
+pub subtracts : (n v d : ℕ) (s : Division) {q : Division} → Subtracting n v d s → 0 < s .left → (s .rest ≡ 0 → ⊥) → q ≡ subtracted d s → Subtracting n v d q
+subtracts n v d s a l e f = subst (Subtracting n v d) (sym f) record {
+  leads = onward (λ (s : Division). s .rest) (subtracted d) (s .left) (s .left - 1) (a .leads) (omega arith) e;
   few = let f = a .few in omega arith;
   room = bit (leb (shifted d s) (s .rest));
 }
@@ -71,13 +62,6 @@ subtracts n v d s a l e = record {
     bit : (b : Bool) → s .quotient + cond b 1 0 * 2 ^ (s .left - 1) + 2 ^ (s .left - 1) ≤ 2 ^ n
     bit true = let g = halves (s .left) l in let r = a .room in omega arith
     bit false = let g = halves (s .left) l in let r = a .room in omega arith
-
-pub ends-early : (n v d : ℕ) (s : Division) → Subtracting n v d s → s .rest ≡ 0 → s ≡ division n v d
-ends-early n v d s a e = sym (stops (s .left) d s e) ∙ a .leads
-
-pub ends-whole : (n v d : ℕ) (s : Division) → Subtracting n v d s → s .left ≤ 0 → s ≡ division n v d
-unfolding subtractedUpTo
-ends-whole n v d s a l = let e : 0 ≡ s .left = omega arith in ap (λ (m : ℕ). subtractedUpTo m d s) e ∙ a .leads
 
 -- what a step asks, at most 32 digits being asked for
 pub placed : (n v d : ℕ) (s : Division) → Subtracting n v d s → d < 2 ^ 32 → n ≤ 32 → 0 < s .left → Places d s

@@ -19,8 +19,9 @@ use Rattle.bit_serial.specs.declared.multiply.Product.{Product}
 use Rattle.bit_serial.specs.declared.divide.Division.{Division}
 use Rattle.bit_serial.specs.declared.Answer.{Answer}
 use Rattle.bit_serial.specs.declared.Answer.the-variants.{Word, Refused}
-use Rattle.bit_serial.specs.Product.{addedUpTo, product}
-use Rattle.bit_serial.specs.Quotient.{subtractedUpTo, division}
+use Rattle.bit_serial.specs.UpTo.{upTo}
+use Rattle.bit_serial.specs.Product.{product}
+use Rattle.bit_serial.specs.Quotient.{division}
 
 -- ---- fixed point: h = 2 ^ (n - 1) is half of the number of words, and the word of the least value
 
@@ -51,12 +52,12 @@ upperHalf h z steps = Word (low h (shrZ z (2 * h))) 0 steps
 
 -- MUL: the low half of the product
 unfoldable pub mulAnswer : ℕ → ℕ → ℕ → ℕ → Answer
-unfolding low addedUpTo
+unfolding low upTo
 mulAnswer h n b a = unlessLeast h b a (lowHalf h (signedFor h b a (sizesMultiplied h n b a .partial)) (sizesMultiplied h n b a .steps))
 
 -- MUU: the upper half of the product
 unfoldable pub muuAnswer : ℕ → ℕ → ℕ → ℕ → Answer
-unfolding low addedUpTo
+unfolding low upTo
 muuAnswer h n b a = unlessLeast h b a (upperHalf h (signedFor h b a (sizesMultiplied h n b a .partial)) (sizesMultiplied h n b a .steps))
 
 -- MUL or MUU
@@ -66,7 +67,7 @@ halfAnswer false h n b a = mulAnswer h n b a
 
 -- DIV: the quotient, which is cut toward zero since its magnitude is; with A = 0 the result is B, the error divide by zero, and no step is made
 unfoldable pub divAnswer : ℕ → ℕ → ℕ → ℕ → Answer
-unfolding low subtractedUpTo
+unfolding low upTo
 divAnswer h n b a =
     cond (eqb a 0)
     (Word b divideByZero 0)
@@ -92,7 +93,7 @@ mantissasMultiplied b a = product 24 (mantissa b) (mantissa a)
 
 -- FMUL: that product at the place of both exponents, times 2 ^ 176 as the exact one, cut once
 unfoldable pub fmulAnswer : Rule → ℕ → ℕ → Answer
-unfolding cut addedUpTo
+unfolding cut upTo
 fmulAnswer rule b a =
     unlessImproper b a
     (after (mantissasMultiplied b a .steps) (cut rule (floatSigned b a (mantissasMultiplied b a .partial * 2 ^ (biased b + biased a))) (2 ^ 176)))
@@ -112,7 +113,7 @@ marked quotient rest = 2 * quotient + cond (eqb rest 0) 0 1
 
 -- FDIV: the marked quotient at the place of both exponents, cut once; where A is zero, R = B, the error is divide by zero, and no step is made
 unfoldable pub fdivAnswer : Rule → ℕ → ℕ → Answer
-unfolding cut subtractedUpTo
+unfolding cut upTo
 fdivAnswer rule b a =
     unlessImproper b a
     (cond (eqb (mantissa a) 0)

@@ -1,9 +1,8 @@
 -- A product a bit at a time, as trainees work it by hand: for each bit of the multiplier, the last one first, the multiplicand is shifted one
 -- place more, and added where the bit is set. Definitions only. Assumes nothing.
-use Prim.Native.Nat.{ℕ, zero, suc, _+_, _*_, _/_, _%_, _^_, _≤_, _<_}
-use mathlib.Core.Bool.{cond}
-use lib.Dec.{eqb}
+use Prim.Native.Nat.{ℕ, _+_, _*_, _/_, _%_, _^_, _≤_, _<_}
 use Rattle.bit_serial.specs.declared.multiply.Product.{Product}
+use Rattle.bit_serial.specs.UpTo.{upTo}
 
 -- before the first step: nothing is added up, and all bits of the multiplier are left
 abbrev pub begun : ℕ → Product
@@ -18,9 +17,8 @@ abbrev pub added : ℕ → Product → Product
 added x p = record { partial = p .partial + p .left % 2 * shifted x p; left = p .left / 2; steps = p .steps + 1 }
 
 -- at most n steps more, fewer where no bits remain
-unfoldable pub addedUpTo : ℕ → ℕ → Product → Product
-addedUpTo zero x p = p
-addedUpTo (suc n) x p = cond (eqb (p .left) 0) p (addedUpTo n x (added x p))
+abbrev pub addedUpTo : ℕ → ℕ → Product → Product
+addedUpTo n x = upTo (λ (p : Product). p .left) (added x) n
 
 -- x times y
 abbrev pub product : ℕ → ℕ → ℕ → Product

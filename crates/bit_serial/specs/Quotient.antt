@@ -1,9 +1,10 @@
 -- A quotient a bit at a time, as trainees work it by hand: for each digit, the highest one first, the divisor is shifted to its place, and taken
 -- from what is left of the dividend where it goes. Definitions only. Assumes nothing.
-use Prim.Native.Nat.{ℕ, zero, suc, _+_, _-_, _*_, _^_, _≤_, _<_}
+use Prim.Native.Nat.{ℕ, _+_, _-_, _*_, _^_, _≤_, _<_}
 use mathlib.Core.Bool.{cond}
-use lib.Dec.{leb, eqb}
+use lib.Dec.{leb}
 use Rattle.bit_serial.specs.declared.divide.Division.{Division}
+use Rattle.bit_serial.specs.UpTo.{upTo}
 
 -- before the first step: no digit is found, all of the dividend is left, and n digits are to be found
 abbrev pub begun : ℕ → ℕ → Division
@@ -22,9 +23,8 @@ abbrev pub subtracted : ℕ → Division → Division
 subtracted d s = record { quotient = s .quotient + digit d s * 2 ^ (s .left - 1); rest = s .rest - digit d s * shifted d s; left = s .left - 1 }
 
 -- at most n steps more, fewer where no bits remain
-unfoldable pub subtractedUpTo : ℕ → ℕ → Division → Division
-subtractedUpTo zero d s = s
-subtractedUpTo (suc n) d s = cond (eqb (s .rest) 0) s (subtractedUpTo n d (subtracted d s))
+abbrev pub subtractedUpTo : ℕ → ℕ → Division → Division
+subtractedUpTo n d = upTo (λ (s : Division). s .rest) (subtracted d) n
 
 -- v over d, to n digits
 abbrev pub division : ℕ → ℕ → ℕ → Division

@@ -1,7 +1,5 @@
--- The five operations of request 10, what their steps work on, and how many there are. Definitions only. Assumes nothing.
-use Prim.Native.Nat.{ℕ, _-_, _*_, _/_, _%_, _^_, _≤_, _<_}
-use mathlib.Core.Path.{_≡_}
-use mathlib.Core.Logic.{_↔_}
+-- The five operations of request 10, and what their steps work on. Definitions only. Assumes nothing.
+use Prim.Native.Nat.{ℕ, _-_, _*_, _^_, _≤_, _<_}
 use mathlib.Core.Bool.{Bool, true, false, _&&_, cond}
 use lib.Dec.{eqb}
 use Rattle.terms.specs.declared.Rule.{Rule}
@@ -79,23 +77,3 @@ abbrev pub Narrow : Task → Type 0
 Narrow Nothing = Unit
 Narrow (Multiply x y n) = (x < 2 ^ 32) × (n ≤ 32)
 Narrow (Divide v d n) = (d < 2 ^ 32) × (n ≤ 32)
-
--- ---- how many steps there are
-
--- at most so many
-abbrev pub mostOf : Task → ℕ
-mostOf Nothing = 0
-mostOf (Multiply x y n) = n
-mostOf (Divide v d n) = n
-
--- what remains, after k steps, of the operand that is used up. Of the multiplier y all bits but the last k: of 13, 1101 in binary, 11 after 2 steps. Of
--- the dividend v its remainder by the divisor at the place of the last digit found: 13 over 3 in 4 digits leaves 13 % (3 * 2) = 1 after 3 steps
-abbrev pub remains : Task → ℕ → ℕ
-remains Nothing k = 0
-remains (Multiply x y n) k = y / 2 ^ k
-remains (Divide v d n) k = v % (d * 2 ^ (n - k))
-
--- so many steps are made: at most the task's number, and k are enough exactly where nothing remains after them
-pub record Made (task : Task) (steps : ℕ) : Type 0 where
-  pub at-most : steps ≤ mostOf task
-  pub fewer : (k : ℕ) → k < mostOf task → (steps ≤ k) ↔ (remains task k ≡ 0)

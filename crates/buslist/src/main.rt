@@ -1,7 +1,6 @@
 // The listing program: reads record bytes from standard input, up to one more than a run takes,
-// and writes the listing of their run from reset to standard output, or with `--trace` its states.
-// `--am9511` and `--nearest` behind that, in this order, choose the older part's reset and the rule
-// that rounds.
+// and writes the listing of their run from reset to standard output. `--am9511` and `--nearest`, in
+// this order, choose the older part's reset and the rule that rounds.
 use libc::STDIN_FILENO;
 use libc::STDOUT_FILENO;
 
@@ -10,8 +9,6 @@ fn main() {
     let a = os::arg(1, &mut first);
     let mut second = [0u8; 16];
     let b = os::arg(2, &mut second);
-    let mut third = [0u8; 16];
-    let c = os::arg(3, &mut third);
     let mut input = [0u8; 12289];
     let n = io::read_full(STDIN_FILENO, &mut input);
     let mut text = [0u8; list_text::TEXT_ROOM];
@@ -19,7 +16,6 @@ fn main() {
         os::arg_count(),
         &first[..a],
         &second[..b],
-        &third[..c],
         &input[..n],
         &mut text,
     );

@@ -24,16 +24,14 @@ use Rattle.codes.specs.declared.Kind.the-variants.{Nop as NopCode, Fixed as Fix
 use Rattle.codes.specs.declared.Kind.the-variants.{Move as MoveCode, Pupi as PupiCode, Sqrt as SqrtCode, Derived as DerivedKind, Unknown as UnknownKind}
 use Rattle.codes.proofs.Kind.{the-type as kind-type}
 use Rattle.codes.specs.declared.FixedOp.{FixedOp}
-use Rattle.codes.specs.declared.FixedOp.the-variants.{Add as AddOp, Sub as SubOp, Mul as MulOp, Muu as MuuOp, Div as DivOp, Chs as ChsOp}
 use Rattle.codes.specs.declared.MoveOp.{MoveOp}
-use Rattle.codes.specs.declared.MoveOp.the-variants.{Pto as PtoOp, Pop as PopOp, Xch as XchOp}
-use Rattle.codes.specs.Command.{Command, Kind, Known, Derived, Unknown, Chsf, Flt, fixedIn, moveIn, kindIn}
+use Rattle.codes.specs.Command.{Command, Kind, Known, Derived, Unknown, Chsf, fixedIn, moveIn, kindIn}
 use Rattle.codes.specs.Codes.{sr, decoded}
 use Rattle.chip.specs.State.{State, left, afterReset, acknowledged, settled}
 use Rattle.chip.specs.declared.commands.Obeyed.{Obeyed}
 use Rattle.chip.specs.Commands.{outcomeOf, properOperands}
 use Rattle.chip.specs.Step.{done, refused, resetOf, acknowledgeOf, readOf, carried, commandUnder}
-use Rattle.chip.specs.Held.{held, flipped, Settles, SettlesEither, Obeys, Performs, halfWord, refusalOf, answerAs, Commanded}
+use Rattle.chip.specs.Held.{held, flipped, Settles, SettlesEither, Obeys, Performs, halfWord, refusalNumbered, answerAs, Commanded}
 use Rattle.chip.proofs.Answers.{carried-half, carried-improper, carried-done, command-by}
 use Rattle.chip.proofs.InTurn.{turned}
 
@@ -87,12 +85,12 @@ module _ (s : State) (code : ℕ) (o : Obeyed) where
   pub as-done : o .answer < 256 → answerAs s code o ≡ done 0 (settled s (sr code) (left (bytesIn (o .stack)) (o .answer)))
   as-done h = rw (lt-ltb (o .answer) 256 h)
 
-  pub as-refused : 256 ≤ o .answer → answerAs s code o ≡ refused (refusalOf (o .answer / 256)) s
+  pub as-refused : 256 ≤ o .answer → answerAs s code o ≡ refused (refusalNumbered (o .answer / 256)) s
   as-refused h = rw (le-ltb (o .answer) 256 h)
 
   as-number : (n : ℕ) → o .answer ≡ n → answerAs s code o ≡ cond (ltb n 256) (done 0 (settled s (sr code) (left (bytesIn (o .stack)) n)))
-      (refused (refusalOf (n / 256)) s)
-  as-number n e = ap (λ (x : ℕ). cond (ltb x 256) (done 0 (settled s (sr code) (left (bytesIn (o .stack)) x))) (refused (refusalOf (x / 256)) s)) e
+      (refused (refusalNumbered (n / 256)) s)
+  as-number n e = ap (λ (x : ℕ). cond (ltb x 256) (done 0 (settled s (sr code) (left (bytesIn (o .stack)) x))) (refused (refusalNumbered (x / 256)) s)) e
 
   known-one : (rule : Rule) (command : Command) (stack : Stack) → s .stack ≡ bytesIn stack → s .pending ≡ false → Obeys rule command stack o
       → answerAs s code o ≡ carried rule s (sr code) command
@@ -139,30 +137,13 @@ pub by-rule : (pending : Bool) (code : ℕ) (stack : Stack) {rule r : Rule} {o x
     → Commanded rule pending code stack o
 by-rule pending code stack e f h = rw (e, f) h
 
--- operands are asked for by no fixed-point operation and no move
-fixed-proper : (op : FixedOp) (w : Width) (s : List ℕ) → properOperands (fixedIn op w) s ≡ true
-fixed-proper AddOp w s = refl
-fixed-proper SubOp w s = refl
-fixed-proper MulOp w s = refl
-fixed-proper MuuOp w s = refl
-fixed-proper DivOp w s = refl
-fixed-proper ChsOp w s = refl
-
-move-proper : (op : MoveOp) (w : Width) (s : List ℕ) → properOperands (moveIn op w) s ≡ true
-move-proper PtoOp w s = refl
-move-proper PopOp w s = refl
-move-proper XchOp w s = refl
-
+-- a command that either rule does alike
 module _ (rule : Rule) (s : Stack) (o : Obeyed) {k : Coded} where
   pub fixed-by : {op : FixedOp} {w v : Width} → k ≡ FixedCode op w → w ≡ v → SettlesEither (fixedIn op v) s o → Performs rule (kindIn k) s o
-  fixed-by {op} {w} {v} e f h =
-      performs-as rule s o (e ∙ ap (FixedCode op) f) (done-by rule (fixedIn op v) s o (fixed-proper op v (bytesIn s)) (h rule))
+  fixed-by {op} e f h = performs-as rule s o (e ∙ ap (FixedCode op) f) (inl (h rule))
 
   pub move-by : {op : MoveOp} {w : Width} → k ≡ MoveCode op w → SettlesEither (moveIn op w) s o → Performs rule (kindIn k) s o
-  move-by {op} {w} e h = performs-as rule s o e (done-by rule (moveIn op w) s o (move-proper op w (bytesIn s)) (h rule))
-
-  pub flt-by : {w : Width} → k ≡ FltCode w → Settles (outcomeOf rule (Flt w) (bytesIn s)) o → Performs rule (kindIn k) s o
-  flt-by {w} e h = performs-as rule s o e (done-by rule (Flt w) s o refl h)
+  move-by e h = performs-as rule s o e (inl (h rule))
 
   pub chsf-by : k ≡ ChsfCode → SettlesEither Chsf s o → Performs rule (kindIn k) s o
-  chsf-by e h = performs-as rule s o e (done-by rule Chsf s o refl (h rule))
+  chsf-by e h = performs-as rule s o e (inl (h rule))

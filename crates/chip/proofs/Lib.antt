@@ -7,6 +7,4 @@ pub mod Outcomes
 pub mod Accepted
 pub mod InTurn
 pub mod Ready
-pub mod OnTop
 pub mod Held
-pub mod Events

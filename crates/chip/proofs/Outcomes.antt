@@ -1,12 +1,10 @@
--- What every command leaves: a stack of 16 bytes, a status below 128 whose error field is the command's error, and the bytes of R on top. Assumes nothing.
-use mathlib.Core.Path.{_≡_, refl, _∙_}
+-- What every command leaves: a stack of 16 bytes and a status below 128 whose error field is the command's error. Assumes nothing.
+use mathlib.Core.Path.{_≡_}
 use mathlib.Core.Bool.{Bool, true, false, cond}
-use mathlib.Core.List.{List, _++_}
+use mathlib.Core.List.{List}
 use Prim.Native.Nat.{ℕ, _+_, _-_, _*_, _/_, _%_, _^_, _≤_, _<_}
 use native.Mathlib.Omega.{arith}
 use lib.Dec.{lit<, lit≤, eqb}
-use lib.ListN.{length, take, drop, length-drop, length-take, length-append}
-use lib.Seq.{take-at, take-append-le, length-take-le}
 use Rattle.terms.specs.declared.Width.{Width}
 use Rattle.terms.specs.declared.Width.the-variants.{Single, Double}
 use Rattle.terms.specs.Width.{sizeOf}
@@ -18,21 +16,18 @@ use Rattle.float.specs.Word.{proper}
 use Rattle.terms.specs.declared.Rule.{Rule}
 use Rattle.float.specs.Convert.{flts, fltd, fixs, fixd, chsf}
 use Rattle.float.specs.Root.{sqrt}
-use Rattle.float.proofs.Results.{fltd-result, flts-result}
-use Rattle.float.proofs.root.RootExact.{root-result}
-use Rattle.stack.specs.Stack.{IsStack, bytesOf, zeros, tos, nos, rotated, overA, overZero, replaced, copied, exchanged, pushedWord, converted, widened}
-use Rattle.stack.specs.Stack.{narrowed, handedOut}
-use Rattle.stack.proofs.Words.{tos-lt, nos-lt, length-bytes}
+use Rattle.float.proofs.Results.{fltd-result, flts-result, root-result}
+use Rattle.stack.specs.Stack.{IsStack, tos, nos, rotated, overA, overZero, replaced, copied, exchanged, pushedWord, converted, widened}
+use Rattle.stack.specs.Stack.{narrowed}
+use Rattle.stack.proofs.Words.{tos-lt, nos-lt}
 use Rattle.stack.proofs.Layouts.{two-fit, overA-stack, overZero-stack, replaced-stack, rotated-stack, exchanged-stack, copied-stack, pushedWord-stack}
 use Rattle.stack.proofs.Layouts.{converted-stack, widened-stack, narrowed-stack}
-use Rattle.stack.proofs.Moves.{pops-hand, pops-read}
 use Rattle.codes.specs.Command.{Command}
 use Rattle.codes.specs.Command.{Nop, Add, Sub, Mul, Muu, Div, Chs, Float, Chsf, Flt, Fix, Pto, Pop, Xch, Pupi, Sqrt}
 use Rattle.chip.specs.State.{CommandOutcome}
 use Rattle.chip.specs.Status.{sign, zeroBits, statusOf, errorOf}
 use Rattle.chip.specs.Commands.{piOf, wordA, wordB, halfOf, ends, keepsA, losesA, changesA, floats, converts, widens, narrows, roots, floatOf}
 use Rattle.chip.specs.Commands.{outcomeOf, properOperands}
-use Rattle.chip.specs.InTurn.{resultBytes}
 use Rattle.chip.proofs.Errors.{float-result, fix-error}
 use Rattle.chip.proofs.Rows.{both-of}
 
@@ -66,7 +61,7 @@ pub record Fair (o : CommandOutcome) : Type 0 where
 fair : (w : Width) (t : List ℕ) (e : ℕ) (c : Bool) → IsStack t → e < 16 → Fair (ends w t e c)
 fair w t e c S h = record { stack = S; not-busy = status-lt w t e c h }
 
-one : (w : Width) → sizeOf w ≤ 16
+pub one : (w : Width) → sizeOf w ≤ 16
 one Single = lit≤ tt
 one Double = lit≤ tt
 
@@ -140,89 +135,3 @@ module _ (s : List ℕ) (S : IsStack s) where
   outcome-fair rule (Xch w) p = fair w (exchanged (sizeOf w) s) 0 false (exchanged-stack s S (sizeOf w) (two-fit w)) (lit< tt)
   outcome-fair rule Pupi p = fair Double (pushedWord s (piOf rule)) 0 false (pushedWord-stack s S (piOf rule)) (lit< tt)
   outcome-fair rule Sqrt p = roots-fair (sqrt rule (wordA Double s)) (root-result rule (wordA Double s) (record { fits = a-fits; is-proper = p }) .small)
-
--- ---- R on top
--- what is on top of a list is what as many pops hand out
-on-top : (n : ℕ) (x t : List ℕ) → length x ≡ n → handedOut n (x ++ t) ≡ x
-on-top n x t h =
-    let m : n ≤ length (x ++ t) = simp length-append (omega arith) in
-    pops-hand n (x ++ t) m ∙ take-at x t n h
-
-module _ (s : List ℕ) (S : IsStack s) where
-  keeps-hand : (w : Width) (r : Fixed) → handedOut (sizeOf w) ((keepsA w s r) .stack) ≡ bytesOf (sizeOf w) (r .word)
-  unfolding keepsA
-  keeps-hand w r = pops-read (sizeOf w) (r .word) (drop (sizeOf w + sizeOf w) s ++ take (sizeOf w) s)
-
-  loses-hand : (w : Width) (r : Fixed) → handedOut (sizeOf w) ((losesA w s r) .stack) ≡ bytesOf (sizeOf w) (r .word)
-  unfolding losesA
-  loses-hand w r = pops-read (sizeOf w) (r .word) (drop (sizeOf w + sizeOf w) s ++ zeros (sizeOf w))
-
-  changes-hand : (w : Width) (r : Fixed) → handedOut (sizeOf w) ((changesA w s r) .stack) ≡ bytesOf (sizeOf w) (r .word)
-  unfolding changesA
-  changes-hand w r = pops-read (sizeOf w) (r .word) (drop (sizeOf w) s)
-
-  floats-hand : (r : Flagged) → handedOut 4 ((floats s r) .stack) ≡ bytesOf 4 (r .word)
-  unfolding floats
-  floats-hand r = pops-read 4 (r .word) (drop 8 s ++ zeros 4)
-
-  converts-hand : (r : Flagged) → handedOut 4 ((converts s r) .stack) ≡ bytesOf 4 (r .word)
-  unfolding converts
-  converts-hand r = pops-read 4 (r .word) (take 8 (drop 4 s) ++ zeros 4)
-
-  widens-hand : (r : Flagged) → handedOut 4 ((widens s r) .stack) ≡ bytesOf 4 (r .word)
-  unfolding widens
-  widens-hand r = pops-read 4 (r .word) (take 8 (drop 2 s) ++ zeros 4)
-
-  narrows-hand : (r : Flagged) → handedOut (cond (eqb (r .error) 0) 2 4) ((narrows s r) .stack) ≡ bytesOf (cond (eqb (r .error) 0) 2 4) (r .word)
-  unfolding narrows
-  narrows-hand r = go (eqb (r .error) 0)
-    where
-      go : (x : Bool) → handedOut (cond x 2 4) ((cond {A = CommandOutcome} x (ends Single (narrowed s (r .word)) 0 false)
-          (ends Double (converted s (r .word)) (r .error) false)) .stack) ≡ bytesOf (cond x 2 4) (r .word)
-      go true = pops-read 2 (r .word) (take 8 (drop 4 s) ++ zeros 6)
-      go false = pops-read 4 (r .word) (take 8 (drop 4 s) ++ zeros 4)
-
-  roots-hand : (r : Flagged) → handedOut (length (cond (eqb (r .error) 0) (bytesOf 4 (r .word)) (take 4 s))) ((roots s r) .stack) ≡ cond (eqb (r .error) 0)
-      (bytesOf 4 (r .word)) (take 4 s)
-  unfolding roots
-  roots-hand r = go (eqb (r .error) 0)
-    where
-      go : (x : Bool)
-          → handedOut (length (cond x (bytesOf 4 (r .word)) (take 4 s)))
-          ((cond {A = CommandOutcome} x (ends Double (converted s (r .word)) 0 false) (ends Double s (r .error) false)) .stack) ≡ cond x
-          (bytesOf 4 (r .word)) (take 4 s)
-      go true = pops-read 4 (r .word) (take 8 (drop 4 s) ++ zeros 4)
-      go false = let e = S .sixteen in rw (length-take-le 4 s (omega arith)) (pops-hand 4 s (omega arith))
-
-  -- B has its bytes, and A its own
-  b-bytes : (w : Width) → length (take (sizeOf w) (drop (sizeOf w) s)) ≡ sizeOf w
-  b-bytes w = let e = S .sixteen in let h = two-fit w in length-take-le (sizeOf w) (drop (sizeOf w) s) (simp length-drop (omega arith))
-
-  a-bytes : (w : Width) → length (take (sizeOf w) s) ≡ sizeOf w
-  a-bytes w = let e = S .sixteen in let h = one w in length-take-le (sizeOf w) s (omega arith)
-
-  pub outcome-hands : (rule : Rule) (k : Command) → handedOut (length (resultBytes rule k s)) ((outcomeOf rule k s) .stack) ≡ resultBytes rule k s
-  outcome-hands rule Nop = refl
-  outcome-hands rule (Add w) = rw (length-bytes (sizeOf w)) (keeps-hand w (add (halfOf w) (wordB w s) (wordA w s)))
-  outcome-hands rule (Sub w) = rw (length-bytes (sizeOf w)) (keeps-hand w (sub (halfOf w) (wordB w s) (wordA w s)))
-  outcome-hands rule (Mul w) = rw (length-bytes (sizeOf w)) (loses-hand w (mul (halfOf w) (wordB w s) (wordA w s)))
-  outcome-hands rule (Muu w) = rw (length-bytes (sizeOf w)) (loses-hand w (muu (halfOf w) (wordB w s) (wordA w s)))
-  outcome-hands rule (Div w) = rw (length-bytes (sizeOf w)) (loses-hand w (div (halfOf w) (wordB w s) (wordA w s)))
-  outcome-hands rule (Chs w) = rw (length-bytes (sizeOf w)) (changes-hand w (chs (halfOf w) (wordA w s)))
-  outcome-hands rule (Float op) = floats-hand (floatOf rule op (wordB Double s) (wordA Double s))
-  outcome-hands rule Chsf = pops-read 4 (chsf (wordA Double s)) (drop 4 s)
-  outcome-hands rule (Flt Double) = converts-hand (fltd rule (wordA Double s))
-  outcome-hands rule (Flt Single) = widens-hand (flts (wordA Single s))
-  outcome-hands rule (Fix Double) = converts-hand (fixd (wordA Double s))
-  outcome-hands rule (Fix Single) = rw (length-bytes (cond (eqb ((fixs (wordA Double s)) .error) 0) 2 4)) (narrows-hand (fixs (wordA Double s)))
-  outcome-hands rule (Pto w) = rw (a-bytes w) (on-top (sizeOf w) (take (sizeOf w) s) (take (16 - sizeOf w) s) (a-bytes w))
-  outcome-hands rule (Pop w) =
-      let e = S .sixteen in
-      let h = two-fit w in
-      let l : sizeOf w ≤ length (drop (sizeOf w) s) = simp length-drop (omega arith) in
-      let m : sizeOf w ≤ length (rotated (sizeOf w) s) = simp (length-append, length-drop, length-take) (omega arith) in
-      rw (b-bytes w) (pops-hand (sizeOf w) (rotated (sizeOf w) s) m ∙ take-append-le (sizeOf w) (drop (sizeOf w) s) (take (sizeOf w) s) l)
-  outcome-hands rule (Xch w) =
-      rw (b-bytes w) (on-top (sizeOf w) (take (sizeOf w) (drop (sizeOf w) s)) (take (sizeOf w) s ++ drop (sizeOf w + sizeOf w) s) (b-bytes w))
-  outcome-hands rule Pupi = pops-read 4 (piOf rule) (take 12 s)
-  outcome-hands rule Sqrt = roots-hand (sqrt rule (wordA Double s))

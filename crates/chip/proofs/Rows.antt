@@ -15,7 +15,6 @@ use Rattle.terms.specs.declared.Width.the-variants.{Single, Double}
 use Rattle.terms.specs.Width.{sizeOf}
 use Rattle.terms.specs.declared.Rule.{Rule}
 use Rattle.fixed.specs.declared.Fixed.{Fixed}
-use Rattle.fixed.specs.Fixed.{add, sub, mul, muu, div, chs}
 use Rattle.fixed.proofs.Exact.{add-few, sub-few, mul-few, muu-few, div-few, chs-few}
 use Rattle.float.specs.declared.Flagged.{Flagged}
 use Rattle.float.specs.Word.{proper}
@@ -36,8 +35,9 @@ use Rattle.codes.specs.Command.{Flt, Fix, Sqrt, fixedIn, moveIn}
 use Rattle.chip.specs.declared.commands.Obeyed.{Obeyed}
 use Rattle.chip.specs.State.{CommandOutcome, left}
 use Rattle.chip.specs.Status.{sign, statusOf}
-use Rattle.chip.specs.Commands.{wordA, wordB, halfOf, ends, moves, keepsA, losesA, changesA, floats, converts, widens, narrows, roots, floatOf, outcomeOf}
-use Rattle.chip.specs.Held.{laidOf, Settles, SettlesEither}
+use Rattle.chip.specs.Commands.{wordA, wordB, halfOf, ends, moves, keepsA, losesA, changesA, floats, converts}
+use Rattle.chip.specs.Commands.{widens, narrows, roots, floatOf, outcomeOf, properOperands}
+use Rattle.chip.specs.Held.{resultOf, fixedOf, Settles, SettlesEither}
 use Rattle.chip.proofs.Errors.{float-result, fix-error}
 
 -- ---- the status from its parts
@@ -74,44 +74,48 @@ pub byte-small : (b : Bool) → boolByte b ≤ 1
 byte-small true = lit≤ tt
 byte-small false = lit≤ tt
 
--- ---- the fixed-point operations
-abbrev pub resultOf : FixedOp → ℕ → ℕ → ℕ → Fixed
-resultOf AddOp h b a = add h b a
-resultOf SubOp h b a = sub h b a
-resultOf MulOp h b a = mul h b a
-resultOf MuuOp h b a = muu h b a
-resultOf DivOp h b a = div h b a
-resultOf ChsOp h b a = chs h a
-
--- the error of each has four bits
-pub few : (op : FixedOp) (h b a : ℕ) {r : Fixed} → r ≡ resultOf op h b a → r .error < 16
-few op h b a e = subst (λ (r : Fixed). r .error < 16) (sym e) (go op)
+-- ---- the fixed-point operations: the error of each has four bits
+pub few : (op : FixedOp) (w : Width) (s : List ℕ) {r : Fixed} → r ≡ fixedOf op w s → r .error < 16
+few op w s e = subst (λ (r : Fixed). r .error < 16) (sym e) (go op)
   where
-    go : (k : FixedOp) → resultOf k h b a .error < 16
-    go AddOp = add-few h b a
-    go SubOp = sub-few h b a
-    go MulOp = mul-few h b a
-    go MuuOp = muu-few h b a
-    go DivOp = div-few h b a
-    go ChsOp = chs-few h a
+    go : (k : FixedOp) → fixedOf k w s .error < 16
+    go AddOp = add-few (halfOf w) (wordB w s) (wordA w s)
+    go SubOp = sub-few (halfOf w) (wordB w s) (wordA w s)
+    go MulOp = mul-few (halfOf w) (wordB w s) (wordA w s)
+    go MuuOp = muu-few (halfOf w) (wordB w s) (wordA w s)
+    go DivOp = div-few (halfOf w) (wordB w s) (wordA w s)
+    go ChsOp = chs-few (halfOf w) (wordA w s)
 
--- and is laid where its row has it
-module _ (s : List ℕ) (w : Width) where
-  work-row : (op : FixedOp) (rule : Rule) → laidOf op w s (resultOf op (halfOf w) (wordB w s) (wordA w s)) ≡ outcomeOf rule (fixedIn op w) s
-  work-row AddOp rule = refl
-  work-row SubOp rule = refl
-  work-row MulOp rule = refl
-  work-row MuuOp rule = refl
-  work-row DivOp rule = refl
-  work-row ChsOp rule = refl
+-- a result found on B and A is that of the stack
+pub on-words : (op : FixedOp) (w : Width) (s : List ℕ) {b a : ℕ} {r : Fixed} → r ≡ resultOf op (halfOf w) b a → b ≡ wordB w s → a ≡ wordA w s
+    → r ≡ fixedOf op w s
+on-words op w s er eb ea = er ∙ ap₂ (resultOf op (halfOf w)) eb ea
 
-pub worked : (op : FixedOp) (w : Width) (s : Stack) (o : Obeyed) {k : FixedOp} {b a : ℕ} {r : Fixed} → k ≡ op → b ≡ wordB w (bytesIn s)
-    → a ≡ wordA w (bytesIn s) → r ≡ resultOf op (halfOf w) b a → Settles (laidOf op w (bytesIn s) r) o → SettlesEither (fixedIn k w) s o
-worked op w s o ek eb ea er h rule = (
-  h .0 ∙ ap (laidOf op w (bytesIn s)) (er ∙ ap₂ (resultOf op (halfOf w)) eb ea) ∙ work-row (bytesIn s) w op rule
-      ∙ ap (λ (x : FixedOp). outcomeOf rule (fixedIn x w) (bytesIn s)) (sym ek),
-  h .1,
-)
+-- where the row of an operation has its result
+abbrev pub laidOf : FixedOp → Width → List ℕ → Fixed → CommandOutcome
+laidOf AddOp w s r = keepsA w s r
+laidOf SubOp w s r = keepsA w s r
+laidOf MulOp w s r = losesA w s r
+laidOf MuuOp w s r = losesA w s r
+laidOf DivOp w s r = losesA w s r
+laidOf ChsOp w s r = changesA w s r
+
+pub worked : (op : FixedOp) (w : Width) (s : Stack) (r : Fixed) (o : Obeyed) → r ≡ fixedOf op w (bytesIn s) → Settles (laidOf op w (bytesIn s) r) o
+    → SettlesEither (fixedIn op w) s o
+worked op w s r o e h rule = (row op .0, (h .0 ∙ ap (laidOf op w (bytesIn s)) e ∙ row op .1, h .1))
+  where
+    row : (k : FixedOp) → (properOperands (fixedIn k w) (bytesIn s) ≡ true)
+        × (laidOf k w (bytesIn s) (fixedOf k w (bytesIn s)) ≡ outcomeOf rule (fixedIn k w) (bytesIn s))
+    row AddOp = (refl, refl)
+    row SubOp = (refl, refl)
+    row MulOp = (refl, refl)
+    row MuuOp = (refl, refl)
+    row DivOp = (refl, refl)
+    row ChsOp = (refl, refl)
+
+-- and under the operation's own name
+pub works-as : (w : Width) (s : Stack) (o : Obeyed) {op k : FixedOp} → k ≡ op → SettlesEither (fixedIn op w) s o → SettlesEither (fixedIn k w) s o
+works-as w s o e = subst (λ (x : FixedOp). SettlesEither (fixedIn x w) s o) (sym e)
 
 -- the rows that several operations share
 module _ (w : Width) (s : List ℕ) (r : Fixed) {t : List ℕ} where
@@ -230,17 +234,16 @@ movedOf PtoOp n s = copied n s
 movedOf PopOp n s = rotated n s
 movedOf XchOp n s = exchanged n s
 
-move-is : (op : MoveOp) (w : Width) (s : List ℕ) (rule : Rule) → moves w (movedOf op (sizeOf w) s) ≡ outcomeOf rule (moveIn op w) s
-move-is PtoOp w s rule = refl
-move-is PopOp w s rule = refl
-move-is XchOp w s rule = refl
-
 pub moved : (op : MoveOp) (w : Width) (s : Stack) (o : Obeyed) {k : MoveOp} {t : List ℕ} → k ≡ op → t ≡ movedOf op (sizeOf w) (bytesIn s)
     → Settles (moves w t) o → SettlesEither (moveIn k w) s o
-moved op w s o ek et h rule = (
-  h .0 ∙ ap (moves w) et ∙ move-is op w (bytesIn s) rule ∙ ap (λ (x : MoveOp). outcomeOf rule (moveIn x w) (bytesIn s)) (sym ek),
-  h .1,
-)
+moved op w s o ek et h =
+    subst (λ (x : MoveOp). SettlesEither (moveIn x w) s o) (sym ek) (λ rule. (row rule op .0, (h .0 ∙ ap (moves w) et ∙ row rule op .1, h .1)))
+  where
+    row : (rule : Rule) (k : MoveOp) → (properOperands (moveIn k w) (bytesIn s) ≡ true)
+        × (moves w (movedOf k (sizeOf w) (bytesIn s)) ≡ outcomeOf rule (moveIn k w) (bytesIn s))
+    row rule PtoOp = (refl, refl)
+    row rule PopOp = (refl, refl)
+    row rule XchOp = (refl, refl)
 
 -- words pushed
 pub move-row : (w : Width) (t : List ℕ) {u : List ℕ} {x : ℕ} → u ≡ t → x ≡ statusOf w u 0 false → left u x ≡ moves w t

@@ -11,6 +11,7 @@ use Rattle.terms.specs.Refusal.{numberOf}
 use Rattle.terms.specs.declared.Rule.{Rule}
 use Rattle.terms.specs.declared.Width.{Width}
 use Rattle.fixed.specs.declared.Fixed.{Fixed}
+use Rattle.fixed.specs.Fixed.{add, sub, mul, muu, div, chs}
 use Rattle.stack.specs.declared.Stack.{Stack}
 use Rattle.stack.specs.Words.{bytesIn}
 use Rattle.codes.specs.declared.FixedOp.{FixedOp}
@@ -21,7 +22,7 @@ use Rattle.chip.specs.declared.State.{State as Held}
 use Rattle.chip.specs.declared.Answer.{Answer as HeldAnswer}
 use Rattle.chip.specs.declared.commands.Obeyed.{Obeyed}
 use Rattle.chip.specs.State.{State, Answer, CommandOutcome, left, settled}
-use Rattle.chip.specs.Commands.{keepsA, losesA, changesA, outcomeOf, properOperands}
+use Rattle.chip.specs.Commands.{wordA, wordB, halfOf, outcomeOf, properOperands}
 use Rattle.chip.specs.Step.{done, refused, commandUnder}
 
 -- a state of its parts
@@ -47,18 +48,21 @@ blockMoved s n stack = held stack (flipped n (s .pending)) (s .status) (s .servi
 abbrev pub Settles : CommandOutcome → Obeyed → Type 0
 Settles out o = (left (bytesIn (o .stack)) (o .answer) ≡ out) × (o .answer < 256)
 
--- the result of a fixed-point operation where its row has it
-abbrev pub laidOf : FixedOp → Width → List ℕ → Fixed → CommandOutcome
-laidOf Add w s r = keepsA w s r
-laidOf Sub w s r = keepsA w s r
-laidOf Mul w s r = losesA w s r
-laidOf Muu w s r = losesA w s r
-laidOf Div w s r = losesA w s r
-laidOf Chs w s r = changesA w s r
+-- the result of a fixed-point operation over half of the number of words, and that on a stack
+abbrev pub resultOf : FixedOp → ℕ → ℕ → ℕ → Fixed
+resultOf Add h b a = add h b a
+resultOf Sub h b a = sub h b a
+resultOf Mul h b a = mul h b a
+resultOf Muu h b a = muu h b a
+resultOf Div h b a = div h b a
+resultOf Chs h b a = chs h a
 
--- accepted, with the same outcome under either rule
+abbrev pub fixedOf : FixedOp → Width → List ℕ → Fixed
+fixedOf op w s = resultOf op (halfOf w) (wordB w s) (wordA w s)
+
+-- accepted, its operands asked for nothing or proper, with the same outcome under either rule
 abbrev pub SettlesEither : Command → Stack → Obeyed → Type 0
-SettlesEither command s o = (rule : Rule) → Settles (outcomeOf rule command (bytesIn s)) o
+SettlesEither command s o = (rule : Rule) → (properOperands command (bytesIn s) ≡ true) × Settles (outcomeOf rule command (bytesIn s)) o
 
 -- with nothing pending: accepted where its operands are proper, else 4
 abbrev pub Obeys : Rule → Command → Stack → Obeyed → Type 0
@@ -79,13 +83,13 @@ halfWord Derived = DerivedCode
 halfWord Unknown = UnknownCode
 
 -- the refusal of a command by its number, 1 to 4
-abbrev pub refusalOf : ℕ → Refusal
-refusalOf n = cond (eqb n 1) UnknownCode (cond (eqb n 2) DerivedCode (cond (eqb n 3) HalfWord Improper))
+abbrev pub refusalNumbered : ℕ → Refusal
+refusalNumbered n = cond (eqb n 1) UnknownCode (cond (eqb n 2) DerivedCode (cond (eqb n 3) HalfWord Improper))
 
 -- the answer to a code that became so
 abbrev pub answerAs : State → ℕ → Obeyed → Answer
 answerAs s code o =
-    cond (ltb (o .answer) 256) (done 0 (settled s (sr code) (left (bytesIn (o .stack)) (o .answer)))) (refused (refusalOf (o .answer / 256)) s)
+    cond (ltb (o .answer) 256) (done 0 (settled s (sr code) (left (bytesIn (o .stack)) (o .answer)))) (refused (refusalNumbered (o .answer / 256)) s)
 
 -- a code on a stack, whatever stands beside it but pending and busy
 abbrev pub Commanded : Rule → Bool → ℕ → Stack → Obeyed → Type 0

@@ -4,7 +4,6 @@ pub mod Event
 pub mod Status
 pub mod Commands
 pub mod Step
-pub mod Events
 pub mod InTurn
 -- how the code holds them
 pub mod Held

@@ -11,14 +11,14 @@ use lib.Dec.{eqb}
 use borrow.Author.Tests.{eq-eqb, ne-eqb}
 use Rattle.terms.specs.declared.Width.{Width}
 use Rattle.terms.specs.declared.Width.the-variants.{Single, Double}
-use Rattle.codes.specs.Command.{Flt, Fix}
+use Rattle.codes.specs.Command.{Command, Flt, Fix}
 use Rattle.codes.specs.Command.{Kind}
 use Rattle.codes.specs.Command.{Known, Derived, Unknown}
 use Rattle.codes.specs.Codes.{decoded}
-use Rattle.codes.specs.Format.{widthOf, fixedCode, operations, operationIn}
+use Rattle.codes.specs.Format.{widthOf, fixedCode}
 
 -- ---- two functions with one list of values for the b numbers from a on agree on these numbers
-abbrev values : (ℕ → Kind) → ℕ → ℕ → List Kind
+abbrev pub values : (ℕ → Kind) → ℕ → ℕ → List Kind
 values f a zero = []
 values f a (suc b) = f a ∷ values f (suc a) b
 
@@ -30,7 +30,7 @@ abbrev others : List Kind → List Kind
 others [] = []
 others (k ∷ l) = l
 
-agree : (f g : ℕ → Kind) (a b : ℕ) → values f a b ≡ values g a b → (n : ℕ) → a ≤ n → n < a + b → f n ≡ g n
+pub agree : (f g : ℕ → Kind) (a b : ℕ) → values f a b ≡ values g a b → (n : ℕ) → a ≤ n → n < a + b → f n ≡ g n
 agree f g a zero e n l h = absurd (omega arith)
 agree f g a (suc b) e n l h =
     ⊎-elim
@@ -39,24 +39,36 @@ agree f g a (suc b) e n l h =
     (eq-or-lt-of-le l)
 
 -- ---- fixed point: a number stands for one operation at both widths
-pub fixed-format : (w : Width) (n : ℕ) → n < 32 → decoded (fixedCode w n) ≡ operationIn operations w n
-unfolding decoded
-fixed-format Single n h = agree (λ (k : ℕ). decoded (fixedCode Single k)) (operationIn operations Single) 0 32 refl n (omega arith) h
-fixed-format Double n h = agree (λ (k : ℕ). decoded (fixedCode Double k)) (operationIn operations Double) 0 32 refl n (omega arith) h
+abbrev fixedKind : Width → ℕ → Kind
+fixedKind w n = decoded (fixedCode w n)
 
-pub operation-is : (w : Width) (n m : ℕ) → n < 32 → n ≡ m → operationIn operations w m ≡ decoded (fixedCode w n)
-operation-is w n m h e = sym (fixed-format w n h ∙ ap (operationIn operations w) e)
+pub operation-is : (f : Width → Command) (w : Width) (n m : ℕ) → Known (f Single) ≡ decoded (fixedCode Single m)
+    → Known (f Double) ≡ decoded (fixedCode Double m)
+    → n ≡ m → Known (f w) ≡ decoded (fixedCode w n)
+operation-is f Single n m s d e = s ∙ ap (fixedKind Single) (sym e)
+operation-is f Double n m s d e = d ∙ ap (fixedKind Double) (sym e)
 
 -- below 17 those are unknown that are none of 0C to 0F, 14 and 16; above 19 all are
+abbrev belowMoves : Width → ℕ → Kind
+belowMoves w n = cond (eqb (n / 4) 3 || eqb n 0x14 || eqb n 0x16) (fixedKind w n) Unknown
+
+unknown-low : (w : Width) → values (fixedKind w) 0 0x17 ≡ values (belowMoves w) 0 0x17
+unfolding decoded
+unknown-low Single = refl
+unknown-low Double = refl
+
+unknown-high : (w : Width) → values (fixedKind w) 0x1a 6 ≡ values (λ (k : ℕ). Unknown) 0x1a 6
+unfolding decoded
+unknown-high Single = refl
+unknown-high Double = refl
+
 pub fixed-low : (w : Width) (n : ℕ) → n < 0x17 → (n / 4 ≡ 3 → ⊥) → (n ≡ 0x14 → ⊥) → (n ≡ 0x16 → ⊥) → Unknown ≡ decoded (fixedCode w n)
 fixed-low w n h a b c =
-    sym (fixed-format w n (omega arith)
-    ∙ agree (operationIn operations w) (λ (k : ℕ). cond (eqb (k / 4) 3 || eqb k 0x14 || eqb k 0x16) (operationIn operations w k) Unknown) 0 0x17 refl n
-    (omega arith) h
+    sym (agree (fixedKind w) (belowMoves w) 0 0x17 (unknown-low w) n (omega arith) h
     ∙ rw (ne-eqb (n / 4) 3 a, ne-eqb n 0x14 b, ne-eqb n 0x16 c))
 
 pub fixed-high : (w : Width) (n : ℕ) → n < 32 → 0x1a ≤ n → Unknown ≡ decoded (fixedCode w n)
-fixed-high w n h l = sym (fixed-format w n h ∙ agree (operationIn operations w) (λ (k : ℕ). Unknown) 0x1a 6 refl n l h)
+fixed-high w n h l = sym (agree (fixedKind w) (λ (k : ℕ). Unknown) 0x1a 6 (unknown-high w) n l h)
 
 -- ---- floats
 -- 02 to 0B are derived functions, 0C to 0F unknown

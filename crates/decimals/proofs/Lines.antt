@@ -21,7 +21,7 @@ use Rattle.decimals.specs.declared.line.End.{End}
 use Rattle.decimals.specs.declared.short.Short.the-variants.{Nothing}
 use Rattle.decimals.specs.declared.read.Reading.{Reading}
 use Rattle.decimals.specs.declared.read.Reading.the-variants.{Exact, Rounded, Refused, Wrong}
-use Rattle.decimals.specs.Line.{improperMark, briefOf, wordIn, readingIn, lineBy, lineOf, EndOf, Tellable}
+use Rattle.decimals.specs.Line.{improperMark, briefOf, wordIn, readingIn, lineBy, answerLine, EndOf, Tellable}
 use Rattle.decimals.specs.declared.read.Fault.the-variants.{ManyDigits}
 use Rattle.decimals.specs.Read.{Placed, readOf}
 use Rattle.listing.specs.Hex.{hexOf}
@@ -98,6 +98,6 @@ tellable n (Rounded w) h p = h
 tellable n (Refused r) h p = p
 tellable n (Wrong fault place) h p = p
 
-pub line-is : (rule : Rule) (exact : Bool) (text : List ℕ) (h : Hex) → h ≡ wordIn text → lineBy rule exact text h ≡ lineOf rule exact text
-unfolding lineOf
+pub line-is : (rule : Rule) (exact : Bool) (text : List ℕ) (h : Hex) → h ≡ wordIn text → lineBy rule exact text h ≡ answerLine rule exact text
+unfolding answerLine
 line-is rule exact text h e = ap (lineBy rule exact text) e

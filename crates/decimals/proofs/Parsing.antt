@@ -7,8 +7,9 @@ use native.Mathlib.Omega.{arith}
 use borrow.Author.Tests.{lt-ltb, le-ltb, eq-eqb, ne-eqb}
 use lib.Dec.{eqb}
 use lib.ListN.{length, drop, getD}
-use Rattle.decimals.specs.declared.read.Fault.the-variants.{NoPoint}
-use Rattle.decimals.specs.declared.read.Parsed.the-variants.{Wrong}
+use Rattle.decimals.specs.declared.read.Fault.the-variants.{NoPoint, NoEnd}
+use Rattle.decimals.specs.declared.read.Parsed.the-variants.{Decimal, Wrong}
+use Rattle.decimals.specs.declared.read.Scanned.the-variants.{Digits}
 use Rattle.decimals.specs.Exact.{point, minus}
 use Rattle.decimals.specs.Read.{scanOf, placesFrom, pointFrom, wholeFrom, hasMinus, parseOf}
 
@@ -23,6 +24,14 @@ first-minus (c ∷ l) n = refl
 pub minus-some : (l : List ℕ) → hasMinus l ≡ true → 1 ≤ length l
 minus-some [] e = let z : _≡_ {A = ℕ} 0 1 = cc in absurd (omega arith)
 minus-some (c ∷ l) e = omega arith
+
+-- some places, and not too many: something stands behind them, or nothing does
+module _ (n : ℕ) (neg : Bool) (whole i value count : ℕ) (some : count ≡ 0 → ⊥) (few : count ≤ 27) where
+  pub not-ended : i + count < n → Wrong NoEnd (i + count) ≡ placesFrom n neg whole i (Digits value count)
+  not-ended h = rw (ne-eqb count 0 some, le-ltb 27 count few, lt-ltb (i + count) n h)
+
+  pub ended : n ≤ i + count → Decimal neg whole value count ≡ placesFrom n neg whole i (Digits value count)
+  ended h = rw (ne-eqb count 0 some, le-ltb 27 count few, le-ltb (i + count) n h)
 
 module _ (neg : Bool) (whole i : ℕ) (l : List ℕ) where
   pub no-text : length l ≤ i → Wrong NoPoint i ≡ pointFrom neg whole i l

@@ -117,9 +117,9 @@ abbrev pub lineBy : Rule → Bool → List ℕ → Hex → List ℕ
 lineBy rule exact text (Number w) = wordLine rule exact w
 lineBy rule exact text Unread = readLine rule text (readingIn rule text)
 
-unfoldable pub lineOf : Rule → Bool → List ℕ → List ℕ
+unfoldable pub answerLine : Rule → Bool → List ℕ → List ℕ
 unfolding digitsTo
-lineOf rule exact text = lineBy rule exact text (wordIn text)
+answerLine rule exact text = lineBy rule exact text (wordIn text)
 
 -- ---- as the program holds them: the ends of lines in one table, and one of them as a part of it
 abbrev pub ends : List ℕ

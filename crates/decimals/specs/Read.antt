@@ -6,6 +6,8 @@ use mathlib.Core.List.{List, [], _∷_}
 use lib.Dec.{leb, ltb, eqb}
 use lib.ListN.{length, drop, getD}
 use Rattle.terms.specs.declared.Rule.{Rule}
+use Rattle.terms.specs.declared.Rule.the-variants.{Cut, Nearest}
+use Rattle.listing.specs.Options.{sameText, nearestWord}
 use Rattle.decimals.specs.declared.bring.Brought.{Brought}
 use Rattle.decimals.specs.declared.bring.Brought.the-variants.{Exact as Is, Rounded as Near, Refused as Turned}
 use Rattle.decimals.specs.declared.read.Fault.{Fault}
@@ -40,10 +42,10 @@ scanFrom value count (c ∷ l) =
 abbrev pub scanOf : List ℕ → Scanned
 scanOf l = scanFrom 0 0 l
 
--- what a caller knows of it
-abbrev pub Scans : List ℕ → Scanned → Type 0
-Scans l (Digits value count) = (value < 10 ^ count) × (value < runLimit) × (count ≤ length l)
-Scans l (TooMany place) = place ≤ length l
+-- what a caller knows of it, of a text of n characters
+abbrev pub Scans : ℕ → Scanned → Type 0
+Scans n (Digits value count) = (value < 10 ^ count) × (value < runLimit) × (count ≤ n)
+Scans n (TooMany place) = place ≤ n
 
 -- the places behind a point at i, of a text of n characters: digits to the end
 abbrev pub placesFrom : ℕ → Bool → ℕ → ℕ → Scanned → Parsed
@@ -97,3 +99,7 @@ Placed (Exact w) = Unit
 Placed (Rounded w) = Unit
 Placed (Refused r) = Unit
 Placed (Wrong fault place) = place < 2 ^ 63
+
+-- the rule that a word names: `nearest`, else the cut
+abbrev pub ruleNamed : List ℕ → Rule
+ruleNamed word = cond (sameText word nearestWord) Nearest Cut

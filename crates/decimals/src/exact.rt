@@ -64,17 +64,18 @@ fn add_places(out: &mut [u8], place: usize, r: Rest, count: usize) -> usize
     requires { ⌜ RestFits r × (place + count ≤ length (now out)) ⌝ }
     ensures { λ n. ⌜ Adds (placesText count (restOf r)) (now (out .entry)) (now (out .exit)) place n ⌝ }
 {
-    if count == 0 {
-        return place;
+    let mut left = r;
+    let mut i = 0;
+    while i < count {
+        let t = next_digit(left);
+        out[place + i] = digit(t.digit);
+        i += 1;
+        left = t.rest;
+        if is_nothing(left) {
+            return place + i;
+        }
     }
-    let t = next_digit(r);
-    let first = [digit(t.digit)];
-    let next = add(out, place, &first);
-    let left = t.rest;
-    if is_nothing(left) {
-        return next;
-    }
-    add_places(out, next, left, count - 1)
+    place + i
 }
 
 // Whether a magnitude is zero.

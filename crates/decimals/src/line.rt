@@ -34,7 +34,7 @@ ghost use Rattle.decimals.specs.Magnitude.{sizeIn, Fits};
 ghost use Rattle.decimals.specs.Exact.{minus};
 ghost use Rattle.decimals.specs.Short.{Brief};
 ghost use Rattle.decimals.specs.Line.{headText, decimalText, ruleMark, markOf, briefOf, valueText, valueMark};
-ghost use Rattle.decimals.specs.Line.{wordLine, faultText, Tellable, readLine, wordIn, readingIn, lineOf};
+ghost use Rattle.decimals.specs.Line.{wordLine, faultText, Tellable, readLine, wordIn, readingIn, answerLine};
 ghost use Rattle.decimals.specs.Line.{endIn, EndFits, EndOf};
 
 // Room for the line of any text.
@@ -268,7 +268,7 @@ fn reading_in(rule: Rule, text: &[u8]) -> Reading
 // The line of a text, at the front of the lent one: the answer says how many bytes.
 pub fn tell(rule: Rule, exact: bool, text: &[u8], out: &mut [u8; LINE_ROOM]) -> usize
     ensures { λ r. ⌜ Counts r (now (out .exit)) ⌝ }
-    ensures { λ r. ⌜ take r (now (out .exit)) ≡ lineOf rule exact (now (text .entry)) ⌝ }
+    ensures { λ r. ⌜ take r (now (out .exit)) ≡ answerLine rule exact (now (text .entry)) ⌝ }
 {
     let hex = word_in(text);
     match hex {

@@ -5,10 +5,10 @@ use crate::bring::bring;
 use terms::Refusal;
 use terms::Rule;
 ghost use mathlib.Core.Path.{_≡_};
-ghost use Prim.Native.Nat.{_+_, _^_, _≤_, _<_};
+ghost use Prim.Native.Nat.{_+_, _-_, _^_, _≤_, _<_};
 ghost use lib.ListN.{length, drop};
 ghost use Rattle.decimals.specs.Read.{isDigit, runLimit, scanOf, Scans, placesFrom, pointFrom, wholeFrom};
-ghost use Rattle.decimals.specs.Read.{hasMinus, parseOf, Sound, answered, Placed, readOf};
+ghost use Rattle.decimals.specs.Read.{hasMinus, parseOf, Sound, answered, Placed, readOf, ruleNamed};
 
 // A number below this may have one digit more.
 const ROOM: u64 = 1_000_000_000_000_000_000;
@@ -67,7 +67,7 @@ fn is_digit(c: u8) -> bool
 
 // The digits at the front of a text.
 pub fn scan(text: &[u8]) -> Scanned
-    ensures { λ r. ⌜ (r ≡ scanOf (now (text .entry))) × Scans (now (text .entry)) r ⌝ }
+    ensures { λ r. ⌜ (r ≡ scanOf (now (text .entry))) × Scans (length (now (text .entry))) r ⌝ }
 {
     let mut value: u64 = 0;
     let mut i = 0;
@@ -83,6 +83,14 @@ pub fn scan(text: &[u8]) -> Scanned
         i += 1;
     }
     Scanned::Digits { value, count: i }
+}
+
+// The digits at a place.
+fn scan_at(text: &[u8], at: usize) -> Scanned
+    requires { ⌜ at ≤ length (now text) ⌝ }
+    ensures { λ r. ⌜ (r ≡ scanOf (drop at (now (text .entry)))) × Scans (length (now (text .entry)) - at) r ⌝ }
+{
+    scan(&text[at..])
 }
 
 // The decimal of digits behind the point from a place on, of a text of so many characters.
@@ -113,7 +121,7 @@ fn places_at(text: &[u8], neg: bool, whole: u64, at: usize) -> Parsed
     ensures { λ r. ⌜ r ≡ placesFrom (length (now (text .entry))) neg whole at (scanOf (drop at (now (text .entry)))) ⌝ }
     ensures { λ r. ⌜ Sound r ⌝ }
 {
-    let scanned = scan(&text[at..]);
+    let scanned = scan_at(text, at);
     match scanned {
         Scanned::Digits { value, count } => places_of(text.len(), neg, whole, at, value, count),
         Scanned::TooMany(place) => Parsed::Wrong(Fault::ManyDigits, at + place),
@@ -150,7 +158,7 @@ fn whole_at(text: &[u8], neg: bool, at: usize) -> Parsed
     requires { ⌜ at ≤ length (now text) ⌝ }
     ensures { λ r. ⌜ (r ≡ wholeFrom neg at (now (text .entry)) (scanOf (drop at (now (text .entry))))) × Sound r ⌝ }
 {
-    let scanned = scan(&text[at..]);
+    let scanned = scan_at(text, at);
     match scanned {
         Scanned::Digits { value, count } => whole_of(text, neg, at, value, count),
         Scanned::TooMany(place) => Parsed::Wrong(Fault::ManyDigits, at + place),
@@ -202,4 +210,14 @@ pub fn read(rule: Rule, text: &[u8]) -> Reading
         } => answer(bring(rule, neg, whole, fraction, places)),
         Parsed::Wrong(fault, place) => Reading::Wrong(fault, place),
     }
+}
+
+// The rule that a word names: `nearest`, else the cut.
+pub fn rule_named(word: &[u8]) -> Rule
+    ensures { λ r. ⌜ r ≡ ruleNamed (now (word .entry)) ⌝ }
+{
+    if check::same(word, b"nearest") {
+        return Rule::Nearest;
+    }
+    Rule::Cut
 }

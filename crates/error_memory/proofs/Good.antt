@@ -1,28 +1,34 @@
 -- What stands for a chip with its memory stands for one after every event: a command that leaves an error has a code, and bits joined are bits of the
 -- same places. Assumes nothing.
-use mathlib.Core.Path.{_≡_, refl, ap, ap₂, _∙_}
+use mathlib.Core.Path.{_≡_, refl, sym, ap, ap₂, _∙_}
 use mathlib.Core.Logic.{_⊎_, inl, inr, ⊎-elim}
 use mathlib.Core.Bool.{Bool, true, false, cond, not, _&&_, Bool·beq, false≢true}
-use mathlib.Core.List.{List, [], _∷_}
+use mathlib.Core.List.{List}
 use Prim.Native.Nat.{ℕ, _+_, _*_, _/_, _%_, _≤_, _<_, max}
 use native.Mathlib.Omega.{arith}
 use lib.Bits.{bitOr, or-lt, or-step, or-add-and, and-le-r}
 use lib.Dec.{eqb, ltb, leb, lit≤}
 use borrow.Author.Tests.{lt-ltb, le-ltb, ltb-false, eq-eqb, ne-eqb, eqb-true, eqb-false, not-true, lt-leb, leb-true, leb-false}
-use Rattle.terms.specs.declared.Refusal.the-variants.{Done}
+use Rattle.terms.specs.declared.Refusal.{Refusal}
+use Rattle.terms.specs.declared.Refusal.the-variants.{Done, UnknownCode, DerivedCode, HalfWord, Improper, NoSuchKind, CutShort, BadLength, NoRoom}
+use Rattle.terms.specs.declared.Refusal.the-variants.{InputTooLong, NotFinite, TooLarge, TooSmall, BadState, BadReport, MinusZero, BadMode, BadRule}
+use Rattle.terms.specs.declared.Refusal.the-variants.{PartEntry}
 use Rattle.terms.specs.Refusal.{numberOf}
+use Rattle.terms.specs.declared.Rule.{Rule}
 use Rattle.terms.specs.Settings.{Settings}
-use Rattle.chip.specs.State.{State}
+use Rattle.codes.specs.Command.{Kind, Known, Derived, Unknown, Nop}
+use Rattle.codes.specs.Codes.{decoded}
+use Rattle.chip.specs.State.{State, Answer}
 use Rattle.chip.specs.Event.{Event as ChipEvent}
 use Rattle.chip.specs.Event.{Push, Pop, Command, Status, Reset, Acknowledge}
+use Rattle.chip.specs.Commands.{outcomeOf}
 use Rattle.chip.specs.Step.{commandUnder, answerTo}
+use Rattle.chip.proofs.Accepted.{accepted as accepted-by}
 use Rattle.chip.proofs.Ready.{Ready, Fair, push-fair, pop-fair, read-fair, reset-fair, acknowledge-fair, command-fair}
 use Rattle.error_memory.specs.declared.Memory.{Memory}
 use Rattle.error_memory.specs.Event.{Event}
 use Rattle.error_memory.specs.Event.{Chip, Recall, Forget}
 use Rattle.error_memory.specs.Memory.{emptyMemory, errorsOf, remembered, isMemory, accepted, Card, CardAnswer, cardWith, keptAfter, eventIn}
-use Rattle.error_memory.specs.History.{afterAll}
-use Rattle.error_memory.proofs.History.{done-of, nop-clear}
 use Rattle.error_memory.proofs.Kept.{either-way}
 
 -- ---- which two bytes stand for a memory
@@ -124,6 +130,49 @@ module _ (m : Memory) (code status : ℕ) where
       by true false = omega arith
       by false y = h
 
+-- ---- a command that leaves an error is not NOP, so that its code is not 0
+-- the refusal whose number is 0
+done-of : (r : Refusal) → numberOf r ≡ 0 → r ≡ Done
+done-of Done e = refl
+done-of UnknownCode e = let y : ⊥ = omega arith in absurd y
+done-of DerivedCode e = let y : ⊥ = omega arith in absurd y
+done-of HalfWord e = let y : ⊥ = omega arith in absurd y
+done-of Improper e = let y : ⊥ = omega arith in absurd y
+done-of NoSuchKind e = let y : ⊥ = omega arith in absurd y
+done-of CutShort e = let y : ⊥ = omega arith in absurd y
+done-of BadLength e = let y : ⊥ = omega arith in absurd y
+done-of NoRoom e = let y : ⊥ = omega arith in absurd y
+done-of InputTooLong e = let y : ⊥ = omega arith in absurd y
+done-of NotFinite e = let y : ⊥ = omega arith in absurd y
+done-of TooLarge e = let y : ⊥ = omega arith in absurd y
+done-of TooSmall e = let y : ⊥ = omega arith in absurd y
+done-of BadState e = let y : ⊥ = omega arith in absurd y
+done-of BadReport e = let y : ⊥ = omega arith in absurd y
+done-of MinusZero e = let y : ⊥ = omega arith in absurd y
+done-of BadMode e = let y : ⊥ = omega arith in absurd y
+done-of BadRule e = let y : ⊥ = omega arith in absurd y
+done-of PartEntry e = let y : ⊥ = omega arith in absurd y
+
+-- the status that a code's command leaves
+abbrev statusBy : Rule → Kind → List ℕ → ℕ
+statusBy rule (Known k) s = outcomeOf rule k s .status
+statusBy rule Derived s = 0
+statusBy rule Unknown s = 0
+
+code-0 : decoded 0 ≡ Known Nop
+unfolding decoded
+code-0 = refl
+
+nop-clear : (rule : Rule) (s : State) (code : ℕ) → commandUnder rule s code .refusal ≡ Done → code % 128 ≡ 0 → commandUnder rule s code .state .status ≡ 0
+nop-clear rule s code d z =
+    let a = accepted-by rule s code d in
+    ap (λ (x : Answer). x .state .status) (a .answer)
+    ∙ ap (λ (k : Kind). statusBy rule k (s .stack)) (sym (a .known) ∙ ap decoded z ∙ code-0)
+
+pub error-coded : (rule : Rule) (s : State) (code : ℕ) → accepted (commandUnder rule s code) ≡ true
+    → (errorsOf (commandUnder rule s code .state .status) ≡ 0 → ⊥) → code % 128 ≡ 0 → ⊥
+error-coded rule s code e some z = some (ap errorsOf (nop-clear rule s code (done-of (commandUnder rule s code .refusal) (eqb-true _ _ e)) z))
+
 -- ---- every event
 -- of the chip
 chip-good : (on : Settings) (s : State) (m : Memory) (e : ChipEvent) → GoodMemory m → GoodMemory (keptAfter m e (answerTo on s e))
@@ -134,7 +183,7 @@ chip-good on s m (Command code) h = by (accepted (commandUnder (on .rule) s code
     by : (x : Bool) → accepted (commandUnder (on .rule) s code) ≡ x → GoodMemory (cond x (remembered m code (commandUnder (on .rule) s code .state .status)) m)
     by true e = record {
       stands = remembered-stands m code (commandUnder (on .rule) s code .state .status) (h .stands)
-          (λ some z. some (ap errorsOf (nop-clear (on .rule) s code (done-of (commandUnder (on .rule) s code .refusal) (eqb-true _ _ e)) z)));
+          (error-coded (on .rule) s code e);
       code-byte = remembered-byte m code (commandUnder (on .rule) s code .state .status) (h .code-byte);
     }
     by false e = h

@@ -2,7 +2,6 @@
 use mathlib.Core.Path.{_≡_, refl, sym, ap, ap₂, subst, _∙_}
 use mathlib.Core.Logic.{⊎-elim}
 use mathlib.Core.Bool.{Bool, true, false, cond}
-use mathlib.Core.List.{List, [], _∷_, map}
 use Prim.Native.Nat.{ℕ, _/_, _%_}
 use borrow.Author.Tests.{ne-eqb, eqb-true}
 use lib.Bits.{or-zero-r}
@@ -15,13 +14,11 @@ use Rattle.chip.specs.Event.{Event as ChipEvent}
 use Rattle.chip.specs.Event.{Push, Pop, Command, Status, Reset, Acknowledge}
 use Rattle.chip.specs.State.{busy}
 use Rattle.chip.specs.Step.{answerTo}
-use Rattle.chip.specs.Events.{afterEvents}
 use Rattle.chip.proofs.Kept.{event-keeps}
 use Rattle.error_memory.specs.declared.Memory.{Memory}
 use Rattle.error_memory.specs.Event.{Event}
 use Rattle.error_memory.specs.Event.{Chip, Recall, Forget}
-use Rattle.error_memory.specs.Memory.{emptyMemory, Card, CardAnswer, cardWith, remembered, keptBy, around, unlessBusy, eventIn}
-use Rattle.error_memory.specs.History.{afterAll}
+use Rattle.error_memory.specs.Memory.{emptyMemory, Card, CardAnswer, cardWith, remembered, keptBy, cardAnswer, unlessBusy, eventIn}
 
 -- whether 13 turns it away or not
 pub either-way : (P : CardAnswer → Type 0) (c : Card) (a : CardAnswer) → P (record { refusal = BadState; byte = 0; card = c }) → P a → P (unlessBusy c a)
@@ -39,11 +36,6 @@ settings-stay c Forget =
     either-way (λ (a : CardAnswer). a .card .on ≡ c .on) c (record { refusal = Done; byte = 0; card = cardWith (c .on) (c .chip) emptyMemory }) refl refl
 
 -- ---- the chip does not look at the memory
--- events of the chip leave the chip that they leave without a memory
-pub chip-alone : (c : Card) (es : List ChipEvent) → afterAll c (map Chip es) .chip ≡ afterEvents (c .on) (c .chip) es
-chip-alone c [] = refl
-chip-alone c (e ∷ es) = chip-alone (eventIn c (Chip e) .card) es
-
 -- two answers to an event: the refusal, the chip after, and but for the memory read the byte
 pub record Alike (e : Event) (a b : CardAnswer) : Type 0 where
   pub refusal-same : a .refusal ≡ b .refusal
@@ -76,12 +68,6 @@ event-alike c d e k h =
     subst (λ (on : Settings). Alike e (eventIn c e) (eventIn (cardWith on (d .chip) (d .memory)) e)) k
     (subst (λ (s : State). Alike e (eventIn c e) (eventIn (cardWith (c .on) s (d .memory)) e)) h (on-one-chip (c .on) (c .chip) (c .memory) (d .memory) e))
 
--- events in turn
-pub same-chip : (c d : Card) (es : List Event) → c .on ≡ d .on → c .chip ≡ d .chip → afterAll c es .chip ≡ afterAll d es .chip
-same-chip c d [] k h = h
-same-chip c d (e ∷ es) k h =
-    same-chip (eventIn c e .card) (eventIn d e .card) es (settings-stay c e ∙ k ∙ sym (settings-stay d e)) (event-alike c d e k h .chip-same)
-
 -- ---- a refused event
 -- of the chip, it leaves the memory
 refused-memory : (m : Memory) (e : ChipEvent) (n status : ℕ) → (n ≡ 0 → ⊥) → keptBy m e n status ≡ m
@@ -100,8 +86,8 @@ Keeps c a = (numberOf (a .refusal) ≡ 0 → ⊥) → a ≡ record { refusal = a
 pub event-keeps-card : (c : Card) (e : Event) → Keeps c (eventIn c e)
 event-keeps-card c (Chip e) z =
     let a = answerTo (c .on) (c .chip) e in
-    ap (λ (m : Memory). around (c .on) m a) (refused-memory (c .memory) e (numberOf (a .refusal)) (a .state .status) z)
-    ∙ ⊎-elim (λ d. absurd (z (ap numberOf d))) (λ k. ap (around (c .on) (c .memory)) k) (event-keeps (c .on) (c .chip) e)
+    ap (λ (m : Memory). cardAnswer (c .on) m a) (refused-memory (c .memory) e (numberOf (a .refusal)) (a .state .status) z)
+    ∙ ⊎-elim (λ d. absurd (z (ap numberOf d))) (λ k. ap (cardAnswer (c .on) (c .memory)) k) (event-keeps (c .on) (c .chip) e)
 event-keeps-card c Recall z = either-way (Keeps c) c (record { refusal = Done; byte = c .memory .bits; card = c }) (λ y. refl) (λ y. absurd (y refl)) z
 event-keeps-card c Forget z =
     either-way (Keeps c) c (record { refusal = Done; byte = 0; card = cardWith (c .on) (c .chip) emptyMemory }) (λ y. refl) (λ y. absurd (y refl)) z

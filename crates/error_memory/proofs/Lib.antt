@@ -1,4 +1,3 @@
 -- The laws of the error memory.
-pub mod History
 pub mod Kept
 pub mod Good

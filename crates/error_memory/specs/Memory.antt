@@ -70,12 +70,12 @@ abbrev pub accepted : Answer → Bool
 accepted a = eqb (numberOf (a .refusal)) 0
 
 -- an answer of the chip's, with what is remembered after it
-abbrev pub around : Settings → Memory → Answer → CardAnswer
-around on m a = record { refusal = a .refusal; byte = a .byte; card = cardWith on (a .state) m }
+abbrev pub cardAnswer : Settings → Memory → Answer → CardAnswer
+cardAnswer on m a = record { refusal = a .refusal; byte = a .byte; card = cardWith on (a .state) m }
 
 -- an event of the chip, answered as by the chip alone
 abbrev pub answerWith : Settings → Memory → ChipEvent → Answer → CardAnswer
-answerWith on m e a = around on (keptAfter m e a) a
+answerWith on m e a = cardAnswer on (keptAfter m e a) a
 
 -- 13 first; the memory read hands out its bits, the memory cleared touches nothing else
 abbrev pub unlessBusy : Card → CardAnswer → CardAnswer

@@ -1,7 +1,6 @@
 // The error memory round a chip, as document 02 asks for it: the error bits of every status that commands left since
 // reset or clearing, joined, and the code of the first command that left any. The chip knows nothing of it: an event is
 // the chip's, and what it leaves remembered follows from the chip's answer.
-use chip::State;
 ghost use mathlib.Core.Path.{_≡_};
 ghost use Prim.Native.Nat.{_<_};
 ghost use Rattle.error_memory.specs.Memory.{emptyMemory, errorsOf, firstCode, remembered, isMemory};
@@ -14,7 +13,7 @@ pub struct Memory {
 
 // A chip and its memory, as they stand on the card. The settings of a call, mode and rule, go beside it.
 pub struct Card {
-    pub chip: State,
+    pub chip: chip::State,
     pub memory: Memory,
 }
 

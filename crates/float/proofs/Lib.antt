@@ -1,8 +1,3 @@
 -- What is true of float words: of powers and of every operation. Each module has a folder with its laws. Assumes nothing.
 pub mod Powers
-pub mod Order
 pub mod Results
-pub mod Steps
-pub mod Moved
-pub mod Bench
-pub mod NearBench

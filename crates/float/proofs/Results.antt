@@ -2,24 +2,27 @@
 use mathlib.Core.Path.{_≡_, refl, sym, ap, _∙_, subst}
 use mathlib.Core.Logic.{_⊎_, inl, inr}
 use mathlib.Core.Bool.{Bool, true, false, cond, _||_}
-use Prim.Native.Nat.{ℕ, _*_, _^_, _≤_, _<_, zero-le}
+use Prim.Native.Nat.{ℕ, _+_, _*_, _^_, _≤_, _<_, zero-le}
 use native.Mathlib.Nat.{le-refl, le-trans, le-of-eq, le-of-lt, lt-of-lt-of-le, eq-or-lt-of-le, eq-zero-or-pos, mul-one, one-mul, zero-mul, mul-pos}
-use native.Mathlib.Nat.{mul-le-mul-left, mul-le-mul-right, le-div-iff-mul-le, mod-lt}
+use native.Mathlib.Nat.{mul-le-mul-left, mul-le-mul-right, mul-comm, le-div-iff-mul-le, mod-lt, pos-of-ne-zero}
 use native.Mathlib.Omega.{arith}
-use borrow.Author.Tests.{le-leb, ltb-true, eqb-false}
+use borrow.Author.Tests.{le-leb, ltb-true, eqb-false, ne-eqb}
 use lib.Dec.{ltb, leb, eqb, lit<, lit≤}
 use lib.IntN.{ℤ, natAbs}
 use lib.Pow.{pow-pos, pow-mono}
 use Rattle.float.specs.declared.Flagged.{Flagged}
-use Rattle.float.specs.Word.{biased, mantissa, size88, FloatWord}
+use Rattle.float.specs.Word.{negative, biased, mantissa, size88, proper, FloatWord}
 use Rattle.terms.specs.declared.Rule.{Rule}
 use Rattle.terms.specs.declared.Rule.the-variants.{Cut}
 use Rattle.float.specs.Cut.{lost, kept, whole, mantissaOf, digitsOf, packed, stored, zeroWord, below0, cutSize, cut}
 use Rattle.float.specs.Float.{exactSum, exactDifference, exactProduct, dividend, divisor, add, sub, mul, div, Result}
 use Rattle.float.specs.Convert.{integer, fltd, flts}
+use Rattle.float.specs.Root.{wholeRoot, rootHalves, radicand, sqrt}
 use Rattle.float.proofs.cut.Pair.{whole-ge, kept-le, kept-ge, cut-zero}
 use Rattle.float.proofs.cut.Values.{packed-mantissa, packed-lt, error-lt, cut-stored}
-use Rattle.float.proofs.Order.{size-pos, div-cut}
+use Rattle.float.proofs.word.Proper.{proper-norm}
+use Rattle.float.proofs.root.WholeRoot.{is-root, root-ge, halves-near}
+use Rattle.float.proofs.root.RootCut.{root-negative, root-cut, root-none}
 
 -- ---- a cut
 pub kept-big : (r : Rule) (n d : ℕ) → 0 < d → 8388608 * d ≤ n → 8388608 ≤ kept r n d
@@ -94,6 +97,14 @@ size-le w =
     (mul-le-mul-left 16777216 (pow-mono {i = biased w} {j = 127} (omega arith)))))
     (lit≤ {m = 8388608 * (16777216 * 2 ^ 127)} {n = 2 ^ 200} tt)
 
+pub size-pos : (w : ℕ) → (mantissa w ≡ 0 → ⊥) → 0 < size88 w
+unfolding size88
+size-pos w nz = mul-pos (pos-of-ne-zero nz) (pow-pos (biased w))
+
+pub div-cut : (r : Rule) (b a : ℕ) → (mantissa a ≡ 0 → ⊥) → div r b a ≡ cut r (dividend b a) (divisor a)
+unfolding div
+div-cut r b a nz = rw (ne-eqb (mantissa a) 0 nz)
+
 pub div-result : (r : Rule) (b a : ℕ) → FloatWord b → Result (div r b a)
 div-result r b a B = go (eqb (mantissa a) 0) refl
   where
@@ -110,3 +121,31 @@ fltd-result r a = exact-result r (integer (2 ^ 31) a) 1 (le-refl 1) (lit≤ {m =
 pub flts-result : (a : ℕ) → Result (flts a)
 unfolding flts
 flts-result a = exact-result Cut (integer (2 ^ 15) a) 1 (le-refl 1) (lit≤ {m = 8388608 * 1} {n = 2 ^ 200} tt)
+
+-- ---- the root
+pub size-ge : (w : ℕ) → proper w ≡ true → 0 < size88 w → 2 ^ 23 ≤ size88 w
+unfolding size88
+size-ge w p h = go (proper-norm w p)
+  where
+    go : (mantissa w ≡ 0) ⊎ (8388608 ≤ mantissa w) → 8388608 ≤ mantissa w * 2 ^ biased w
+    go (inl z) = let e : mantissa w * 2 ^ biased w ≡ 0 = ap (λ (x : ℕ). x * 2 ^ biased w) z ∙ zero-mul (2 ^ biased w) in absurd (omega arith)
+    go (inr l) = le-trans l (le-trans (le-of-eq (sym (mul-one (mantissa w)))) (mul-le-mul-left (mantissa w) (pow-pos (biased w))))
+
+pub root-low : (a : ℕ) → 2 ^ 23 ≤ size88 a → 2 ^ (23 + 144) * 2 ≤ rootHalves (radicand a)
+root-low a h =
+    let N = radicand a in
+    let s : 2 ^ 167 ≤ wholeRoot N = root-ge N (wholeRoot N) (2 ^ 167) (is-root N) (le-trans (lit≤ {m = 2 ^ 167 * 2 ^ 167} {n = 2 ^ 23 * 2 ^ 312} tt)
+    (mul-le-mul-right (2 ^ 312) h)) in
+    let c = halves-near N .0 in
+    le-trans (le-of-eq (mul-comm (2 ^ 167) 2)) (le-trans (mul-le-mul-left 2 s) c)
+
+pub root-result : (r : Rule) (a : ℕ) → FloatWord a → Result (sqrt r a)
+root-result r a A = go (negative a) refl (eq-zero-or-pos (size88 a))
+  where
+    go : (s : Bool) → negative a ≡ s → (size88 a ≡ 0) ⊎ (0 < size88 a) → Result (sqrt r a)
+    go true s z = subst (λ (x : Flagged). Result x) (root-negative r a s) (record { word = A; small = lit< tt })
+    go false s (inl z) = subst (λ (x : Flagged). Result x) (sym (root-none r a s z)) zero-result
+    go false s (inr l) =
+        subst (λ (x : Flagged). Result x) (sym (root-cut r a s))
+        (cut-result r false (rootHalves (radicand a)) 2 (lit< tt) (inr (le-trans (lit≤ {m = 8388608 * 2} {n = 2 ^ (23 + 144) * 2} tt)
+        (root-low a (size-ge a (A .is-proper) l)))))

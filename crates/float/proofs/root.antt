@@ -1,6 +1,4 @@
--- SQRT: whole roots, the means that find them, and the root under either rule.
+-- SQRT: whole roots, the means that find them, and the cut of a root.
 pub mod WholeRoot
 pub mod Means
 pub mod RootCut
-pub mod NearRoot
-pub mod RootExact

@@ -1,4 +1,3 @@
--- FADD and FSUB: the addends, their sum as the program forms it, and the theorem of Sterbenz.
+-- FADD and FSUB: the addends, and their sum as the program forms it.
 pub mod SumStands
 pub mod SumCut
-pub mod Close

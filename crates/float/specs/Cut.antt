@@ -1,31 +1,16 @@
 -- The cut: an exact value, a fraction of whole numbers, brought to a float word and an error. Definitions only. Assumes nothing.
-use Prim.Native.Nat.{ℕ, _+_, _-_, _*_, _/_, _%_, _^_, _≤_, _<_}
+use Prim.Native.Nat.{ℕ, _+_, _-_, _*_, _/_, _%_, _^_}
 use mathlib.Core.Bool.{Bool, true, false, cond}
 use lib.Dec.{leb, ltb}
-use lib.IntN.{ℤ, pos, negsuc, natAbs, _-ℤ_}
-use lib.Ieee.{size, up, down}
+use lib.IntN.{ℤ, pos, negsuc, natAbs}
+use lib.Ieee.{size}
 use lib.Ieee.Nearest.{closest}
 use Rattle.terms.specs.declared.Rule.{Rule}
 use Rattle.terms.specs.declared.Rule.the-variants.{Cut, Nearest}
 use Rattle.terms.specs.Errors.{overflow, underflow}
 use Rattle.float.specs.declared.Flagged.{Flagged}
 
--- ---- what 01 says of a magnitude n / d that is not zero
-
--- the place of m's last digit: a word is m * 2 ^ (e - 24)
-abbrev pub lastPlace : ℤ → ℤ
-lastPlace e = e -ℤ pos 24
-
--- "m and e are the one pair, e unbounded, with m the whole part of magnitude times 2^(24-e) and 2^23 <= m < 2^24": m * 2 ^ (e - 24) reaches n / d, and
--- (m + 1) * 2 ^ (e - 24) passes it. 2 ^ x is the fraction up x / down x, so products are compared. For 1 / 3, m = AAAAAA and e = -1, since 2 ^ 25 / 3
--- is AAAAAA and 2 / 3
-pub record Pair (n d m : ℕ) (e : ℤ) : Type 0 where
-  pub low : 2 ^ 23 ≤ m
-  pub high : m < 2 ^ 24
-  pub reached : m * (d * up (lastPlace e)) ≤ n * down (lastPlace e)
-  pub passed : n * down (lastPlace e) < (m + 1) * (d * up (lastPlace e))
-
--- ---- a function that finds it, under either rule, in whole numbers alone
+-- ---- the m and e of a magnitude, under either rule, in whole numbers alone
 
 -- magnitudes are counted in fine units of 2 ^ -200, so small that every exact value of 01's scales has at least 24 binary digits before the point
 abbrev pub fine : ℕ

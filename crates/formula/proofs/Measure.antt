@@ -13,7 +13,10 @@ leftOver rank text at depth = 3 * (length text - at + depth) + rank
 pub same-place : (rank : ℕ) (text : List ℕ) (at depth t : ℕ) → leftOver (rank + 1) text at depth ≡ t → leftOver rank text at depth < t
 same-place rank text at depth t e = omega arith
 
--- all other calls read on from a later place
-pub later-place : (rank rank' : ℕ) (text : List ℕ) (at at' depth depth' t : ℕ) → leftOver rank text at depth ≡ t → rank' ≤ 2 → at < length text
-    → at < at' → depth' ≤ depth → leftOver rank' text at' depth' < t
-later-place rank rank' text at at' depth depth' t e r h i d = omega arith
+-- all other calls read on from a later place: those of the right operands, and a factor's
+pub right-place : (rank : ℕ) (text : List ℕ) (at at' depth t : ℕ) → leftOver (rank + 1) text at depth ≡ t → at < at' → leftOver rank text at' depth < t
+right-place rank text at at' depth t e h = omega arith
+
+pub later-place : (rank : ℕ) (text : List ℕ) (at at' depth depth' t : ℕ) → leftOver 0 text at depth ≡ t → rank ≤ 2 → at < length text
+    → at < at' → depth' ≤ depth → leftOver rank text at' depth' < t
+later-place rank text at at' depth depth' t e r h i d = omega arith

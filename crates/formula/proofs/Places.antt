@@ -67,21 +67,10 @@ pub longer-end : (p : ℕ) → endOf (p + 512) ≡ endOf p + 1
 unfolding atOf endOf
 longer-end p = omega arith
 
-pub both-at : (p : ℕ) → atOf p < 511 → atOf (p + 513) ≡ atOf p + 1
+-- n bytes of text and of postfix
+pub both : (p n : ℕ) → atOf p + n < 512 → (atOf (p + 513 * n) ≡ atOf p + n) × (endOf (p + 513 * n) ≡ endOf p + n)
 unfolding atOf endOf
-both-at p h = omega arith
-
-pub both-end : (p : ℕ) → atOf p < 511 → endOf (p + 513) ≡ endOf p + 1
-unfolding atOf endOf
-both-end p h = omega arith
-
-pub nine-at : (p : ℕ) → atOf p < 503 → atOf (p + 4617) ≡ atOf p + 9
-unfolding atOf endOf
-nine-at p h = omega arith
-
-pub nine-end : (p : ℕ) → atOf p < 503 → endOf (p + 4617) ≡ endOf p + 9
-unfolding atOf endOf
-nine-end p h = omega arith
+both p n h = (omega arith, omega arith)
 
 -- ---- the height after a command
 pub lowered-le : (c h : ℕ) → loweredBy c h ≤ h

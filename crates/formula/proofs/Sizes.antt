@@ -10,7 +10,7 @@ use Rattle.stack.specs.Stack.{Bytes}
 use Rattle.stack.proofs.Words.{bytes-append}
 use Rattle.formula.specs.Formula.{Operator, Plus, Less, Times, Over, Formula, Letter, Constant, Minus, Brackets, Joined}
 use Rattle.formula.specs.Grammar.{IsSum, product, plus, less, IsProduct, factor, times, over, IsFactor, letter, constant, minus, brackets}
-use Rattle.formula.specs.File.{codeOf, pushRecord, commandRecord, minusCode, fileOf, repliesTo}
+use Rattle.formula.specs.File.{codeOf, pushRecord, commandRecord, minusCode, fileOf}
 
 abbrev Most : ℕ → ℕ → Type 0
 Most file text = 2 * file ≤ 13 * text + 3 * (text % 2)
@@ -64,33 +64,6 @@ module _ (letters : List ℕ) where
 
   pub file-most : {text : List ℕ} {f : Formula} → IsSum text f → length text ≤ 256 → length (fileOf letters f) ≤ 1664
   file-most p h = let m = sum-most p in omega arith
-
-  -- the replies have no more: five bytes for a record, which has at least as many
-  pub replies-few : (f : Formula) → length (repliesTo f) ≤ length (fileOf letters f)
-  unfolding fileOf repliesTo
-  replies-few (Letter k) = omega arith
-  replies-few (Constant s) = omega arith
-  replies-few (Minus f) = let r : List ℕ = 3 ∷ 0 ∷ 131 ∷ 0 ∷ 0 ∷ [] in omega (
-    arith,
-    replies-few f,
-    length-append (repliesTo f) r,
-    length-append
-        (fileOf letters f) (commandRecord minusCode),
-  )
-  replies-few (Brackets f) = replies-few f
-  replies-few (Joined o f g) =
-      let r : List ℕ = 3 ∷ 0 ∷ 131 ∷ 0 ∷ 0 ∷ [] in
-      let c = commandRecord (codeOf o) in
-      omega (
-        arith,
-        replies-few f,
-        replies-few g,
-        length-append (repliesTo f) (repliesTo g ++ r),
-        length-append (repliesTo g) r,
-        length-append
-            (fileOf letters f) (fileOf letters g ++ c),
-        length-append (fileOf letters g) c,
-      )
 
   -- and every byte is one
   push-bytes : (w : ℕ) → Bytes (pushRecord w)

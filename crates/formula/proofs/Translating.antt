@@ -10,7 +10,7 @@ use lib.Seq.{sets, length-sets}
 use Rattle.formula.specs.Formula.{Formula, needOf}
 use Rattle.formula.specs.Reader.{Read, Found, Outside, then, mostNested, sumOf, whole, formulaOf}
 use Rattle.formula.specs.File.{properIn}
-use Rattle.formula.specs.Told.{mostText, atOf, endOf, nowhere, Asks, Reads}
+use Rattle.formula.specs.Told.{mostText, atOf, endOf, nowhere, Asks, Reads, ReadsBy}
 use Rattle.formula.specs.Postfix.{Token, LetterAt, Digits, Gives, postfixOf, tokensOf, spelling, Spells, stepped, walked, unwritten, recordsOf}
 use Rattle.formula.specs.Translation.{letterBytes, mostNeed, Translated, turnedAway, judged, judgedBy, translationOf, Translates}
 use Rattle.formula.specs.declared.postfix.Written.{Written}
@@ -113,16 +113,17 @@ module _ (letters : List ℕ) (room : ℕ) (ts : List Token) (w : Written) (is :
 pub first-asks : (text : List ℕ) → length text ≤ mostText → Asks text 0
 first-asks text h = let a = first-at in let e = first-end in record { short = h; inside = omega arith; few = omega arith }
 
-module _ (text before after : List ℕ) (p : ℕ) (short : length text ≤ mostText) (R : Reads text 0 before after (sumOf mostNested (drop (atOf 0) text)) p) where
-  from-first : Reads text 0 before after (sumOf mostNested text) p
-  from-first = subst (λ (i : ℕ). Reads text 0 before after (sumOf mostNested (drop i text)) p) first-at R
+module _ (text before after : List ℕ) (p : ℕ) (short : length text ≤ mostText)
+    (R : ReadsBy (sumOf mostNested) text (record { place = 0; next = p; before = before; after = after })) where
+  from-first : Reads text (record { place = 0; next = p; before = before; after = after }) (sumOf mostNested text)
+  from-first = subst (λ (i : ℕ). Reads text (record { place = 0; next = p; before = before; after = after }) (sumOf mostNested (drop i text))) first-at R
 
   -- the whole text is no formula where none is found, or not at its end
   pub no-part : p ≡ nowhere → formulaOf text ≡ Outside
   unfolding formulaOf
   no-part h = go (sumOf mostNested text) from-first
     where
-      go : (x : Read) → Reads text 0 before after x p → then x whole ≡ Outside
+      go : (x : Read) → Reads text (record { place = 0; next = p; before = before; after = after }) x → then x whole ≡ Outside
       go (Found f rest) R = absurd (somewhere text p short (R .told .inside) h)
       go Outside R = refl
 
@@ -134,7 +135,7 @@ module _ (text before after : List ℕ) (p : ℕ) (short : length text ≤ mostT
       some f [] e i = let n = ap length e ∙ length-drop (atOf p) text in absurd (h (omega arith))
       some f (b ∷ l) e i = refl
 
-      go : (x : Read) → Reads text 0 before after x p → then x whole ≡ Outside
+      go : (x : Read) → Reads text (record { place = 0; next = p; before = before; after = after }) x → then x whole ≡ Outside
       go (Found f rest) R = some f rest (R .told .rest-is) (R .told .inside)
       go Outside R = refl
 
@@ -150,7 +151,8 @@ take-front : (a l : List ℕ) → take (length a) (a ++ l) ≡ a
 take-front [] l = refl
 take-front (x ∷ a) l = ap (λ (m : List ℕ). x ∷ m) (take-front a l)
 
-pub all : (text before after : List ℕ) (p : ℕ) → length text ≤ mostText → Reads text 0 before after (sumOf mostNested (drop (atOf 0) text)) p
+pub all : (text before after : List ℕ) (p : ℕ) → length text ≤ mostText
+    → ReadsBy (sumOf mostNested) text (record { place = 0; next = p; before = before; after = after })
     → length before ≡ mostText
     → (p ≡ nowhere → ⊥) → atOf p ≡ length text → All text after p
 unfolding formulaOf
@@ -160,7 +162,7 @@ all text before after p short R room n e = go (sumOf mostNested text) refl (from
     none-left [] i = refl
     none-left (b ∷ l) i = let m = ap length i ∙ length-drop (atOf p) text in absurd (omega arith)
 
-    go : (x : Read) → sumOf mostNested text ≡ x → Reads text 0 before after x p → All text after p
+    go : (x : Read) → sumOf mostNested text ≡ x → Reads text (record { place = 0; next = p; before = before; after = after }) x → All text after p
     go (Found f rest) i R =
         let T = R .told in
         let z = first-end in

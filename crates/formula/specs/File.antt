@@ -47,10 +47,7 @@ commandRecord code = 3 ∷ 0 ∷ 3 ∷ 0 ∷ code ∷ []
 
 -- FADD, FSUB, FMUL, FDIV, with sr 0
 abbrev pub codeOf : Operator → ℕ
-codeOf Plus = 0x10
-codeOf Less = 0x11
-codeOf Times = 0x12
-codeOf Over = 0x13
+codeOf o = elim o [ Plus ↦ 0x10 | Less ↦ 0x11 | Times ↦ 0x12 | Over ↦ 0x13 ]
 
 -- CHSF, with sr 0
 abbrev pub minusCode : ℕ
@@ -63,11 +60,3 @@ fileOf letters (Constant s) = pushRecord (constantWord s)
 fileOf letters (Minus f) = fileOf letters f ++ commandRecord minusCode
 fileOf letters (Brackets f) = fileOf letters f
 fileOf letters (Joined o l r) = fileOf letters l ++ (fileOf letters r ++ commandRecord (codeOf o))
-
--- the replies to its records, each of them 0: kind 1 or 3 with 128 added, no data
-unfoldable pub repliesTo : Formula → List ℕ
-repliesTo (Letter k) = 3 ∷ 0 ∷ 129 ∷ 0 ∷ 0 ∷ []
-repliesTo (Constant s) = 3 ∷ 0 ∷ 129 ∷ 0 ∷ 0 ∷ []
-repliesTo (Minus f) = repliesTo f ++ (3 ∷ 0 ∷ 131 ∷ 0 ∷ 0 ∷ [])
-repliesTo (Brackets f) = repliesTo f
-repliesTo (Joined o l r) = repliesTo l ++ (repliesTo r ++ (3 ∷ 0 ∷ 131 ∷ 0 ∷ 0 ∷ []))

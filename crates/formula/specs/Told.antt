@@ -8,7 +8,7 @@ use lib.Dec.{eqb}
 use lib.ListN.{length, drop, getD}
 use lib.Seq.{sets}
 use Rattle.formula.specs.Formula.{Formula}
-use Rattle.formula.specs.Reader.{Read, Found, Outside, Sign, Joins, Ends, sumSign, productSign}
+use Rattle.formula.specs.Reader.{Read, Found, Outside, Reader, Sign, Joins, Ends, sumSign, productSign}
 use Rattle.formula.specs.File.{codeOf}
 use Rattle.formula.specs.declared.parts.Rank.{Rank}
 use Rattle.formula.specs.declared.parts.Rank.the-variants.{Sum, Product}
@@ -58,7 +58,7 @@ abbrev pub signCode : Sign → ℕ
 signCode (Joins o) = codeOf o
 signCode Ends = 0
 
--- ---- a reading: from a place of the text on, the postfix stored before it and what is stored after it
+-- ---- a reading: from a place of the text on
 
 -- what it asks: at most 256 bytes of text, a place in it, and no more postfix than text before it
 pub record Asks (text : List ℕ) (place : ℕ) : Type 0 where
@@ -66,21 +66,31 @@ pub record Asks (text : List ℕ) (place : ℕ) : Type 0 where
   pub inside : atOf place ≤ length text
   pub few : endOf place ≤ atOf place
 
--- the formula f was found, r is the place after it and `rest` the text from there on: its postfix is stored behind what stood before, and has no
--- more bytes than its text
-pub record Tells (text : List ℕ) (place : ℕ) (before after : List ℕ) (f : Formula) (rest : List ℕ) (r : ℕ) : Type 0 where
-  pub rest-is : rest ≡ drop (atOf r) text
-  pub end-is : endOf r ≡ endOf place + length (postfixOf f)
-  pub stored-is : after ≡ sets before (endOf place) (postfixOf f)
-  pub later : atOf place < atOf r
-  pub inside : atOf r ≤ length text
-  pub few : endOf r + atOf place ≤ endOf place + atOf r
+-- the place where it begins and the one behind it, the postfix stored before it and what is stored after it
+pub record Move : Type 0 where
+  pub place : ℕ
+  pub next : ℕ
+  pub before : List ℕ
+  pub after : List ℕ
 
--- what is told of a formula, and of none: then the place is nowhere
-abbrev pub Told : List ℕ → ℕ → List ℕ → List ℕ → Read → ℕ → Type 0
-Told text place before after (Found f rest) r = Tells text place before after f rest r
-Told text place before after Outside r = r ≡ nowhere
+-- the formula f was found, and `rest` is the text behind it: its postfix is stored behind what stood before, and has no more bytes than its text
+pub record FoundTo (text : List ℕ) (m : Move) (f : Formula) (rest : List ℕ) : Type 0 where
+  pub rest-is : rest ≡ drop (atOf (m .next)) text
+  pub end-is : endOf (m .next) ≡ endOf (m .place) + length (postfixOf f)
+  pub stored-is : m .after ≡ sets (m .before) (endOf (m .place)) (postfixOf f)
+  pub later : atOf (m .place) < atOf (m .next)
+  pub inside : atOf (m .next) ≤ length text
+  pub few : endOf (m .next) + atOf (m .place) ≤ endOf (m .place) + atOf (m .next)
 
--- a function that reads x from a place on, and answers r
-pub record Reads (text : List ℕ) (place : ℕ) (before after : List ℕ) (x : Read) (r : ℕ) : Type 0 where
-  pub told : Told text place before after x r
+-- what is told of a formula, and of none: then the place behind it is nowhere
+abbrev pub ReadTo : List ℕ → Move → Read → Type 0
+ReadTo text m (Found f rest) = FoundTo text m f rest
+ReadTo text m Outside = m .next ≡ nowhere
+
+-- a function that reads x from a place on
+pub record Reads (text : List ℕ) (m : Move) (x : Read) : Type 0 where
+  pub told : ReadTo text m x
+
+-- a reader's answer to the text from the place on
+abbrev pub ReadsBy : Reader → List ℕ → Move → Type 0
+ReadsBy reader text m = Reads text m (reader (drop (atOf (m .place)) text))

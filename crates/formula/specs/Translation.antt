@@ -16,11 +16,7 @@ use Rattle.formula.specs.declared.Refusal.the-variants.{Done, NoFormula,
 
 -- 02's number of each refusal
 abbrev pub numberOf : Refusal → ℕ
-numberOf Done = 0
-numberOf NoFormula = 30
-numberOf Improper = 31
-numberOf NeedsMore = 32
-numberOf NoRoom = 33
+numberOf r = elim r [ Done ↦ 0 | NoFormula ↦ 30 | Improper ↦ 31 | NeedsMore ↦ 32 | NoRoom ↦ 33 ]
 
 -- the bytes of the letters' words
 abbrev pub letterBytes : ℕ

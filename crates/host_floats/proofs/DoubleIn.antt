@@ -15,7 +15,7 @@ use Rattle.float.specs.declared.Flagged.{Flagged}
 use Rattle.float.specs.Cut.{lost, kept, digitsOf, cutSize}
 use Rattle.float.proofs.cut.Signs.{cut-sign}
 use Rattle.float.proofs.cut.Jams.{stands-cut}
-use Rattle.float.proofs.Steps.{lost-least}
+use Rattle.float.proofs.cut.Pair.{lost-least}
 use Rattle.float.proofs.cut.Values.{error-kept, digits-near, cut-stored}
 use Rattle.host_floats.specs.Double.{doubleSign, doubleField, doubleFraction, doubleBits, broughtOf, judgedOf, inwardOf}
 use Rattle.host_floats.specs.declared.entry.Inward.the-variants.{Exact, Rounded, Refused}

@@ -3,28 +3,21 @@ use mathlib.Core.Path.{_≡_, refl, sym, ap, _∙_, subst}
 use mathlib.Core.Bool.{Bool, true, false, not}
 use Prim.Native.Nat.{ℕ, _^_, _<_}
 use native.Mathlib.Omega.{arith}
-use lib.Dec.{T, eqb, lit<}
-use borrow.Author.Tests.{ne-eqb, eqb-false}
+use lib.Dec.{T}
+use borrow.Author.Tests.{ne-eqb}
 use lib.Ieee.{Float, binary64, ofBits, isNan}
 use lib.Ieee.Exact.{HasValue}
 use Rattle.terms.specs.declared.Refusal.the-variants.{Improper}
 use Rattle.float.specs.Word.{negative, proper, size88}
 use Rattle.host_floats.specs.Double.{doubleField, doubleBits, outwardOf}
 use Rattle.host_floats.specs.declared.entry.Outward.the-variants.{Float as Floats, Refused}
-use Rattle.host_floats.proofs.Outward.{bitsIn, bits-below, value-in, not-zero, finite}
+use Rattle.host_floats.proofs.Outward.{bitsIn, field-below, value-in, not-zero, finite}
 
 pub double-some : (w : ℕ) → (w ≡ 0 → ⊥) → doubleBits w ≡ bitsIn binary64 w
 double-some w n = simp (ne-eqb w 0 n)
 
-pub double-field : (w : ℕ) → doubleField (doubleBits w) < 2047
-double-field w = go (eqb w 0) refl
-  where
-    go : (t : Bool) → eqb w 0 ≡ t → doubleField (doubleBits w) < 2047
-    go true e = rw e (lit< tt)
-    go false e = subst (λ (p : ℕ). doubleField p < 2047) (sym (double-some w (eqb-false w 0 e))) (bits-below binary64 w)
-
 pub double-are : (w p : ℕ) → p ≡ doubleBits w → (p ≡ doubleBits w) × (doubleField p < 2047)
-double-are w p e = (e, subst (λ (n : ℕ). doubleField n < 2047) (sym e) (double-field w))
+double-are w p e = (e, field-below binary64 doubleBits refl double-some w p e)
 
 pub double-value : (w : ℕ) → proper w ≡ true → HasValue (ofBits binary64 (doubleBits w)) (negative w) (size88 w) (2 ^ 88)
 double-value w e = value-in binary64 w (doubleBits w) e (λ h. double-some w (not-zero w h)) (λ z. ap doubleBits z)

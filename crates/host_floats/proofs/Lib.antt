@@ -1,22 +1,10 @@
 -- What is true of the conversions, and what the proofs of the functions rest on; the last five are of buffers.
-pub mod Signs
 pub mod Patterns
 pub mod WordSizes
 pub mod Outward
-pub mod Apart
-pub mod Sizes
-pub mod Classes
-pub mod Inward
-pub mod Back
 pub mod DoubleOut
 pub mod DoubleIn
 pub mod Places
-pub mod Pairs
-pub mod Owned
-pub mod Brought
-pub mod DoubleBack
 pub mod Looking
 pub mod Writing
 pub mod Answers
-pub mod Blocks
-pub mod Found

@@ -8,7 +8,7 @@ use native.Mathlib.Nat.{le-of-lt, zero-mul, mul-assoc, mul-one}
 use native.Mathlib.Omega.{arith}
 use lib.Dec.{T, eqb, lit<}
 use lib.Pow.{pow-add, pow-pos}
-use borrow.Author.Tests.{ne-eqb, eqb-false}
+use borrow.Author.Tests.{ne-eqb, eqb-true, eqb-false}
 use lib.Ieee.{Float, nan, inf, fin, Format, binary32, binary64, prec, emax, low, hid, ones, ofBits, ofFields, isNan}
 use lib.Ieee.Exact.{HasValue}
 use Rattle.terms.specs.declared.Refusal.the-variants.{Improper}
@@ -113,15 +113,20 @@ not-zero w h z = omega arith
 pub bits-some : (w : ℕ) → (w ≡ 0 → ⊥) → hostBits w ≡ bitsIn binary32 w
 bits-some w n = simp (ne-eqb w 0 n) (ap (joined binary32 (negative w) (biased w + 62)) (sym (mul-one (mantissa w % 8388608))))
 
-pub bits-field : (w : ℕ) → exponentField (hostBits w) < 255
-bits-field w = go (eqb w 0) refl
+-- bits that are 0 for the zero word and else put together have no field of all ones
+pub field-below : (f : Format) (bits : ℕ → ℕ) → bits 0 ≡ 0 → ((w : ℕ) → (w ≡ 0 → ⊥) → bits w ≡ bitsIn f w) → (w p : ℕ) → p ≡ bits w → fieldIn f p < ones f
+field-below f bits none some w p e = go (eqb w 0) (eqb-true w 0) (eqb-false w 0)
   where
-    go : (t : Bool) → eqb w 0 ≡ t → exponentField (hostBits w) < 255
-    go true e = rw e (lit< tt)
-    go false e = subst (λ (p : ℕ). exponentField p < 255) (sym (bits-some w (eqb-false w 0 e))) (bits-below binary32 w)
+    below : (f : Format) → fieldIn f 0 < ones f
+    below binary32 = lit< tt
+    below binary64 = lit< tt
+
+    go : (t : Bool) → (t ≡ true → w ≡ 0) → (t ≡ false → w ≡ 0 → ⊥) → fieldIn f p < ones f
+    go true z n = subst (λ (q : ℕ). fieldIn f q < ones f) (sym (e ∙ ap bits (z refl) ∙ none)) (below f)
+    go false z n = subst (λ (q : ℕ). fieldIn f q < ones f) (sym (e ∙ some w (n refl))) (bits-below f w)
 
 pub bits-are : (w p : ℕ) → p ≡ hostBits w → (p ≡ hostBits w) × (exponentField p < 255)
-bits-are w p e = (e, subst (λ (n : ℕ). exponentField n < 255) (sym e) (bits-field w))
+bits-are w p e = (e, field-below binary32 hostBits refl bits-some w p e)
 
 pub word-value : (w : ℕ) → proper w ≡ true → HasValue (ofBits binary32 (hostBits w)) (negative w) (size88 w) (2 ^ 88)
 word-value w e = value-in binary32 w (hostBits w) e (λ h. bits-some w (not-zero w h)) (λ z. ap hostBits z)

@@ -5,12 +5,11 @@ use mathlib.Core.Bool.{Bool, true, false, not, cond}
 use Prim.Native.Nat.{ℕ, zero, suc, _+_, _-_, _*_, _/_, _%_, _^_, _≤_, _<_}
 use native.Mathlib.Nat.{eq-of-mul-eq-mul-right, mul-assoc, mul-right-comm, lt-irrefl}
 use native.Mathlib.Omega.{arith}
-use lib.Dec.{T, leb, eqb}
+use lib.Dec.{T, leb}
 use borrow.Author.Tests.{le-leb, lt-leb, ne-eqb}
 use lib.Ieee.{Float, nan, inf, fin, Format, binary32, binary64, prec, low, hid, ones, top, ofBits, ofFields, up, down, nanBits}
 use lib.Ieee.Exact.{HasValue, odd-sign}
 use Rattle.numbers.proofs.Differences.{either}
-use Rattle.host_floats.specs.Values.{Endless}
 
 -- the fields of bits: the sign, the exponent's field, the digits below the leading one
 abbrev pub signIn : Format → ℕ → Bool
@@ -79,20 +78,6 @@ module _ (f : Format) where
   bits-value p l =
       subst (λ (x : Float). HasValue x (signIn f p) (leading f (fieldIn f p) (digitsIn f p) * 2 ^ (fieldIn f p - 1)) (2 ^ low f)) (sym (of-bits p))
       (by-field (signIn f p) (fieldIn f p) (digitsIn f p) l)
-
--- bits whose field is all ones have none
-no-value : (s b : Bool) → Endless (cond b (inf s) nan)
-no-value s true = tt
-no-value s false = tt
-
-ones-endless : (f : Format) (s : Bool) (t : ℕ) → Endless (ofFields f s (ones f) t)
-unfolding ofFields
-ones-endless binary32 s t = no-value s (eqb t 0)
-ones-endless binary64 s t = no-value s (eqb t 0)
-
-pub all-ones : (f : Format) (p : ℕ) → fieldIn f p ≡ ones f → Endless (ofBits f p)
-all-ones f p e =
-    subst Endless (sym (of-bits f p ∙ ap (λ (x : ℕ). ofFields f (signIn f p) x (digitsIn f p)) e)) (ones-endless f (signIn f p) (digitsIn f p))
 
 -- ---- the digits
 pub leading-many : (f : Format) (x t : ℕ) → 0 < x → leading f x t ≡ hid f + t

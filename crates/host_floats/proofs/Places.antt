@@ -2,8 +2,8 @@
 -- that
 -- is carried past the fraction goes to the field. The field is then the place of the mantissa, and the word's own f64 has these bits. Assumes nothing.
 use mathlib.Core.Path.{_≡_, refl, sym, ap, ap₂, _∙_, subst}
-use mathlib.Core.Logic.{_⊎_, inl, inr, ⊎-elim}
-use mathlib.Core.Bool.{Bool, true, false, cond}
+use mathlib.Core.Logic.{⊎-elim}
+use mathlib.Core.Bool.{Bool, cond}
 use Prim.Native.Nat.{ℕ, _+_, _-_, _*_, _/_, _%_, _^_, _≤_, _<_}
 use native.Mathlib.Nat.{add-assoc, mod-eq-of-lt, mod-lt}
 use native.Mathlib.Omega.{arith}
@@ -14,7 +14,7 @@ use Rattle.terms.specs.declared.Rule.{Rule}
 use Rattle.terms.specs.declared.Rule.the-variants.{Cut, Nearest}
 use Rattle.numbers.proofs.Differences.{either}
 use Rattle.float.specs.declared.Flagged.{Flagged}
-use Rattle.float.specs.Word.{negative, biased, mantissa}
+use Rattle.float.specs.Word.{biased, mantissa}
 use Rattle.float.specs.Cut.{whole, mantissaOf, digitsOf, packed, stored}
 use Rattle.float.proofs.cut.NearWhole.{closest-up, closest-stays}
 use Rattle.float.proofs.cut.Pair.{whole-same}

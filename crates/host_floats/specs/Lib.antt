@@ -1,5 +1,4 @@
 -- Chip words as host floats and back, and buffers of them.
 pub mod Host
-pub mod Values
 pub mod Double
 pub mod Buffers

@@ -1,4 +1,2 @@
--- The laws that the proofs of listing and trace cite, and 01's example.
+-- The laws that the proofs of the listing cite.
 pub mod Printing
-pub mod Tracing
-pub mod Examples

@@ -1,3 +1,2 @@
--- What the listing program prints for an input, and its trace.
-pub mod Trace
+-- What the listing program prints for an input.
 pub mod Printout

@@ -1,14 +1,12 @@
 -- Text added at a place and then more text at the new place is both texts added at the first. Assumes nothing.
 use mathlib.Core.Path.{_≡_, refl, sym, ap, subst, _∙_}
 use mathlib.Core.List.{List, [], _∷_, _++_, append-assoc, append-nil}
-use mathlib.Core.Bool.{Bool, true, false}
-use Prim.Native.Nat.{ℕ, _+_, _/_, _%_, _≤_, min}
+use Prim.Native.Nat.{ℕ, _+_, _/_, _%_, _≤_, _<_}
 use native.Mathlib.Omega.{arith}
 use native.Mathlib.Nat.{add-zero, zero-add}
-use lib.ListN.{length, take, length-append, length-take}
-use lib.Seq.{paste, take-paste, take-length, take-all, length-take-le}
-use lib.Dec.{leb}
-use borrow.Author.Tests.{leb-true, leb-false}
+use native.Mathlib.Numerals.{add-one}
+use lib.ListN.{length, take, set, length-append, length-take}
+use lib.Seq.{paste, take-paste, take-suc-set, take-length, length-take-le}
 use Rattle.io.specs.Counts.{Counts}
 use Rattle.listing.specs.Text.{digit, hex, Adds}
 
@@ -48,6 +46,10 @@ copied t l place h = record {
   reads = take-paste l place t (length t) (omega arith) (omega arith) ∙ ap (λ (s : List ℕ). take place l ++ s) (take-length t);
 }
 
+-- a character stored at the place adds it
+pub stored : (c : ℕ) (l : List ℕ) (place : ℕ) → place < length l → Adds (c ∷ []) l (set l place c) place (place + 1)
+stored c l place h = record { moved = refl; reads = ap (λ (n : ℕ). take n (set l place c)) (add-one place) ∙ take-suc-set l place c h }
+
 -- a blank and two digits are a blank and a byte in hex
 pub hexed : (b x y : ℕ) {before after : List ℕ} {place new : ℕ} → x ≡ digit (b / 16) → y ≡ digit (b % 16)
     → Adds (32 ∷ x ∷ y ∷ []) before after place new → Adds (32 ∷ hex b) before after place new
@@ -64,14 +66,3 @@ counted {text} {before} {after} {new} h =
 -- and is what they hold, by another name
 pub at-front : {x y before after : List ℕ} {new : ℕ} → x ≡ y → Adds x before after 0 new → Counts new after × (take new after ≡ y)
 at-front e h = (counted h, h .reads ∙ e)
-
--- as many as there are, where more are asked for
-pub take-least : (l : List ℕ) (n most : ℕ) → length l ≡ most → take (min n most) l ≡ take n l
-take-least l n most h = pick (leb n most) refl
-  where
-    pick : (t : Bool) → leb n most ≡ t → take (min n most) l ≡ take n l
-    pick true e = let k = leb-true n most e in let m : min n most ≡ n = omega arith in rw m
-    pick false e =
-        let k = leb-false n most e in
-        let m : min n most ≡ most = omega arith in
-        rw m (take-all most l (omega arith) ∙ sym (take-all n l (omega arith)))

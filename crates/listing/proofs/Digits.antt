@@ -1,38 +1,84 @@
--- Digits to a base are those of the number's part above the last one, and that one; hex digits that were written are read as the number that they were
+-- Digits to a base are written from the last one on; hex digits that were written are read as the number that they were
 -- written from. Assumes nothing.
-use mathlib.Core.Path.{_≡_, refl, sym, ap, _∙_, subst}
+use mathlib.Core.Path.{_≡_, refl, sym, ap, ap₂, _∙_}
 use mathlib.Core.Bool.{Bool, true, false, cond}
-use mathlib.Core.List.{List, [], _∷_, _++_}
+use mathlib.Core.List.{List, [], _∷_, _++_, append-assoc, append-nil}
 use Prim.Native.Nat.{ℕ, zero, suc, _+_, _-_, _*_, _/_, _%_, _^_, _≤_, _<_}
-use native.Mathlib.Nat.{mod-lt, pow-suc, div-lt-iff-lt-mul}
+use native.Mathlib.Nat.{add-zero, mod-lt, pow-suc, div-lt-iff-lt-mul, not-suc-le-zero}
 use native.Mathlib.Omega.{arith}
 use borrow.Author.Tests.{lt-ltb, le-ltb, ltb-true, ltb-false}
 use lib.Dec.{ltb}
-use lib.ListN.{length, length-append}
+use lib.ListN.{length, take, set, length-append, length-set, take-append-drop}
+use lib.Seq.{slice, slice-empty, slice-cons, take-take, take-set-le, take-set-lt, drop-set-lt, getD-set-same}
 use Rattle.listing.specs.declared.hex.Hex.the-variants.{Number, Nothing}
 use Rattle.listing.specs.Text.{digit, Adds}
 use Rattle.listing.specs.Hex.{digitValue, hexFrom, hexOf, digitsTo}
-use Rattle.listing.proofs.Adding.{nothing, both}
 
 -- ---- written
-pub no-digits : (b n count place : ℕ) (l : List ℕ) → count ≡ 0 → Adds (digitsTo b count n) l l place place
-unfolding digitsTo
-no-digits b n count place l e = rw e (nothing l place)
-
-pub last-digit : (base n count x : ℕ) {a b c : List ℕ} {p q r : ℕ} → (count ≡ 0 → ⊥) → x ≡ digit (n % base) → Adds (digitsTo base (count - 1)
-    (n / base)) a b p q
-    → Adds (x ∷ []) b c q r → Adds (digitsTo base count n) a c p r
-unfolding digitsTo
-last-digit base n zero x z e h k = absurd (z refl)
-last-digit base n (suc count) x {a} {b} {c} {p} {q} {r} z e h k =
-    let m : suc count - 1 ≡ count = omega arith in
-    both (subst (λ (m : ℕ). Adds (digitsTo base m (n / base)) a b p q) m h) (subst (λ (y : ℕ). Adds (y ∷ []) b c q r) e k)
-
 pub digits-length : (base count n : ℕ) → length (digitsTo base count n) ≡ count
 unfolding digitsTo
 digits-length base zero n = refl
 digits-length base (suc count) n =
     omega (arith, digits-length base count (n / base), length-append (digitsTo base count (n / base)) (digit (n % base) ∷ []))
+
+-- from the last one on: what is still to be written and what stands behind it are all the digits
+pub record Filling (base n count place : ℕ) (before out : List ℕ) (rest i : ℕ) : Type 0 where
+  pub within : i ≤ count
+  pub same : length out ≡ length before
+  pub front : take place out ≡ take place before
+  pub joins : digitsTo base i rest ++ slice (place + i) (place + count) out ≡ digitsTo base count n
+
+module _ (base n count place : ℕ) (before : List ℕ) where
+  pub fill-starts : Filling base n count place before before n count
+  fill-starts = record {
+    within = omega arith;
+    same = refl;
+    front = refl;
+    joins = rw (slice-empty (place + count) before) (append-nil (digitsTo base count n));
+  }
+
+  pub fill-next : (out : List ℕ) (rest i x : ℕ) → place + count ≤ length before → Filling base n count place before out rest i → 0 < i
+      → x ≡ digit (rest % base)
+      → Filling base n count place before (set out (place + (i - 1)) x) (rest / base) (i - 1)
+  fill-next out rest zero x room f h e = absurd (not-suc-le-zero h)
+  fill-next out rest (suc j) x room f h e = let m : suc j - 1 ≡ j = omega arith in rw m (record {
+    within = omega (arith, f .within);
+    same = length-set out (place + j) x ∙ f .same;
+    front = take-set-le place out (place + j) x (omega arith) ∙ f .front;
+    joins = ap (λ (l : List ℕ). digitsTo base j (rest / base) ++ l) next ∙ last ∙ f .joins;
+  })
+    where
+      next : slice (place + j) (place + count) (set out (place + j) x) ≡ x ∷ slice (place + suc j) (place + count) out
+      next =
+          let w = f .within in
+          let k : suc (place + j) ≡ place + suc j = omega arith in
+          let fits : place + count ≤ length (set out (place + j) x) = omega (arith, length-set out (place + j) x, f .same) in
+          slice-cons (place + j) (place + count) (set out (place + j) x) 0 (omega arith) fits
+          ∙ rw (
+            getD-set-same out (place + j) x 0 (omega (arith, f .same)),
+            take-set-lt (place + count) out (place + j) x (omega arith),
+            drop-set-lt (suc (place + j)) (take (place + count) out) (place + j) x (omega arith),
+            k,
+          )
+
+      last : digitsTo base j (rest / base) ++ (x ∷ slice (place + suc j) (place + count) out) ≡ digitsTo base (suc j) rest ++ slice (place + suc j)
+          (place + count) out
+      last =
+          unfold digitsTo in
+          rw e (sym (append-assoc (digitsTo base j (rest / base)) (digit (rest % base) ∷ []) (slice (place + suc j) (place + count) out)))
+
+  pub filled : (out : List ℕ) (rest i : ℕ) → Filling base n count place before out rest i → i ≤ 0
+      → Adds (digitsTo base count n) before out place (place + count)
+  filled out rest zero f h = record {
+    moved = ap (λ (k : ℕ). place + k) (sym (digits-length base count n));
+    reads =
+        sym (take-append-drop place (take (place + count) out))
+        ∙ ap₂ (λ (l m : List ℕ). l ++ m) (take-take place (place + count) out (omega arith) ∙ f .front) all;
+  }
+    where
+      all : slice place (place + count) out ≡ digitsTo base count n
+      all = ap (λ (k : ℕ). slice k (place + count) out) (sym (add-zero place)) ∙ (unfold digitsTo in f .joins)
+  filled out rest (suc i) f h = absurd (not-suc-le-zero h)
 
 -- ---- the value of a character
 module _ (c : ℕ) where

@@ -2,19 +2,19 @@
 use mathlib.Core.Path.{_≡_, refl, sym, ap, _∙_}
 use mathlib.Core.List.{List, [], _∷_, _++_}
 use mathlib.Core.Bool.{Bool, true, false, cond}
-use Prim.Native.Nat.{ℕ, zero, suc, _+_, _*_, _-_, _≤_, _<_, min}
+use Prim.Native.Nat.{ℕ, zero, suc, _+_, _*_, _-_, _≤_, _<_}
 use native.Mathlib.Omega.{arith}
 use native.Mathlib.Nat.{not-suc-le-zero}
 use lib.ListN.{length, take, drop, getD, length-append, length-take, length-drop, drop-of-length-le}
 use lib.Dec.{ltb}
 use borrow.Author.Tests.{lt-ltb}
 use lib.Seq.{drop-drop, take-all, getD-drop, take-append-seam, drop-append-seam}
-use Rattle.numbers.specs.Little.{wordAt, fourAt}
+use Rattle.numbers.specs.Little.{wordAt}
 use Rattle.numbers.proofs.Exact.{two-bytes}
 use Rattle.listing.specs.Text.{Adds}
 use Rattle.listing.specs.Listing.{lineOf, replyBytes, kindFrom, replyKind, replyRefusal, replyData, replySize, replyLine, hasReply, wholeSize, Front}
-use Rattle.listing.specs.Listing.{linesUpTo, linesOf, listingOf, printedOf}
-use Rattle.listing.proofs.Adding.{take-least, all-added, next-added}
+use Rattle.listing.specs.Listing.{linesUpTo, linesOf}
+use Rattle.listing.proofs.Adding.{all-added, next-added}
 use Rattle.listing.proofs.Decimal.{short}
 use Rattle.listing.proofs.Lines.{line-length, data-length}
 use Rattle.listing.proofs.Replies.{front, found, is-whole}
@@ -149,14 +149,6 @@ module _ (replies before after : List ℕ) (place number at : ℕ) (g : Going re
           room = omega (arith, a .moved, g .room);
           so-far = next-added (g .so-far) line tail next a;
         }
-
--- what the code reads of the report
-pub as-printed : (replies report : List ℕ) (n written taken : ℕ) → length replies ≡ 65536 → n ≡ min written 65536
-    → written ≡ fourAt report 5 → taken ≡ fourAt report 1 → listingOf (take n replies) (getD report 0 0) taken ≡ printedOf replies report
-as-printed replies report n written taken h a w t =
-    ap (λ (x : List ℕ). listingOf x (getD report 0 0) taken)
-    (ap (λ (k : ℕ). take k replies) a ∙ take-least replies written 65536 h ∙ ap (λ (k : ℕ). take k replies) w)
-    ∙ ap (λ (k : ℕ). listingOf (take (fourAt report 5) replies) (getD report 0 0) k) t
 
 -- the word of a core's reply is read back
 pub core-kind : (kind word : ℕ) → kind < 32640 → word ≡ kind + 128 → kindFrom word ≡ kind

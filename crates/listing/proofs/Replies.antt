@@ -1,12 +1,12 @@
 -- Whether a whole reply stands at the front, by the tests that the code makes, and what is known of one. Assumes nothing.
 use mathlib.Core.Path.{_≡_, refl}
 use mathlib.Core.List.{List}
-use mathlib.Core.Bool.{Bool, true, false, cond}
+use mathlib.Core.Bool.{Bool, true, false, not, _||_, cond}
 use Prim.Native.Nat.{ℕ, _+_, _*_, _/_, _%_, _≤_, _<_}
 use native.Mathlib.Omega.{arith}
-use lib.Dec.{leb}
+use lib.Dec.{leb, ltb}
 use lib.ListN.{length, getD}
-use borrow.Author.Tests.{le-leb, lt-leb, leb-true}
+use borrow.Author.Tests.{le-leb, lt-leb, leb-true, ltb-true, ltb-false}
 use Rattle.numbers.specs.Little.{wordAt, fourAt}
 use Rattle.listing.specs.Listing.{replySize, hasReply, wholeSize, Front}
 
@@ -22,22 +22,29 @@ module _ (l : List ℕ) {head : ℕ} (bytes : (i : ℕ) → getD l i 0 < 256) (e
   pub kind-of : head / 65536 ≡ wordAt l 2
   kind-of = omega (arith, e, halves (getD l 0 0) (getD l 1 0) (getD l 2 0) (getD l 3 0) (bytes 0) (bytes 1) .1)
 
--- each test that fails leaves none
+-- too few bytes leave none; else the tests that the code joins, one that holds leaves none
 pub too-short : (l : List ℕ) → length l < 5 → 0 ≡ wholeSize l
 unfolding hasReply
 too-short l h = rw (lt-leb 5 (length l) h)
 
-pub low-length : (l : List ℕ) → 5 ≤ length l → replySize l < 5 → 0 ≡ wholeSize l
-unfolding hasReply
-low-length l h k = rw (le-leb 5 (length l) h, lt-leb 5 (replySize l) k)
+turned : (m n : ℕ) → leb m n ≡ not (ltb n m)
+turned m n = go (ltb n m) refl
+  where
+    go : (t : Bool) → ltb n m ≡ t → leb m n ≡ not t
+    go true e = lt-leb m n (ltb-true n m e)
+    go false e = le-leb m n (ltb-false n m e)
 
-pub cut-off : (l : List ℕ) → 5 ≤ length l → 5 ≤ replySize l → length l < replySize l → 0 ≡ wholeSize l
+pub sized-by : (l : List ℕ) (size kind : ℕ) → 5 ≤ length l → size ≡ replySize l → kind ≡ wordAt l 2
+    → cond ((ltb size 5 || ltb (length l) size) || ltb kind 128) 0 size ≡ wholeSize l
 unfolding hasReply
-cut-off l h k m = rw (le-leb 5 (length l) h, le-leb 5 (replySize l) k, lt-leb (replySize l) (length l) m)
-
-pub low-kind : (l : List ℕ) → 5 ≤ length l → 5 ≤ replySize l → replySize l ≤ length l → wordAt l 2 < 128 → 0 ≡ wholeSize l
-unfolding hasReply
-low-kind l h k m n = rw (le-leb 5 (length l) h, le-leb 5 (replySize l) k, le-leb (replySize l) (length l) m, lt-leb 128 (wordAt l 2) n)
+sized-by l size kind h e f =
+    rw (← e, ← f, le-leb 5 (length l) h, turned 5 size, turned size (length l), turned 128 kind) (go (ltb size 5) (ltb (length l) size) (ltb kind 128))
+  where
+    go : (a b c : Bool) → cond ((a || b) || c) 0 size ≡ cond (cond (not a) (cond (not b) (not c) false) false) size 0
+    go true b c = refl
+    go false true c = refl
+    go false false true = refl
+    go false false false = refl
 
 pub is-whole : (l : List ℕ) → 5 ≤ length l → 5 ≤ replySize l → replySize l ≤ length l → 128 ≤ wordAt l 2 → hasReply l ≡ true
 unfolding hasReply

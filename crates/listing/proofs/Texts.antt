@@ -1,13 +1,19 @@
 -- A comparison of two texts that tells whether they are equal is `sameText`, and the text for what is asked. Assumes nothing.
 use mathlib.Core.Path.{_≡_, refl, sym, ap, ap₂, _∙_, subst}
-use mathlib.Core.Bool.{Bool, true, false, _&&_}
+use mathlib.Core.Bool.{Bool, true, false, not, _&&_, _||_, cond}
 use mathlib.Core.List.{List, [], _∷_}
 use Prim.Native.Nat.{ℕ}
 use native.Mathlib.Omega.{arith}
 use borrow.Author.Tests.{eq-eqb, eqb-true}
 use lib.Dec.{eqb}
+use lib.ListN.{take}
+use Rattle.io.specs.Counts.{Counts}
 use Rattle.listing.specs.declared.options.Asked.{Asked}
-use Rattle.listing.specs.Options.{sameText, textFor}
+use mir.Val.{boolByte}
+use Rattle.listing.specs.declared.options.Asked.the-variants.{Under, Nothing}
+use Rattle.listing.specs.Options.{sameText, am9511Text, nearestText, askedOf, textFor}
+use Rattle.listing.specs.Text.{Adds}
+use Rattle.listing.proofs.Adding.{at-front}
 
 and-both : (s t : Bool) → (s && t) ≡ true → (s ≡ true) × (t ≡ true)
 and-both true t e = (refl, e)
@@ -42,7 +48,34 @@ pub tells : (l m : List ℕ) (r : Bool) → (r ≡ true → l ≡ m) → (l ≡ 
 tells l m true f g = is-same l m (f refl)
 tells l m false f g = is-other l m false g refl
 
+-- a call of more than one word, by what it was compared with
+pub asked-by : (words : ℕ) (first second : List ℕ) {older alone last : Bool} → eqb words 1 ≡ false
+    → sameText first am9511Text ≡ older → sameText first nearestText ≡ alone → sameText second nearestText ≡ last
+    → cond (eqb words 2 && (older || alone)) (Under (boolByte older) (boolByte (not older)))
+    (cond ((eqb words 3 && older) && last) (Under 1 1) Nothing)
+    ≡ askedOf words first second
+unfolding askedOf
+asked-by words first second {older} {alone} {last} n e f g = rw (n, e, f, g) (go (eqb words 2) (eqb words 3) older alone last)
+  where
+    go : (p q t u v : Bool)
+        → cond (p && (t || u)) (Under (boolByte t) (boolByte (not t))) (cond ((q && t) && v) (Under 1 1) Nothing)
+        ≡ cond p (cond t (Under 1 0) (cond u (Under 0 1) Nothing)) (cond q (cond t (cond v (Under 1 1) Nothing) Nothing) Nothing)
+    go true q true u v = refl
+    go true q false true v = refl
+    go true true false false v = refl
+    go true false false false v = refl
+    go false true true u true = refl
+    go false true true u false = refl
+    go false true false u v = refl
+    go false false t u v = refl
+
 -- the text for what is asked, where that is known
 pub asked-as : (under : ℕ → ℕ → List ℕ → List ℕ) (input : List ℕ) {asked known : Asked} → asked ≡ known
     → textFor under known input ≡ textFor under asked input
 asked-as under input e = ap (λ (a : Asked). textFor under a input) (sym e)
+
+-- what is added at the front for what a call asks for, told by its words
+pub for-call : (under : ℕ → ℕ → List ℕ → List ℕ) (input : List ℕ) {by-words asked known : Asked} {text before after : List ℕ} {new : ℕ}
+    → asked ≡ by-words → asked ≡ known → text ≡ textFor under known input → Adds text before after 0 new
+    → Counts new after × (take new after ≡ textFor under by-words input)
+for-call under input e f g a = at-front (g ∙ asked-as under input (sym e ∙ f)) a

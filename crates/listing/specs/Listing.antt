@@ -100,7 +100,3 @@ linesOf number l = linesUpTo (length l) number l
 -- what is printed: a line for each reply, record numbers from 1, and the last line
 abbrev pub listingOf : List ℕ → ℕ → ℕ → List ℕ
 listingOf replies refusal taken = linesOf 1 replies ++ endOf refusal taken
-
--- what is printed for a run that left these replies and this report: refusal, bytes taken, bytes of replies written
-abbrev pub printedOf : List ℕ → List ℕ → List ℕ
-printedOf replies report = listingOf (take (fourAt report 5) replies) (getD report 0 0) (fourAt report 1)

@@ -3,8 +3,6 @@ use Prim.Native.Nat.{ℕ}
 use mathlib.Core.Bool.{Bool, true, false, _&&_, cond}
 use mathlib.Core.List.{List, [], _∷_}
 use lib.Dec.{eqb}
-use Rattle.terms.specs.declared.Rule.{Rule}
-use Rattle.terms.specs.declared.Rule.the-variants.{Cut, Nearest}
 use Rattle.listing.specs.Listing.{newline}
 use Rattle.listing.specs.declared.options.Asked.{Asked}
 use Rattle.listing.specs.declared.options.Asked.the-variants.{Under, Nothing}
@@ -50,7 +48,3 @@ usageText = 117 ∷ 115 ∷ 97 ∷ 103 ∷ 101 ∷ newline ∷ []
 abbrev pub textFor : (ℕ → ℕ → List ℕ → List ℕ) → Asked → List ℕ → List ℕ
 textFor under (Under mode rule) input = under mode rule input
 textFor under Nothing input = usageText
-
--- the rule that a word names: `nearest`, else the cut
-abbrev pub ruleNamed : List ℕ → Rule
-ruleNamed word = cond (sameText word nearestWord) Nearest Cut

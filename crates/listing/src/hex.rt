@@ -1,6 +1,5 @@
 // Hex digits of either case read as a number, as many as a text has, up to eight; and the last digits of a number to a
 // base, added at a place.
-use crate::text::add;
 use crate::text::digit;
 ghost use mathlib.Core.Path.{_≡_};
 ghost use Prim.Native.Nat.{_+_, _*_, _^_, _≤_, _<_};
@@ -49,10 +48,12 @@ pub fn add_digits(out: &mut [u8], place: usize, n: u64, base: u64, count: usize)
     requires { ⌜ (0 < base) × (base ≤ 16) × (place + count ≤ length (now out)) ⌝ }
     ensures { λ r. ⌜ Adds (digitsTo base count n) (now (out .entry)) (now (out .exit)) place r ⌝ }
 {
-    if count == 0 {
-        return place;
+    let mut rest = n;
+    let mut i = count;
+    while 0 < i {
+        i -= 1;
+        out[place + i] = digit((rest % base) as u8);
+        rest /= base;
     }
-    let next = add_digits(out, place, n / base, base, count - 1);
-    let last = [digit((n % base) as u8)];
-    add(out, next, &last)
+    place + count
 }

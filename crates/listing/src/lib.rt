@@ -1,16 +1,15 @@
 // What the listing program prints: from the replies and the report of a run to the text of
 // document 01, a line for each reply and the last line. The text goes into a lent slice.
-pub mod ends;
 pub mod hex;
 pub mod options;
 pub mod text;
 
 ghost use mathlib.Core.Path.{_≡_};
-ghost use Prim.Native.Nat.{_+_, _*_, _-_, _≤_, _<_, min};
+ghost use Prim.Native.Nat.{_+_, _*_, _-_, _≤_, _<_};
 ghost use lib.ListN.{length};
 ghost use Rattle.listing.specs.Text.{Adds};
 ghost use Rattle.listing.specs.Listing.{replyRoom, textRoom, field, dataText, endOf, wholeSize, kindFrom};
-ghost use Rattle.listing.specs.Listing.{Front, replyLine, linesOf, printedOf};
+ghost use Rattle.listing.specs.Listing.{Front, replyLine, linesOf, listingOf};
 use crate::text::add;
 use crate::text::add_decimal;
 use crate::text::add_hex;
@@ -24,8 +23,8 @@ pub fn add_field(out: &mut [u8], place: usize, n: u64) -> usize
     requires { ⌜ place + length (field n) ≤ length (now out) ⌝ }
     ensures { λ r. ⌜ Adds (field n) (now (out .entry)) (now (out .exit)) place r ⌝ }
 {
-    let next = add(out, place, b" ");
-    add_decimal(out, next, n)
+    out[place] = b' ';
+    add_decimal(out, place + 1, n)
 }
 
 // A blank and two hex digits for each byte of the data.
@@ -50,7 +49,8 @@ fn add_end(out: &mut [u8], place: usize, refusal: u8, taken: u32) -> usize
     let a = add(out, place, b"end");
     let b = add_field(out, a, refusal as u64);
     let c = add_field(out, b, taken as u64);
-    add(out, c, b"\n")
+    out[c] = b'\n';
+    c + 1
 }
 
 // The bytes of the whole reply at the front of the rest, 0 where there is none.
@@ -62,13 +62,7 @@ fn whole_size(rest: &[u8]) -> usize
     }
     let head = four_at(rest, 0) as usize;
     let size = 2 + head % 65536;
-    if size < 5 {
-        return 0;
-    }
-    if rest.len() < size {
-        return 0;
-    }
-    if head / 65536 < 128 {
+    if (size < 5) | (rest.len() < size) | (head / 65536 < 128) {
         return 0;
     }
     size
@@ -97,7 +91,8 @@ fn add_reply(out: &mut [u8], place: usize, number: u64, rest: &[u8], size: usize
     let b = add_field(out, a, kind as u64);
     let c = add_field(out, b, rest[4] as u64);
     let d = add_data(out, c, &rest[5..size]);
-    add(out, d, b"\n")
+    out[d] = b'\n';
+    d + 1
 }
 
 // A line for each whole reply in turn.
@@ -121,24 +116,12 @@ fn add_lines(out: &mut [u8], replies: &[u8]) -> usize
     place
 }
 
-// The lesser of two numbers.
-fn lesser(a: usize, b: usize) -> usize
-    ensures { λ r. ⌜ (r ≡ min a b) × (r ≤ b) ⌝ }
-{
-    if a < b { a } else { b }
-}
-
-// What is printed for a run that left these replies and this report, added at the front of a longer text.
-// Of the replies it lists those that the report counts as written.
-pub fn add_printed(out: &mut [u8], replies: &[u8; REPLY_ROOM], report: &[u8; 9]) -> usize
-    requires { ⌜ textRoom ≤ length (now out) ⌝ }
-    ensures { λ r. ⌜ Adds (printedOf (now (replies .entry)) (now (report .entry))) (now (out .entry)) (now (out .exit))
-        0 r ⌝ }
+// What is printed of a run: a line for each of its replies, and the last line, added at the front of a longer text.
+pub fn add_listing(out: &mut [u8], replies: &[u8], refusal: u8, taken: u32) -> usize
+    requires { ⌜ (length (now replies) ≤ replyRoom) × (textRoom ≤ length (now out)) ⌝ }
+    ensures { λ r. ⌜ Adds (listingOf (now (replies .entry)) refusal taken) (now (out .entry)) (now (out .exit)) 0 r ⌝ }
     ensures { λ r. ⌜ r ≤ textRoom ⌝ }
 {
-    let written = four_at(report, 5);
-    let n = lesser(written as usize, REPLY_ROOM);
-    let all: &[u8] = replies;
-    let place = add_lines(out, &all[..n]);
-    add_end(out, place, report[0], four_at(report, 1))
+    let place = add_lines(out, replies);
+    add_end(out, place, refusal, taken)
 }

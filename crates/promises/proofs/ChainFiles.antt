@@ -26,7 +26,7 @@ use Rattle.terms.specs.Refusal.{numberOf}
 use Rattle.record_runs.specs.Record.{pushAll, before, replyOf}
 use Rattle.record_runs.specs.Run.{Outcome, runOf}
 use Rattle.record_runs.proofs.Prefix.{lawful}
-use Rattle.error_memory.specs.History.{afterAll}
+use Rattle.promises.specs.Remembered.{afterAll}
 use Rattle.error_memory.specs.declared.Memory.{Memory}
 use Rattle.error_memory.specs.Event.{Event}
 use Rattle.error_memory.specs.Event.{Chip, Recall, Forget}

@@ -13,12 +13,11 @@ use Rattle.terms.specs.declared.Width.the-variants.{Double}
 use Rattle.terms.specs.declared.Rule.{Rule}
 use Rattle.terms.specs.Settings.{Settings}
 use Rattle.float.specs.Word.{value, FloatWord}
-use Rattle.float.specs.Order.{Le, LeBy}
 use Rattle.float.specs.Float.{Result, add, sub, mul, div}
 use Rattle.float.specs.Convert.{chsf}
 use Rattle.float.proofs.Results.{add-result, sub-result, mul-result, div-result}
-use Rattle.float.proofs.Order.{add-keeps, sub-keeps, sub-turns, mul-order, div-order}
-use Rattle.float.proofs.convert.SignChange.{chsf-word, chsf-turns}
+use Rattle.promises.proofs.float.Order.{Le, LeBy, add-keeps, sub-keeps, sub-turns, mul-order, div-order}
+use Rattle.promises.proofs.float.SignChange.{chsf-word, chsf-turns}
 use Rattle.stack.specs.Stack.{tos, bytesOf}
 use Rattle.stack.proofs.Words.{number-bytes}
 use Rattle.codes.specs.declared.FloatOp.the-variants.{Add as FAdd, Sub as FSub, Mul as FMul, Div as FDiv}
@@ -31,14 +30,15 @@ use Rattle.chip.specs.State.{State}
 use Rattle.chip.specs.Event.{Event}
 use Rattle.chip.specs.Status.{statusOf}
 use Rattle.chip.specs.Commands.{floats}
-use Rattle.chip.specs.Step.{pushOf, carried, commandUnder, under}
-use Rattle.chip.specs.Events.{afterEvents, answered, quiet, pushesOf, Tops, Does}
+use Rattle.chip.specs.Step.{pushOf, carried, commandUnder}
+use Rattle.promises.specs.BusEvents.{afterEvents, answered, quiet, pushesOf}
 use Rattle.chip.proofs.Outcomes.{status-lt}
-use Rattle.chip.proofs.OnTop.{idle, floated, exchanged-words, sign-changed}
-use Rattle.chip.proofs.Events.{after-append, answered-append, quiet-append, at-rest-lt, tops-idle, underWord, does-then, does-pushes, does-command, does-float}
-use Rattle.chip.proofs.Events.{pushes-do}
+use Rattle.promises.proofs.OnTop.{idle, floated, exchanged-words, sign-changed}
+use Rattle.promises.proofs.Events.{after-append, answered-append, quiet-append, at-rest-lt, tops-idle, underWord}
+use Rattle.promises.proofs.Events.{does-then, does-pushes, does-command, does-float}
+use Rattle.promises.proofs.Events.{Tops, Does, pushes-do}
 use Rattle.promises.specs.FloatWords.{FloatWord as Proper}
-use Rattle.promises.proofs.Measures.{theirs-rest, ours-rest, theirs-word, ours-word, theirs-le, ours-le}
+use Rattle.promises.proofs.Measures.{theirs-word, ours-word, theirs-le, ours-le}
 use Rattle.promises.specs.Chains.{eventsOf, commandsIn, chainOf, Step, Add, Subtract, Multiply, Divide, TakeFrom, Change, Constant, Constants}
 use Rattle.promises.specs.Chains.{isReversing, reversing, workOf, wordAfter, Run, Starts, eventsOfRun, stateAtEnd, resultOf, Quiet, Chains, Demand3}
 use Rattle.promises.specs.Chains.{Examples}
@@ -134,7 +134,7 @@ module _ (on : Settings) where
       let s = x .state in
       let w = x .word in
       let rest = chainOf (x .sr) ks in
-      let d = pushes-do on s w (theirs-rest (S .at-rest)) in
+      let d = pushes-do on s w (S .at-rest) in
       let i = chained ks (x .sr) w (afterEvents on s (pushesOf 4 w)) C (theirs-word (S .proper)) (d .tops) in
       record {
         all-answered = answered-append on s (pushesOf 4 w) rest (d .all-answered) (i .all-answered);
@@ -193,7 +193,7 @@ chains on = record {
   equal-words = λ x y ks S T C e. result-is on x ks S C ∙ ap (λ (w : ℕ). wordAfter (on .rule) w ks) e ∙ sym (result-is on y ks T C);
   no-steps = λ x S. result-is on x [] S tt;
   proper-result = λ x ks S C. subst (λ (w : ℕ). Proper w) (sym (result-is on x ks S C)) (ours-word (word-proper on ks (x .word) C (theirs-word (S .proper))));
-  ready-again = λ x ks S C. ours-rest (run on x ks S C .tops .at-rest);
+  ready-again = λ x ks S C. run on x ks S C .tops .at-rest;
   even-keeps = λ x y ks S T C q p l e.
       ours-le (resultOf on x ks) (resultOf on y ks) (ordered on x y ks S T C q p (theirs-le (x .word) (y .word) l) .0 e);
   odd-turns = λ x y ks S T C q p l e.

@@ -1,4 +1,4 @@
--- Close readings: the law of the crate float over the rule, and the table computed under each. Assumes nothing.
+-- Close readings: the law over the rule, and the table computed under each. Assumes nothing.
 use mathlib.Core.Path.{_≡_, refl}
 use mathlib.Core.Logic.{_⊎_, inl, inr}
 use Prim.Native.Nat.{ℕ}
@@ -8,13 +8,12 @@ use Rattle.terms.specs.declared.Rule.{Rule}
 use Rattle.terms.specs.declared.Rule.the-variants.{Cut, Nearest}
 use Rattle.float.specs.Word.{value}
 use Rattle.float.specs.Float.{sub}
-use Rattle.float.proofs.sum.Close.{close-difference}
+use Rattle.promises.proofs.float.Close.{close-difference}
 use Rattle.codes.specs.Codes.{decoded}
 use Rattle.chip.specs.Status.{statusOf}
 use Rattle.chip.specs.Commands.{floats}
 use Rattle.chip.specs.Step.{pushOf, carried, commandUnder}
 use Rattle.promises.specs.Bench.{RowsHold}
-use Rattle.promises.proofs.Measures.{theirs-word, theirs-close, ours-lossless}
 use Rattle.promises.specs.CloseReadings.{CloseReadings, closeTable, CloseExamples}
 
 -- an error that is 0 or underflow is not overflow
@@ -25,8 +24,8 @@ no-overflow e (inr h) f = omega arith
 pub close-readings : CloseReadings
 unfolding value
 close-readings = record {
-  without-loss = λ rule b a B A C. ours-lossless (close-difference rule b a (theirs-word B) (theirs-word A) (theirs-close C));
-  no-overflow = λ rule b a B A C. no-overflow ((sub rule b a) .error) (close-difference rule b a (theirs-word B) (theirs-word A) (theirs-close C) .no-other);
+  without-loss = λ rule b a B A C. close-difference rule b a B A C;
+  no-overflow = λ rule b a B A C. no-overflow ((sub rule b a) .error) (close-difference rule b a B A C .no-other);
 }
 
 rows : (rule : Rule) → RowsHold rule closeTable

@@ -32,8 +32,8 @@ use Rattle.terms.specs.declared.Rule.the-variants.{Cut, Nearest}
 use Rattle.float.specs.Cut.{below0}
 use Rattle.float.specs.Convert.{fltd, flts, fix, wholePart, complement, chsf}
 use Rattle.float.proofs.Results.{add-result, sub-result, mul-result, div-result, fltd-result, flts-result}
-use Rattle.float.proofs.Steps.{div-by-zero}
-use Rattle.float.proofs.convert.Conversions.{fltd-no-error, flts-no-error}
+use Rattle.promises.proofs.float.Steps.{div-by-zero}
+use Rattle.promises.proofs.float.Conversions.{fltd-no-error, flts-no-error}
 use Rattle.float.proofs.convert.Fix.{fix-over, fix-within}
 use Rattle.stack.specs.Stack.{bytesOf, zeros, tos, nos, overA, overZero}
 use Rattle.stack.proofs.Words.{tos-over}

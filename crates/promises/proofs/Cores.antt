@@ -24,14 +24,15 @@ use Rattle.chip.specs.State.{busy, moved}
 use Rattle.chip.specs.Status.{errorOf}
 use Rattle.chip.specs.Commands.{baseRule}
 use Rattle.chip.specs.Step.{done, refused, pushOf, commandUnder, answerTo}
-use Rattle.chip.specs.Events.{afterEvents, answered, pushesOf, leavesClear, quiet}
+use Rattle.promises.specs.BusEvents.{answered, pushesOf, leavesClear, quiet}
 use Rattle.chip.proofs.Rows.{both-of}
 use Rattle.record_files.proofs.Tests.{either-eq}
 use Rattle.error_memory.specs.Event.{Event}
 use Rattle.error_memory.specs.Event.{Chip, Recall, Forget}
 use Rattle.error_memory.specs.Memory.{emptyMemory, Card, CardAnswer, cardWith, eventIn}
-use Rattle.error_memory.specs.History.{afterAll}
-use Rattle.error_memory.proofs.Kept.{settings-stay, chip-alone, event-alike, refused-leaves}
+use Rattle.promises.specs.Remembered.{afterAll}
+use Rattle.error_memory.proofs.Kept.{settings-stay, event-alike, refused-leaves}
+use Rattle.promises.proofs.Remembered.{chip-alone}
 use Rattle.error_memory.proofs.Good.{ReadyCard, event-fair, Sendable as Sends}
 use Rattle.state_bytes.specs.Bytes.{isState, stateOf, cardIn, laidOut}
 use Rattle.state_bytes.proofs.Cards.{behind, laid-is, card-returns, card-ready, laid-at, laid-length, card-short, card-long, laid-state, laid-bytes}

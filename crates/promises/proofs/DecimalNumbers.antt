@@ -10,9 +10,9 @@ use native.Mathlib.Nat.{mul-le-mul-left, mul-le-mul-right}
 use native.Mathlib.Omega.{arith}
 use borrow.Author.Tests.{eqb-true, eqb-false, ltb-true, ltb-false}
 use lib.Dec.{eqb, ltb, lit<, lit≤}
-use lib.IntN.{ℤ, pos, negℤ, natAbs, _-ℤ_}
+use lib.IntN.{ℤ, pos, negℤ, natAbs}
 use lib.Signed.{_≤ℤ_}
-use lib.ListN.{length, length-append}
+use lib.ListN.{length}
 use lib.Pow.{pow-mono, pow-add}
 use Rattle.numbers.specs.Signed as signs
 use Rattle.numbers.proofs.Differences.{either, above, beneath, parts, le-differences}
@@ -23,17 +23,13 @@ use Rattle.terms.specs.declared.Refusal.the-variants.{TooLarge, TooSmall}
 use Rattle.float.specs.declared.Flagged.{Flagged}
 use Rattle.float.specs.Word as words
 use Rattle.float.specs.Cut.{cut, below0}
-use Rattle.float.specs.Exact.{CutsBy}
 use Rattle.float.specs.Float.{Result}
-use Rattle.float.specs.Nearest as near
 use Rattle.float.proofs.cut.Signs.{cut-sign}
 use Rattle.float.proofs.Results.{cut-result}
-use Rattle.float.proofs.Steps.{exactly}
-use Rattle.float.proofs.Moved.{stored-as-is}
-use Rattle.host_floats.proofs.Pairs.{exponent-reaches}
+use Rattle.promises.proofs.float.Steps.{exactly}
+use Rattle.promises.proofs.float.Moved.{stored-as-is}
+use Rattle.promises.proofs.host_floats.Pairs.{exponent-reaches}
 use Rattle.decimals.specs.declared.bring.Brought.the-variants.{Exact as Is, Rounded as Near, Refused as Turned}
-use Rattle.decimals.specs.declared.read.Reading.{Reading}
-use Rattle.decimals.specs.declared.read.Reading.the-variants.{Exact, Rounded}
 use Rattle.decimals.specs.Bring.{judged, bringOf}
 use Rattle.decimals.specs.Read.{isDigit, answered, readOf}
 use Rattle.decimals.specs.Meaning as theirs
@@ -43,10 +39,10 @@ use Rattle.decimals.proofs.Fractions.{exact-text-is-the-value, number-on, numbe
 use Rattle.decimals.proofs.Texts.{reading-is-of-the-value}
 use Rattle.decimals.proofs.ReadBack.{short-reads-back}
 use Rattle.promises.specs.FloatWords.{withSign, negative, mantissa, exponent, size88, FloatWord}
-use Rattle.promises.specs.FloatResults.{PairBy}
+use Rattle.promises.specs.FloatResults.{PairBy, CutsBy}
 use Rattle.promises.specs.DecimalNumbers.{allDigits, numberFrom, textOf, ExactTextIsTheValue, LargeNumber, ReadExactly}
 use Rattle.promises.specs.DecimalNumbers.{ReadRightly, ReadingIsOfTheValue, ReadsTo, ShortTextReadsBack}
-use Rattle.promises.proofs.Measures.{size-is, ours-word, ours-pair}
+use Rattle.promises.proofs.Measures.{size-is, ours-word}
 
 -- ---- the book's digits are the crate's
 same-digits : (l : List ℕ) → theirs.allDigits l ≡ allDigits l
@@ -72,7 +68,7 @@ exact-text-is-the-value-of neg n h =
     }
 
 -- ---- a number that is not zero and not under 2 ^ -65
-low-of : (rule : Rule) (n d m : ℕ) (e : ℤ) → near.PairBy rule n d m e → 8388608 ≤ m
+low-of : (rule : Rule) (n d m : ℕ) (e : ℤ) → PairBy rule n d m e → 8388608 ≤ m
 low-of Cut n d m e p = p .low
 low-of Nearest n d m e p = p .low
 
@@ -119,20 +115,19 @@ module _ (rule : Rule) (neg : Bool) (k p : ℕ) (some : 0 < k) (least : 10 ^ p �
   same-sign : negative (r .word) ≡ neg
   same-sign = cuts .sign ∙ sign-of neg k some
 
-  the-pair : near.PairBy rule k (10 ^ p) (cuts .m) (cuts .e)
-  the-pair = subst (λ (n : ℕ). near.PairBy rule n (10 ^ p) (cuts .m) (cuts .e)) sized (cuts .pair)
+  the-pair : PairBy rule k (10 ^ p) (cuts .m) (cuts .e)
+  the-pair = subst (λ (n : ℕ). PairBy rule n (10 ^ p) (cuts .m) (cuts .e)) sized (cuts .pair)
 
   brought : r .error ≡ 0 → PairBy rule k (10 ^ p) (mantissa (r .word)) (exponent (r .word))
   brought none =
       let at : words.exponent (r .word) ≡ cuts .e = stored-as-is (cuts .e) r (cuts .step) none .2 in
-      ours-pair rule k (10 ^ p) (mantissa (r .word)) (exponent (r .word))
-      (subst₂ (λ (m : ℕ) (e : ℤ). near.PairBy rule k (10 ^ p) m e) (sym (cuts .digits)) (sym at) the-pair)
+      subst₂ (λ (m : ℕ) (e : ℤ). PairBy rule k (10 ^ p) m e) (sym (cuts .digits)) (sym at) the-pair
 
   large : (r .error ≡ 0 → ⊥) → LargeNumber rule k p
   large wrong = record {
     m = cuts .m;
     e = cuts .e;
-    pair = ours-pair rule k (10 ^ p) (cuts .m) (cuts .e) the-pair;
+    pair = the-pair;
     reaches = exponent-reaches (cuts .m) (cuts .e) (low-of rule k (10 ^ p) (cuts .m) (cuts .e) the-pair)
         (⊎-elim (λ l. absurd (wrong (cuts .step .within (cuts .at-least) l .0))) (λ l. l) (below-or-beyond (cuts .e)));
   }

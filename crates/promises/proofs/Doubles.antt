@@ -20,27 +20,29 @@ use Rattle.numbers.specs.Little.{le4, le8, fourAt, eightAt}
 use Rattle.numbers.proofs.Exact.{four-back, eight-back, le4-of, le8-of, four-lt, eight-lt}
 use Rattle.stack.specs.Stack.{Bytes}
 use Rattle.stack.proofs.Words.{byte-at}
-use Rattle.float.specs.Word.{negative, proper, size88, FloatWord}
-use Rattle.host_floats.specs.Values.{HasWord, Endless, IsMinusZero, Small, BroughtTo, LargeBy}
+use Rattle.float.specs.Word.{negative, proper, size88}
+use Rattle.promises.specs.FloatWords.{FloatWord}
+use Rattle.promises.specs.HostFloats.{HasWord, Endless, IsMinusZero, Small, BroughtTo, LargeBy}
 use Rattle.host_floats.specs.Double.{doubleField, doubleBits, broughtOf, outwardOf, inwardOf}
 use Rattle.host_floats.specs.declared.entry.Outward.{Outward}
 use Rattle.host_floats.specs.declared.entry.Outward.the-variants.{Float as Floats, Refused as Stays}
 use Rattle.host_floats.specs.declared.entry.Inward.{Inward}
 use Rattle.host_floats.specs.declared.entry.Inward.the-variants.{Exact, Rounded, Refused}
-use Rattle.host_floats.proofs.Apart.{held-endless, held-small, endless-minus, endless-small, minus-small}
+use Rattle.promises.proofs.host_floats.Apart.{held-endless, held-small, endless-minus, endless-small, minus-small}
 use Rattle.host_floats.proofs.DoubleOut.{double-value, goes-out, stays-in, no-nan-out}
-use Rattle.host_floats.proofs.Brought.{held-large-by, endless-large-by, minus-large-by, small-large-by, Right, exact, rounded, endless, minus, small, large}
-use Rattle.host_floats.proofs.Brought.{right}
-use Rattle.host_floats.proofs.DoubleBack.{brought-once, answers-exact, answers-rounded, answers-endless, answers-minus, answers-small, answers-large}
-use Rattle.host_floats.proofs.DoubleBack.{double-back, exact-bits}
+use Rattle.promises.proofs.host_floats.Brought.{held-large-by, endless-large-by, minus-large-by, small-large-by, Right, exact, rounded, endless, minus}
+use Rattle.promises.proofs.host_floats.Brought.{small, large}
+use Rattle.promises.proofs.host_floats.Brought.{right}
+use Rattle.promises.proofs.host_floats.DoubleBack.{brought-once, answers-exact, answers-rounded, answers-endless, answers-minus, answers-small}
+use Rattle.promises.proofs.host_floats.DoubleBack.{answers-large}
+use Rattle.promises.proofs.host_floats.DoubleBack.{double-back, exact-bits}
 use Rattle.host_floats.specs.declared.buffer.Entry.{Entry}
 use Rattle.host_floats.specs.declared.buffer.BufferReply.{BufferReply}
 use Rattle.host_floats.specs.Buffers.{outwardEntry, inwardEntry, wordEntry, floatEntry, floatEntries, replyTo, Turn, wordsTurn, floatsTurn, Turns}
 use Rattle.host_floats.proofs.Writing.{firstBytes, first-length}
 use Rattle.host_floats.proofs.Answers.{part-words, no-room-words, bad-word, words-written, no-rule, part-floats, no-room-floats, bad-float, floats-written}
-use Rattle.host_floats.proofs.Blocks.{block, whole}
-use Rattle.host_floats.proofs.Found.{roundedBelow, Taken, reply-bad, reply-done, First, all-or-first, none-rounded, rounded-none}
-use Rattle.promises.proofs.Measures.{theirs-held, ours-held, theirs-brought, ours-brought, theirs-large, ours-large}
+use Rattle.promises.proofs.host_floats.Blocks.{block, whole}
+use Rattle.promises.proofs.host_floats.Found.{roundedBelow, Taken, reply-bad, reply-done, First, all-or-first, none-rounded, rounded-none}
 use Rattle.promises.specs.Doubles.{carriedBits, outward, inward, OutwardExact, InwardAnswered, BroughtOnce, floatIn, wordBytes, floatBytes, turned}
 use Rattle.promises.specs.Doubles.{WordsCall, Names, cut, nearest, isRounded, howMany, FloatsCall, BufferCalls, BuffersKept, WordsBack, FloatsBack}
 use Rattle.promises.specs.Doubles.{WordsToF64Determined, F64ToWordsDetermined}
@@ -134,12 +136,12 @@ inward-answered rule p l =
     let h = right rule p l in
     let why = because rule x r h in
     record {
-      exact = λ w. (λ e. let a = was-exact rule x r w e h in (ours-held (a .0), a .1), λ a. answers-exact rule x r w (theirs-held (a .0)) (a .1) h);
+      exact = λ w. (λ e. let a = was-exact rule x r w e h in (a .0, a .1), λ a. answers-exact rule x r w (a .0) (a .1) h);
       rounded = λ w. (
-        λ e. let a = was-rounded rule x r w (e .0) (e .1) h in (ours-brought (a .0), λ v k. a .1 v (theirs-held k), a .2),
-        λ a. answers-rounded rule x r w (theirs-brought (a .0)) (λ v k. a .1 v (ours-held k)) (a .2) h,
+        λ e. let a = was-rounded rule x r w (e .0) (e .1) h in (a .0, a .1, a .2),
+        λ a. answers-rounded rule x r w (a .0) (a .1) (a .2) h,
       );
-      carried = λ w y e. ours-held (was-rounded rule x r w y e h .3);
+      carried = λ w y e. was-rounded rule x r w y e h .3;
       carried-bits = λ w y e.
           ap carriedBits e ∙ ap (toBits binary64) (subst OwnFloat e (own rule p))
           ∙ sym (ap (λ (o : Outward). outwardEntry o .bits) (goes-out w (was-rounded rule x r w y e h .3 .word .is-proper)));
@@ -147,20 +149,20 @@ inward-answered rule p l =
       ten = (λ d. subst (Because rule x) d why, λ a. ap numberIn (answers-endless rule x r a h));
       fifteen = (λ d. subst (Because rule x) d why, λ a. ap numberIn (answers-minus rule x r a h));
       twelve = (λ d. subst (Because rule x) d why, λ a. ap numberIn (answers-small rule x r a h));
-      eleven = (λ d. ours-large (subst (Because rule x) d why), λ a. ap numberIn (answers-large rule x r (theirs-large a) h));
+      eleven = (λ d. subst (Because rule x) d why, λ a. ap numberIn (answers-large rule x r a h));
       apart = record {
         endless-minus = endless-minus x;
         endless-small = endless-small x;
-        endless-large = λ a b. endless-large-by rule x a (theirs-large b);
+        endless-large = endless-large-by rule x;
         minus-small = minus-small x;
-        minus-large = λ a b. minus-large-by rule x a (theirs-large b);
-        small-large = λ a b. small-large-by rule x a (theirs-large b);
-        with-word = λ w a. let b = theirs-held a in (held-endless x w b, held-small x w b, λ c. held-large-by rule x w b (theirs-large c));
+        minus-large = minus-large-by rule x;
+        small-large = small-large-by rule x;
+        with-word = λ w a. (held-endless x w a, held-small x w a, held-large-by rule x w a);
       };
     }
 
 pub brought-to-one : BroughtOnce
-brought-to-one rule x w v a b = brought-once rule x w v (theirs-brought a) (theirs-brought b)
+brought-to-one rule x w v a b = brought-once rule x w v a b
 
 -- ---- the calls
 as-turned : {t : Turn} {result number : ℕ} {out : List ℕ} → Turns t result number out → t ≡ turned result number out

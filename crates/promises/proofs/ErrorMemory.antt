@@ -35,7 +35,7 @@ use Rattle.record_runs.specs.Record.{kindOf, Carried, Holds, before, pushAll, p
 use Rattle.record_runs.specs.Run.{Outcome, runOf}
 use Rattle.record_runs.proofs.Prefix.{lawful}
 use Rattle.record_runs.proofs.Ready.{run-ready}
-use Rattle.record_runs.proofs.Single.{reset-is}
+use Rattle.promises.proofs.Single.{reset-is}
 use Rattle.terms.specs.Limits.{mostPayload}
 use Rattle.state_bytes.specs.Bytes.{isChip, isState, stateOf, memoryIn, cardIn, stateBytesOf, laidOut}
 use Rattle.state_bytes.proofs.States.{short-state, long-state, long-bad, short-memory, long-memory}

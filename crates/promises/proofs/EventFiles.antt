@@ -27,13 +27,13 @@ use Rattle.error_memory.specs.declared.Memory.{Memory}
 use Rattle.error_memory.specs.Event.{Event}
 use Rattle.error_memory.specs.Event.{Chip, Recall, Forget}
 use Rattle.error_memory.specs.Memory.{emptyMemory, Card, cardWith, CardAnswer, keptAfter, answerWith, eventIn}
-use Rattle.error_memory.specs.History.{afterAll}
+use Rattle.promises.specs.Remembered.{afterAll}
 use Rattle.error_memory.proofs.Good.{memory-cases, ReadyCard}
 use Rattle.record_runs.specs.Record.{turnOf}
 use Rattle.record_runs.specs.Run.{Outcome, took, after as joinedTo, runOf as fileRun}
 use Rattle.record_files.proofs.Append.{nothing, onward, appended}
 use Rattle.record_runs.proofs.Prefix.{lawful}
-use Rattle.record_runs.proofs.Single.{reset-is}
+use Rattle.promises.proofs.Single.{reset-is}
 use Rattle.state_bytes.specs.Bytes.{isState, cardIn, laidOut}
 use Rattle.state_bytes.proofs.Cards.{card-returns, card-ready, laid-at}
 use Rattle.state_bytes.specs.Calls.{Called, ranOf, joinedOf}

@@ -1,4 +1,4 @@
--- How float results are formed and cut: each sentence is a law of the crate float, in the book's terms, over the rule. Assumes nothing.
+-- How float results are formed and cut: each sentence is a law of `float`, over the rule. Assumes nothing.
 use mathlib.Core.Path.{_≡_, refl, sym, ap, ap₂, _∙_, subst}
 use mathlib.Core.Bool.{Bool, true, false}
 use mathlib.Core.Logic.{inl, inr}
@@ -17,41 +17,39 @@ use Rattle.float.specs.Word.{size88 as size-of, value as value-of}
 use Rattle.float.specs.Cut.{cut}
 use Rattle.float.specs.Float.{add, sub, mul, div}
 use Rattle.float.specs.Convert.{fltd, flts, fix, chsf, wholePart as whole-of}
-use Rattle.float.specs.Exact.{Fixes}
-use Rattle.float.proofs.cut.OnePair.{a-pair, one-pair}
+use Rattle.promises.proofs.float.OnePair.{a-pair, one-pair}
 use Rattle.float.proofs.cut.Signs.{times-size}
-use Rattle.float.proofs.Order.{size-pos, div-cut}
-use Rattle.float.proofs.Steps.{add-exactly, sub-exactly, mul-exactly, div-exactly, div-by-zero}
+use Rattle.float.proofs.Results.{size-pos, div-cut}
+use Rattle.promises.proofs.float.Steps.{add-exactly, sub-exactly, mul-exactly, div-exactly, div-by-zero}
 use Rattle.float.proofs.Results.{add-result, sub-result, mul-result, div-result, fltd-result, flts-result}
-use Rattle.float.proofs.convert.SignChange.{chsf-word, chsf-value}
-use Rattle.float.proofs.cut.Kept.{own-value, same-word}
-use Rattle.float.proofs.convert.Conversions.{flts-exact, fltd-exactly, fltd-no-error, flts-no-error, flts-either, whole-part, fix-law}
+use Rattle.promises.proofs.float.SignChange.{chsf-word, chsf-value}
+use Rattle.promises.proofs.float.Kept.{own-value, same-word}
+use Rattle.promises.proofs.float.Conversions.{Fixes, flts-exact, fltd-exactly, fltd-no-error, flts-no-error, flts-either, whole-part, fix-law}
 use Rattle.promises.specs.FloatWords.{withSign, below0, mantissa, size88, value, FloatWord, exactSum, exactDifference, exactProduct, dividend, divisor}
 use Rattle.promises.specs.FloatResults.{clean, ExactlyBy, integer, wholePart, Truncated}
 use Rattle.promises.specs.Exact.{Operations, ResultWords, Exact}
-use Rattle.promises.proofs.Measures.{theirs-word, ours-word, theirs-cut-pair, ours-cut-pair, ours-exactly, ours-truncated}
+use Rattle.promises.proofs.Measures.{theirs-word, ours-word}
 
 -- ---- the exact value, brought to a word by a rule
 pub sum-exact : (r : Rule) (b a : ℕ) → ExactlyBy r (exactSum b a) (2 ^ 88) (negℤ (pos 87)) (pos 64) (add r b a)
 unfolding value-of
-sum-exact r b a = ours-exactly r (exactSum b a) (2 ^ 88) (negℤ (pos 87)) (pos 64) (add r b a) (add-exactly r b a)
+sum-exact r b a = add-exactly r b a
 
 pub difference-exact : (r : Rule) (b a : ℕ) → ExactlyBy r (exactDifference b a) (2 ^ 88) (negℤ (pos 87)) (pos 64) (sub r b a)
 unfolding value-of
-difference-exact r b a = ours-exactly r (exactDifference b a) (2 ^ 88) (negℤ (pos 87)) (pos 64) (sub r b a) (sub-exactly r b a)
+difference-exact r b a = sub-exactly r b a
 
 pub product-exact : (r : Rule) (b a : ℕ) → FloatWord b → FloatWord a → ExactlyBy r (exactProduct b a) (2 ^ 176) (negℤ (pos 129)) (pos 126) (mul r b a)
 unfolding value-of
-product-exact r b a B A = ours-exactly r (exactProduct b a) (2 ^ 176) (negℤ (pos 129)) (pos 126) (mul r b a) (mul-exactly r b a (B .is-proper) (A .is-proper))
+product-exact r b a B A = mul-exactly r b a (B .is-proper) (A .is-proper)
 
 pub quotient-exact : (r : Rule) (b a : ℕ) → FloatWord b → FloatWord a → (mantissa a ≡ 0 → ⊥) → ExactlyBy r (dividend b a) (divisor a) (negℤ (pos 127)) (pos 128)
     (div r b a)
 unfolding size-of
-quotient-exact r b a B A nz =
-    ours-exactly r (dividend b a) (divisor a) (negℤ (pos 127)) (pos 128) (div r b a) (div-exactly r b a (B .is-proper) (A .is-proper) nz)
+quotient-exact r b a B A nz = div-exactly r b a (B .is-proper) (A .is-proper) nz
 
 pub fltd-exact : (r : Rule) (a : ℕ) → a < 2 ^ 32 → ExactlyBy r (integer (2 ^ 31) a) 1 (pos 1) (pos 32) (fltd r a)
-fltd-exact r a h = ours-exactly r (integer (2 ^ 31) a) 1 (pos 1) (pos 32) (fltd r a) (fltd-exactly r a h)
+fltd-exact r a h = fltd-exactly r a h
 
 -- FLTS of a word is FLTD of the same number in 32 bits
 long : (r : Rule) (a b : ℕ) → b < 2 ^ 32 → integer (2 ^ 31) b ≡ integer (2 ^ 15) a → ExactlyBy r (integer (2 ^ 15) a) 1 (pos 1) (pos 32)
@@ -90,25 +88,25 @@ twice z x y =
 -- an exact result that is the value of a proper word, under either rule
 pub sum-kept : (r : Rule) (b a w : ℕ) → FloatWord w → value w ≡ exactSum b a → add r b a ≡ clean w
 unfolding add
-sum-kept r b a w W e = own-value r w (exactSum b a) (2 ^ 88) (theirs-word W) (pow-pos 88) (ap (λ (z : ℤ). z *ℤ pos (2 ^ 88)) e)
+sum-kept r b a w W e = own-value r w (exactSum b a) (2 ^ 88) W (pow-pos 88) (ap (λ (z : ℤ). z *ℤ pos (2 ^ 88)) e)
 
 pub difference-kept : (r : Rule) (b a w : ℕ) → FloatWord w → value w ≡ exactDifference b a → sub r b a ≡ clean w
 unfolding sub
-difference-kept r b a w W e = own-value r w (exactDifference b a) (2 ^ 88) (theirs-word W) (pow-pos 88) (ap (λ (z : ℤ). z *ℤ pos (2 ^ 88)) e)
+difference-kept r b a w W e = own-value r w (exactDifference b a) (2 ^ 88) W (pow-pos 88) (ap (λ (z : ℤ). z *ℤ pos (2 ^ 88)) e)
 
 pub product-kept : (r : Rule) (b a w : ℕ) → FloatWord w → value w *ℤ pos (2 ^ 88) ≡ exactProduct b a → mul r b a ≡ clean w
 unfolding mul
-product-kept r b a w W e = own-value r w (exactProduct b a) (2 ^ 176) (theirs-word W) (pow-pos 176)
+product-kept r b a w W e = own-value r w (exactProduct b a) (2 ^ 176) W (pow-pos 176)
     (sym (twice (value w) (2 ^ 88) (2 ^ 88)) ∙ ap (λ (z : ℤ). z *ℤ pos (2 ^ 88)) e)
 
 pub quotient-kept : (r : Rule) (b a w : ℕ) → FloatWord w → (mantissa a ≡ 0 → ⊥) → value w *ℤ pos (divisor a) ≡ dividend b a *ℤ pos (2 ^ 88) → div r b
     a ≡ clean w
 unfolding value-of
-quotient-kept r b a w W nz e = div-cut r b a nz ∙ own-value r w (dividend b a) (divisor a) (theirs-word W) (size-pos a nz) e
+quotient-kept r b a w W nz e = div-cut r b a nz ∙ own-value r w (dividend b a) (divisor a) W (size-pos a nz) e
 
 one-word : (v w : ℕ) → FloatWord v → FloatWord w → value v ≡ value w → v ≡ w
 unfolding value-of
-one-word v w A B e = same-word v w (theirs-word A) (theirs-word B) e
+one-word v w A B e = same-word v w A B e
 
 opposite : (a : ℕ) → FloatWord a → value (chsf a) ≡ negℤ (value a)
 unfolding value-of
@@ -129,7 +127,7 @@ unfolding whole-of
 taken half a h = go (fix-law half a)
   where
     go : Fixes half a (fix half a) → Truncated half a (fix half a)
-    go (inl t) = ours-truncated (t .1)
+    go (inl t) = t .1
     go (inr t) = let k = t .0 in absurd (omega arith)
 
 over : (half a : ℕ) → half ≤ wholePart a → fix half a ≡ record { word = a; error = 1 }
@@ -165,8 +163,8 @@ results-by rule = record {
 pub exact : Exact
 exact = record {
   one-pair = record {
-    exists = λ n d N D. let p = a-pair n d N D in (p .0, p .1, ours-cut-pair (p .2));
-    only = λ n d m m' e e' D P Q. one-pair n d m m' e e' D (theirs-cut-pair P) (theirs-cut-pair Q);
+    exists = a-pair;
+    only = one-pair;
   };
   operations = operations-by Cut;
   words = record {

@@ -9,6 +9,7 @@ use native.Mathlib.Nat.{mul-assoc, mul-comm, pow-suc}
 use borrow.Author.Tests.{le-leb, lt-leb}
 use lib.ListN.{length, take, drop, length-drop}
 use lib.Seq.{length-take-le}
+use Rattle.numbers.proofs.Differences.{either}
 use Rattle.float.specs.Word.{FloatWord}
 use Rattle.stack.specs.Stack.{Bytes}
 use Rattle.stack.proofs.Words.{number-below, bytes-take, bytes-drop}
@@ -16,13 +17,12 @@ use Rattle.formula.specs.Formula.{Formula, Letter, Constant, Minus, Brackets, J
 use Rattle.formula.specs.Grammar.{isDigit, areDigits, IsSum, product, plus, less, IsProduct, factor, times, over, IsFactor, letter, constant, minus, brackets}
 use Rattle.formula.specs.File.{letterWord, digitValue, hexFrom, constantWord, properIn}
 use Rattle.formula.proofs.Digits.{both, digit-below, digit-above}
-use Rattle.formula.proofs.Reading.{side}
 
 digit-lt : (b : ℕ) → isDigit b ≡ true → digitValue b < 16
 digit-lt b h = ⊎-elim
     (λ i. let j = digit-above b h i in rw (lt-leb b 0x39 i) (omega arith))
     (λ i. let j = digit-below b h i in rw (le-leb b 0x39 i) (omega arith))
-    (side 0x39 b)
+    (either 0x39 b)
 
 hex-lt : (a k : ℕ) (s : List ℕ) → a < k → areDigits s ≡ true → hexFrom a s < k * 16 ^ length s
 hex-lt a k [] h d = omega arith

@@ -4,29 +4,31 @@ use mathlib.Core.Path.{_≡_, refl, sym, ap, _∙_}
 use mathlib.Core.List.{List, [], _∷_, _++_, append-assoc}
 use Prim.Native.Nat.{ℕ, suc, _+_, _≤_, _<_, max}
 use native.Mathlib.Omega.{arith}
-use lib.ListN.{length, take}
+use lib.ListN.{length, take, length-append}
 use lib.Seq.{take-at}
 use Rattle.terms.specs.declared.Rule.{Rule}
 use Rattle.terms.specs.Settings.{Settings}
 use Rattle.float.specs.Word.{FloatWord}
 use Rattle.float.proofs.Results.{add-result, sub-result, mul-result, div-result}
-use Rattle.float.proofs.convert.SignChange.{chsf-word}
+use Rattle.promises.proofs.float.SignChange.{chsf-word}
 use Rattle.stack.specs.Stack.{bytesOf}
 use Rattle.stack.proofs.Words.{length-bytes}
 use Rattle.codes.specs.declared.FloatOp.the-variants.{Add, Sub, Mul, Div}
 use Rattle.codes.specs.Codes.{decoded}
 use Rattle.chip.specs.State.{State}
-use Rattle.chip.specs.Events.{AtRest}
+use Rattle.promises.specs.BusEvents.{AtRest}
 use Rattle.error_memory.specs.declared.Memory.{Memory}
-use Rattle.formula.specs.Formula.{Operator, Plus, Less, Times, Over, Formula, Letter, Constant, Minus, Brackets, Joined, needOf}
-use Rattle.formula.specs.File.{letterWord, constantWord, codeOf, commandRecord, fileOf, repliesTo}
-use Rattle.formula.specs.Evaluation.{worked, evaluated}
+use Rattle.formula.specs.Formula.{needOf}
+use Rattle.formula.specs.File.{letterWord, constantWord, codeOf, commandRecord, minusCode, fileOf}
+use Rattle.promises.specs.FormulaText.{Operator, Plus, Less, Times, Over, Formula, Letter, Constant, Minus, Brackets, Joined, repliesTo}
+use Rattle.promises.specs.FormulaText.{worked, evaluated}
+use Rattle.promises.proofs.FormulaText.{sign, tree}
 use Rattle.promises.proofs.FormulaWords.{On, Ran, Step, then-step, pushed, operated, negated}
 use Rattle.promises.proofs.FormulaLeaves.{Leaves}
 
 -- the four operations
 operation : (on : Settings) (o : Operator) (b a : ℕ) (ws : List ℕ) (s : State) (m : Memory) → FloatWord b → FloatWord a → On (a ∷ b ∷ ws) s
-    → Step on s m (commandRecord (codeOf o)) (3 ∷ 0 ∷ 131 ∷ 0 ∷ 0 ∷ []) (worked (on .rule) o b a ∷ ws)
+    → Step on s m (commandRecord (codeOf (sign o))) (3 ∷ 0 ∷ 131 ∷ 0 ∷ 0 ∷ []) (worked (on .rule) o b a ∷ ws)
 unfolding decoded
 operation on Plus b a ws s m B A O = operated on Add 0x10 b a ws s m refl B A (add-result (on .rule) b a) O
 operation on Less b a ws s m B A O = operated on Sub 0x11 b a ws s m refl B A (sub-result (on .rule) b a) O
@@ -41,12 +43,12 @@ worked-word rule Over b a B = div-result rule b a B .word
 
 -- a formula's word, on top of the words that stood
 record Did (on : Settings) (letters : List ℕ) (f : Formula) (ws : List ℕ) (s : State) (m : Memory) : Type 0 where
-  step : Step on s m (fileOf letters f) (repliesTo f) (evaluated (on .rule) letters f ∷ ws)
+  step : Step on s m (fileOf letters (tree f)) (repliesTo f) (evaluated (on .rule) letters f ∷ ws)
   word : FloatWord (evaluated (on .rule) letters f)
 
-did : (on : Settings) (letters : List ℕ) (f : Formula) (ws : List ℕ) (s : State) (m : Memory) → Leaves letters f → On ws s → length ws + needOf f ≤ 4 → Did on
-    letters f ws s m
-unfolding needOf fileOf repliesTo evaluated
+did : (on : Settings) (letters : List ℕ) (f : Formula) (ws : List ℕ) (s : State) (m : Memory) → Leaves letters (tree f) → On ws s
+    → length ws + needOf (tree f) ≤ 4 → Did on letters f ws s m
+unfolding needOf fileOf letterWord
 did on letters (Letter k) ws s m W O h = record { step = pushed on (letterWord letters k) ws s m O (omega arith); word = W }
 did on letters (Constant d) ws s m W O h = record { step = pushed on (constantWord d) ws s m O (omega arith); word = W }
 did on letters (Minus f) ws s m W O h =
@@ -74,8 +76,9 @@ pub record AfterFile (on : Settings) (s : State) (m : Memory) (file replies : Li
   pub at-rest : AtRest end
   pub proper : FloatWord word
 
-pub evaluates : (on : Settings) (letters : List ℕ) (f : Formula) (s : State) (m : Memory) → Leaves letters f → needOf f ≤ 4 → length (s .stack) ≡ 16 → AtRest s
-    → AfterFile on s m (fileOf letters f) (repliesTo f) (evaluated (on .rule) letters f)
+pub evaluates : (on : Settings) (letters : List ℕ) (f : Formula) (s : State) (m : Memory) → Leaves letters (tree f) → needOf (tree f) ≤ 4
+    → length (s .stack) ≡ 16 → AtRest s
+    → AfterFile on s m (fileOf letters (tree f)) (repliesTo f) (evaluated (on .rule) letters f)
 evaluates on letters f s m W need six R =
     let d = did on letters f [] s m W (record { rest = s .stack; stack-is = refl; sixteen = six; at-rest = R }) (omega arith) in
     let o = d .step .stands in
@@ -89,3 +92,30 @@ evaluates on letters f s m W need six R =
       at-rest = o .at-rest;
       proper = d .word;
     }
+
+-- the replies have no more bytes than the file: five for a record, which has at least as many
+pub replies-few : (letters : List ℕ) (f : Formula) → length (repliesTo f) ≤ length (fileOf letters (tree f))
+unfolding fileOf
+replies-few letters (Letter k) = omega arith
+replies-few letters (Constant s) = omega arith
+replies-few letters (Minus f) = let r : List ℕ = 3 ∷ 0 ∷ 131 ∷ 0 ∷ 0 ∷ [] in omega (
+  arith,
+  replies-few letters f,
+  length-append (repliesTo f) r,
+  length-append (fileOf letters (tree f)) (commandRecord minusCode),
+)
+replies-few letters (Brackets f) = replies-few letters f
+replies-few letters (Joined o f g) =
+    let r : List ℕ = 3 ∷ 0 ∷ 131 ∷ 0 ∷ 0 ∷ [] in
+    let c = commandRecord (codeOf (sign o)) in
+    let a = fileOf letters (tree f) in
+    let b = fileOf letters (tree g) in
+    omega (
+      arith,
+      replies-few letters f,
+      replies-few letters g,
+      length-append (repliesTo f) (repliesTo g ++ r),
+      length-append (repliesTo g) r,
+      length-append a (b ++ c),
+      length-append b c,
+    )

@@ -1,21 +1,18 @@
--- The book's trees are the crate's, one for one: the same text, need, nesting, words, file, replies and evaluation. Assumes nothing.
+-- The book's trees are the crate's, one for one: the same text, need, nesting, words, and file. Assumes nothing.
 use mathlib.Core.Path.{_≡_, refl, sym, ap, ap₂, _∙_, subst}
 use mathlib.Core.Bool.{Bool, _&&_}
 use mathlib.Core.List.{List, [], _∷_, _++_}
 use Prim.Native.Nat.{ℕ, suc, max, _≤_}
-use Rattle.terms.specs.declared.Rule.{Rule}
-use Rattle.float.specs.Convert.{chsf}
 use Rattle.formula.specs.Formula as theirs
 use Rattle.formula.specs.Formula.{nested as their-nested, needOf as their-need}
 use Rattle.formula.specs.Grammar as grammar
-use Rattle.formula.specs.File.{letterWord as their-letter, properIn as their-proper, fileOf as their-file, repliesTo as their-replies}
-use Rattle.formula.specs.Evaluation.{worked as their-worked, evaluated as their-word}
+use Rattle.formula.specs.File.{letterWord as their-letter, properIn as their-proper, fileOf as their-file}
 use Rattle.promises.specs.FormulaText.{Operator, Plus, Less, Times, Over, Formula, Letter, Constant, Minus, Brackets, Joined, nested, needOf}
 use Rattle.promises.specs.FormulaText.{IsSum, product, plus, less, IsProduct, factor, times, over, IsFactor, letter, constant, minus, brackets, IsText}
-use Rattle.promises.specs.FormulaText.{letterWord, properIn, commandRecord, codeOf, fileOf, repliesTo, worked, evaluated}
+use Rattle.promises.specs.FormulaText.{letterWord, properIn, commandRecord, codeOf, fileOf}
 
 -- ---- trees
-abbrev sign : Operator → theirs.Operator
+abbrev pub sign : Operator → theirs.Operator
 sign Plus = theirs.Plus
 sign Less = theirs.Less
 sign Times = theirs.Times
@@ -115,25 +112,6 @@ module _ (letters : List ℕ) where
   file-is (Joined Less l r) = ap₂ (λ (x y : List ℕ). x ++ (y ++ commandRecord 0x11)) (file-is l) (file-is r)
   file-is (Joined Times l r) = ap₂ (λ (x y : List ℕ). x ++ (y ++ commandRecord 0x12)) (file-is l) (file-is r)
   file-is (Joined Over l r) = ap₂ (λ (x y : List ℕ). x ++ (y ++ commandRecord 0x13)) (file-is l) (file-is r)
-
-  pub word-is : (rule : Rule) (f : Formula) → their-word rule letters (tree f) ≡ evaluated rule letters f
-  unfolding their-word their-letter
-  word-is rule (Letter k) = refl
-  word-is rule (Constant s) = refl
-  word-is rule (Minus f) = ap chsf (word-is rule f)
-  word-is rule (Brackets f) = word-is rule f
-  word-is rule (Joined Plus l r) = ap₂ (worked rule Plus) (word-is rule l) (word-is rule r)
-  word-is rule (Joined Less l r) = ap₂ (worked rule Less) (word-is rule l) (word-is rule r)
-  word-is rule (Joined Times l r) = ap₂ (worked rule Times) (word-is rule l) (word-is rule r)
-  word-is rule (Joined Over l r) = ap₂ (worked rule Over) (word-is rule l) (word-is rule r)
-
-pub replies-are : (f : Formula) → their-replies (tree f) ≡ repliesTo f
-unfolding their-replies
-replies-are (Letter k) = refl
-replies-are (Constant s) = refl
-replies-are (Minus f) = ap (λ (l : List ℕ). l ++ (3 ∷ 0 ∷ 131 ∷ 0 ∷ 0 ∷ [])) (replies-are f)
-replies-are (Brackets f) = replies-are f
-replies-are (Joined o l r) = ap₂ (λ (x y : List ℕ). x ++ (y ++ (3 ∷ 0 ∷ 131 ∷ 0 ∷ 0 ∷ []))) (replies-are l) (replies-are r)
 
 -- ---- the grammar
 mutual

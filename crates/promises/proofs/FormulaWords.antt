@@ -25,11 +25,10 @@ use Rattle.chip.specs.Event.{Command}
 use Rattle.chip.specs.Status.{statusOf}
 use Rattle.chip.specs.Commands.{floatOf}
 use Rattle.chip.specs.Step.{done, commandUnder}
-use Rattle.chip.specs.Events.{AtRest}
+use Rattle.promises.specs.BusEvents.{AtRest}
 use Rattle.chip.proofs.Outcomes.{status-lt}
-use Rattle.chip.proofs.InTurn.{word-pushed}
-use Rattle.chip.proofs.OnTop.{idle, floated, sign-changed}
-use Rattle.chip.proofs.Events.{at-rest-lt}
+use Rattle.promises.proofs.OnTop.{idle, floated, sign-changed}
+use Rattle.promises.proofs.Events.{at-rest-lt}
 use Rattle.error_memory.specs.declared.Memory.{Memory}
 use Rattle.error_memory.specs.Memory.{Card, cardWith, keptAfter}
 use Rattle.record_files.specs.Run as files
@@ -37,7 +36,8 @@ use Rattle.record_files.proofs.Append.{onward, appended}
 use Rattle.record_runs.specs.Record.{turnOf}
 use Rattle.record_runs.specs.Run.{Outcome, took, after, runOf}
 use Rattle.record_runs.proofs.Prefix.{lawful}
-use Rattle.record_runs.proofs.Single.{push-alone, command-alone}
+use Rattle.promises.proofs.Single.{command-alone}
+use Rattle.promises.proofs.InTurn.{word-pushed, push-alone}
 use Rattle.formula.specs.File.{pushRecord, commandRecord, minusCode}
 
 -- ---- words on top of a stack

@@ -5,7 +5,8 @@ use mathlib.Core.Bool.{Bool, true, false}
 use mathlib.Core.List.{List, [], _∷_, _++_}
 use Prim.Native.Nat.{ℕ, _+_, _*_, _≤_, _<_}
 use native.Mathlib.Omega.{arith}
-use lib.Dec.{lit≤}
+use borrow.Author.Tests.{ltb-true, ltb-false}
+use lib.Dec.{ltb, lit≤}
 use lib.Ieee.{size}
 use lib.ListN.{length, drop, getD, replicate}
 use Rattle.terms.specs.declared.Rule.{Rule}
@@ -15,11 +16,9 @@ use Rattle.float.specs.Convert.{chsf}
 use Rattle.formula.specs.Formula as trees
 use Rattle.formula.specs.Formula.{needOf as their-need}
 use Rattle.formula.specs.Reader.{Read, Found, Outside, formulaOf, factorOf, more, leafOf}
-use Rattle.formula.specs.File.{letterWord, properIn, fileOf, repliesTo as their-replies}
-use Rattle.formula.specs.Evaluation.{evaluated as their-word}
+use Rattle.formula.specs.File.{letterWord, properIn, fileOf}
 use Rattle.formula.specs.Translation.{translationOf}
 use Rattle.formula.proofs.Texts.{read-is, one-tree}
-use Rattle.formula.proofs.Sizes.{replies-few}
 use Rattle.promises.specs.Subjects.{Wrote, formulaCall}
 use Rattle.promises.specs.FloatWords.{FloatWord}
 use Rattle.promises.specs.PrintedText.{written}
@@ -27,11 +26,11 @@ use Rattle.promises.specs.FormulaText as book
 use Rattle.promises.specs.FormulaText.{Formula, IsText, needOf}
 use Rattle.promises.specs.Given.{settingsIn, runCall}
 use Rattle.promises.specs.Formulas.{FormulaDetermined, OneTree, Stated, Refuses, no-formula, improper, needs-more, no-room, Takes, FormulaRefusals}
-use Rattle.promises.specs.Formulas.{fileIn, Evaluates, EvaluatesCall, FormulaRuns}
+use Rattle.promises.specs.Formulas.{fileIn, FormulaRuns}
 use Rattle.promises.specs.Formulas.{WrongTranslators, lettersGiven, FormulaExamples}
-use Rattle.promises.proofs.Measures.{theirs-rest}
-use Rattle.promises.proofs.FormulaText.{tree, leaf, tree-back, leaf-back, need-is, proper-is, file-is, word-is, replies-are, theirs-sum, theirs-text}
+use Rattle.promises.proofs.FormulaText.{tree, leaf, tree-back, leaf-back, need-is, proper-is, file-is, theirs-sum, theirs-text}
 use Rattle.promises.proofs.FormulaText.{ours-text}
+use Rattle.promises.proofs.FormulaRuns.{replies-few}
 use Rattle.promises.proofs.Translations as crate
 
 pub formula-determined : FormulaDetermined
@@ -48,16 +47,6 @@ module _ {text letters : List ℕ} where
   ours-stated : {t : trees.Formula} → crate.Stated text letters t → Stated text letters (leaf t)
   ours-stated S = record { eight-words = S .eight-words; is-text = ours-text (S .is-text) }
 
--- the measures of a tree of the crate's, at its formula
-proper-at : (letters : List ℕ) (t : trees.Formula) → properIn letters t ≡ book.properIn letters (leaf t)
-proper-at letters t = ap (properIn letters) (sym (tree-back t)) ∙ proper-is letters (leaf t)
-
-need-at : (t : trees.Formula) → their-need t ≡ needOf (leaf t)
-need-at t = ap their-need (sym (tree-back t)) ∙ need-is (leaf t)
-
-file-at : (letters : List ℕ) (t : trees.Formula) → fileOf letters t ≡ book.fileOf letters (leaf t)
-file-at letters t = ap (fileOf letters) (sym (tree-back t)) ∙ file-is letters (leaf t)
-
 theirs-takes : {text letters : List ℕ} {room : ℕ} {f : Formula} → Takes text letters room f → crate.Takes text letters room (tree f)
 theirs-takes {text} {letters} {room} {f} T = record {
   stated = theirs-stated (T .stated);
@@ -66,33 +55,20 @@ theirs-takes {text} {letters} {room} {f} T = record {
   fits = subst (λ (l : List ℕ). length l ≤ room) (sym (file-is letters f)) (T .fits);
 }
 
-ours-takes : {text letters : List ℕ} {room : ℕ} {t : trees.Formula} → crate.Takes text letters room t → Takes text letters room (leaf t)
-ours-takes {text} {letters} {room} {t} T = record {
-  stated = ours-stated (T .stated);
-  proper = sym (proper-at letters t) ∙ T .proper;
-  need = subst (λ (n : ℕ). n ≤ 4) (need-at t) (T .need);
-  fits = subst (λ (l : List ℕ). length l ≤ room) (file-at letters t) (T .fits);
-}
-
-module _ {text letters : List ℕ} {room : ℕ} where
-  theirs-refuses : {n : ℕ} → Refuses text letters room n → crate.Refuses text letters room n
-  theirs-refuses (no-formula h) = crate.no-formula (λ t S. h (leaf t) (ours-stated S))
-  theirs-refuses (improper f S p) = crate.improper (tree f) (theirs-stated S) (proper-is letters f ∙ p)
-  theirs-refuses (needs-more f S p m) =
-      crate.needs-more (tree f) (theirs-stated S) (proper-is letters f ∙ p) (subst (λ (n : ℕ). 4 < n) (sym (need-is f)) m)
-  theirs-refuses (no-room f S p m r) =
-      crate.no-room (tree f) (theirs-stated S) (proper-is letters f ∙ p) (subst (λ (n : ℕ). n ≤ 4) (sym (need-is f)) m) (subst (λ (l : List ℕ). room < length l)
-      (sym (file-is letters f)) r)
-
-  ours-refuses : {n : ℕ} → crate.Refuses text letters room n → Refuses text letters room n
-  ours-refuses (crate.no-formula h) = no-formula (λ f S. h (tree f) (theirs-stated S))
-  ours-refuses (crate.improper t S p) = improper (leaf t) (ours-stated S) (sym (proper-at letters t) ∙ p)
-  ours-refuses (crate.needs-more t S p m) = needs-more (leaf t) (ours-stated S) (sym (proper-at letters t) ∙ p) (subst (λ (n : ℕ). 4 < n) (need-at t) m)
-  ours-refuses (crate.no-room t S p m r) =
-      no-room (leaf t) (ours-stated S) (sym (proper-at letters t) ∙ p) (subst (λ (n : ℕ). n ≤ 4) (need-at t) m) (subst (λ (l : List ℕ). room < length l)
-      (file-at letters t) r)
-
 -- ---- the refusals
+is-refused : (text letters file : List ℕ) (n : ℕ) → Refuses text letters (length file) n
+    → formulaCall text letters file ≡ record { result = 65536 * n; file = file }
+is-refused text letters file n (no-formula h) =
+    ⊎-elim (λ x. absurd (h (leaf (x .0)) (ours-stated (x .1)))) (λ z. crate.written-so text letters file (z .says-30 (length file))) (crate.looked text letters)
+is-refused text letters file n (improper f S p) =
+    crate.written-so text letters file (crate.says-31 text letters (length file) (tree f) (theirs-stated S) (proper-is letters f ∙ p))
+is-refused text letters file n (needs-more f S p m) =
+    crate.written-so text letters file (crate.says-32 text letters (length file) (tree f) (theirs-stated S) (proper-is letters f ∙ p)
+    (subst (λ (n : ℕ). 4 < n) (sym (need-is f)) m))
+is-refused text letters file n (no-room f S p m r) =
+    crate.written-so text letters file (crate.says-33 text letters (length file) (tree f) (theirs-stated S) (proper-is letters f ∙ p)
+    (subst (λ (n : ℕ). n ≤ 4) (sym (need-is f)) m) (subst (λ (l : List ℕ). length file < length l) (sym (file-is letters f)) r))
+
 is-translated : (text letters file : List ℕ) (f : Formula) → Takes text letters (length file) f
     → formulaCall text letters file ≡ record {
       result = length (book.fileOf letters f);
@@ -103,36 +79,77 @@ is-translated text letters file f T =
     subst (λ (l : List ℕ). formulaCall text letters file ≡ record { result = length l; file = l ++ drop (length l) file }) (file-is letters f)
     (crate.is-translated text letters file (tree f) (theirs-takes T))
 
+either-way : (text letters file : List ℕ) → ((n : ℕ) × Refuses text letters (length file) n) ⊎ ((f : Formula) × Takes text letters (length file) f)
+either-way text letters file =
+    ⊎-elim (λ x. by (leaf (x .0)) (ours-stated (x .1))) (λ z. inl (30, no-formula (λ f S. z .not-stated (tree f) (theirs-stated S))))
+    (crate.looked text letters)
+  where
+    by : (f : Formula) → Stated text letters f → ((n : ℕ) × Refuses text letters (length file) n) ⊎ ((f : Formula) × Takes text letters (length file) f)
+    by f S = go (book.properIn letters f) refl (ltb 4 (needOf f)) refl (ltb (length file) (length (book.fileOf letters f))) refl
+      where
+        go : (p : Bool) → book.properIn letters f ≡ p → (q : Bool) → ltb 4 (needOf f) ≡ q → (r : Bool) → ltb (length file) (length (book.fileOf letters f)) ≡ r
+            → ((n : ℕ) × Refuses text letters (length file) n) ⊎ ((f : Formula) × Takes text letters (length file) f)
+        go false a q b r c = inl (31, improper f S a)
+        go true a true b r c = inl (32, needs-more f S a (ltb-true 4 (needOf f) b))
+        go true a false b true c = inl (33, no-room f S a (ltb-false 4 (needOf f) b) (ltb-true (length file) (length (book.fileOf letters f)) c))
+        go true a false b false c = inr (
+          f,
+          record {
+            stated = S;
+            proper = a;
+            need = ltb-false 4 (needOf f) b;
+            fits = ltb-false (length file)
+                (length (book.fileOf letters f)) c;
+          },
+        )
+
+-- a file has less than 65,536 bytes, and a refusal is of at least 30
+short-file : {text letters : List ℕ} {room : ℕ} {f : Formula} → Takes text letters room f → length (book.fileOf letters f) ≤ 1664
+short-file {text} {letters} {room} {f} T =
+    subst (λ (l : List ℕ). length l ≤ 1664) (file-is letters f) (crate.file-short text letters room (tree f) (theirs-takes T))
+
+least : {text letters : List ℕ} {room n : ℕ} → Refuses text letters room n → 30 ≤ n
+least (no-formula h) = omega arith
+least (improper f S p) = omega arith
+least (needs-more f S p m) = omega arith
+least (no-room f S p m r) = omega arith
+
+given-there : (text letters file : List ℕ) (n : ℕ) → 1 ≤ n → formulaCall text letters file .result ≡ 65536 * n → Refuses text letters (length file) n
+given-there text letters file n h e = ⊎-elim
+    (λ x.
+    let z = ap (λ (w : Wrote). w .result) (is-refused text letters file (x .0) (x .1)) in
+    let same : x .0 ≡ n = omega (arith, e) in
+    subst (λ (k : ℕ). Refuses text letters (length file) k) same (x .1))
+    (λ x. let z = ap (λ (w : Wrote). w .result) (is-translated text letters file (x .0) (x .1))
+    in absurd (omega (arith, e, short-file (x .1))))
+    (either-way text letters file)
+
+given-then : (text letters file : List ℕ) → formulaCall text letters file .result < 65536 → (f : Formula) × Takes text letters (length file) f
+given-then text letters file h = ⊎-elim
+    (λ x. let z = ap (λ (w : Wrote). w .result) (is-refused text letters file (x .0) (x .1)) in absurd (omega (arith, least (x .1))))
+    (λ x. x)
+    (either-way text letters file)
+
 pub formula-refusals : FormulaRefusals
 formula-refusals = record {
-  refused = λ text letters file n R. crate.is-refused text letters file n (theirs-refuses R);
+  refused = is-refused;
   translated = is-translated;
-  either = λ text letters file.
-      ⊎-elim (λ x. inl (x .0, ours-refuses (x .1))) (λ x. inr (leaf (x .0), ours-takes (x .1))) (crate.either-way text letters file);
-  only-there = λ text letters file n h e. ours-refuses (crate.given-there text letters file n h e);
-  only-then = λ text letters file h. let x = crate.given-then text letters file h in (leaf (x .0), ours-takes (x .1));
+  either = either-way;
+  only-there = given-there;
+  only-then = given-then;
 }
 
 -- ---- the run
 pub formula-runs : FormulaRuns
 formula-runs = record {
-  records = λ on s m text letters file f room T B six R h.
-      subst₂ (λ (l : List ℕ) (w : ℕ). Evaluates on s m (fileIn (formulaCall text letters file)) l room w) (replies-are f) (word-is letters (on .rule) f)
-      (crate.as-records on s m text letters file (tree f) room (theirs-takes T) B six (theirs-rest R)
-      (subst (λ (l : List ℕ). length l ≤ room) (sym (replies-are f)) h));
-  calls = λ g C state replies report text letters file f T B S h w n r.
-      subst₂ (λ (l : List ℕ) (v : ℕ). EvaluatesCall (runCall g state (fileIn (formulaCall text letters file)) replies report)
-      (fileIn (formulaCall text letters file)) l replies v)
-      (replies-are f) (word-is letters (settingsIn g .rule) f)
-      (crate.as-call g C state replies report text letters file (tree f) (theirs-takes T) B S h w n (subst (λ (l : List ℕ). length l ≤ length replies)
-      (sym (replies-are f)) r));
-  proper = λ rule text letters file f T B. subst FloatWord (word-is letters rule f) (crate.word-proper rule text letters file (tree f) (theirs-takes T) B);
+  records = λ on s m text letters file f room T B six R h. crate.as-records on s m text letters file f room (theirs-takes T) B six R h;
+  calls = λ g C state replies report text letters file f T B. crate.as-call g C state replies report text letters file f (theirs-takes T) B;
+  proper = λ rule text letters file f T B. crate.word-proper rule text letters file f (theirs-takes T) B;
   short = λ text letters file f T.
       let t = theirs-takes T in
       let n = crate.file-short text letters (length file) (tree f) t in (
         rw (crate.file-is text letters file (tree f) t) n,
-        subst (λ (l : List ℕ). length l ≤ 1664) (replies-are f)
-            (omega (arith, replies-few letters (tree f))),
+        omega (arith, replies-few letters f),
       );
 }
 

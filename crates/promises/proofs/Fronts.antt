@@ -24,7 +24,7 @@ use Rattle.terms.specs.Kind.{kindNamed}
 use Rattle.record_runs.specs.Record.{kindOf, payloadOf, answeredOf, rowBy, rowUnder, frameUnder, headIn, headOf, Carried, Holds, stopped, turnUnder}
 use Rattle.record_runs.specs.Record.{turnOf}
 use Rattle.record_files.proofs.Tests.{either-lt, either-eq}
-use Rattle.record_runs.proofs.Single.{stopped-by}
+use Rattle.promises.proofs.Single.{stopped-by}
 use Rattle.record_runs.proofs.Heads.{short, low, high, cut, whole, head-is}
 use Rattle.record_files.proofs.Append.{first-stops}
 use Rattle.promises.specs.Fronts.{Stops, Fronts}

@@ -10,15 +10,15 @@ use lib.Ieee.Bits.{ofBits-fits, ofBits-toBits, toBits-ofBits}
 use lib.Ieee.Exact.{HasValue}
 use Rattle.float.specs.Word.{negative, proper, size88}
 use Rattle.host_floats.specs.Host.{hostBits, takenOf, hostReply, takenReply}
-use Rattle.host_floats.specs.Values.{HasWord, Endless, IsMinusZero, Large, Small}
+use Rattle.promises.specs.HostFloats.{HasWord, Endless, IsMinusZero, Large, Small}
 use Rattle.host_floats.specs.declared.Taken.{Taken}
 use Rattle.host_floats.specs.declared.Taken.the-variants.{Word}
 use Rattle.host_floats.proofs.Outward.{word-value, goes, stays, plain}
-use Rattle.host_floats.proofs.Apart.{held-endless, held-large, held-small, endless-minus, endless-large, endless-small, minus-large, minus-small, large-small}
-use Rattle.host_floats.proofs.Classes.{minus-right, minus-bits, zero-right}
-use Rattle.host_floats.proofs.Inward.{Right, held, endless, minus, large, small, right}
-use Rattle.host_floats.proofs.Back.{answers-word, answers-endless, answers-minus, answers-large, answers-small, word-back, bits-back}
-use Rattle.promises.proofs.Measures.{theirs-word, theirs-held, ours-held}
+use Rattle.promises.proofs.host_floats.Apart.{held-endless, held-large, held-small, endless-minus, endless-large, endless-small, minus-large}
+use Rattle.promises.proofs.host_floats.Apart.{minus-small, large-small}
+use Rattle.promises.proofs.host_floats.Classes.{minus-right, minus-bits, zero-right}
+use Rattle.promises.proofs.host_floats.Inward.{Right, held, endless, minus, large, small, right}
+use Rattle.promises.proofs.host_floats.Back.{answers-word, answers-endless, answers-minus, answers-large, answers-small, word-back, bits-back}
 use Rattle.promises.specs.Host.{outward, inward, number, Gives, ValueKept, AcceptedExactly, OneException, Answered, RefusedExactly, WordBack, FloatBack}
 
 -- the f32 of a word
@@ -83,12 +83,12 @@ module _ (x : Float) (r : Taken) where
 pub accepted-exactly : AcceptedExactly
 accepted-exactly p l w =
     let x = ofBits binary32 p in (
-      λ g. let a = word-given x (takenOf p) w g (right p l) in (ours-held (a .0), a .1),
-      λ a. gives-word x (takenOf p) w (theirs-held (a .0), a .1) (right p l),
+      λ g. let a = word-given x (takenOf p) w g (right p l) in (a .0, a .1),
+      λ a. gives-word x (takenOf p) w (a .0, a .1) (right p l),
     )
 
 pub one-exception : OneException
-one-exception = (λ p l. (λ t. minus-bits binary32 p l t, λ e. minus-right binary32 p e), ours-held (zero-right binary32 (2 ^ 31) refl))
+one-exception = (λ p l. (λ t. minus-bits binary32 p l t, λ e. minus-right binary32 p e), zero-right binary32 (2 ^ 31) refl)
 
 pub refused-exactly : RefusedExactly
 refused-exactly p l =
@@ -107,7 +107,7 @@ refused-exactly p l =
         minus-large x,
         minus-small x,
         large-small x,
-        λ w a. let b = theirs-held a in (held-endless x w b, held-large x w b, held-small x w b),
+        λ w a. (held-endless x w a, held-large x w a, held-small x w a),
       ),
     )
 
@@ -115,7 +115,7 @@ pub word-comes-back : WordBack
 word-comes-back w f =
     let p = toBits binary32 (out w) in
     let e : outward w .bits ≡ p = ap (λ h. hostReply h .bits) (goes w (f .is-proper)) in
-    let b = word-back w (theirs-word f) in
+    let b = word-back w f in
     subst (λ (n : ℕ). Gives (inward n) w) (sym e) record { done = ap numberIn b; bits-are = ap bitsIn b }
 
 -- the reply to a proper word carries the bits of its f32

@@ -1,8 +1,15 @@
 -- The statements' proofs, each file under its spec's name.
+pub mod float
+pub mod host_floats
 pub mod Measures
 pub mod Remembered
+pub mod OnTop
+pub mod Events
+pub mod InTurn
+pub mod Round
 pub mod Determined
 pub mod Refusals
+pub mod Single
 pub mod RecordFiles
 pub mod Records
 pub mod Kept
@@ -22,9 +29,11 @@ pub mod EventFiles
 pub mod TwosComplement
 pub mod PrintedText
 pub mod Listings
+pub mod ListedExample
 pub mod Figures
 pub mod Format
 pub mod WrongCores
+pub mod Wider
 pub mod OldLimits
 pub mod LongBlocks
 pub mod ErrorMemory
@@ -35,6 +44,7 @@ pub mod NearBench
 pub mod Undo
 pub mod CloseReadings
 pub mod StepsAsked
+pub mod SerialSteps
 pub mod Serial
 pub mod Doubles
 pub mod DoubleBench

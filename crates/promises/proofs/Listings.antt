@@ -2,45 +2,46 @@
 -- lines follow one another. Assumes nothing.
 use mathlib.Core.Path.{_≡_, refl, sym, ap, ap₂, subst, _∙_}
 use mathlib.Core.Bool.{Bool, true, false, cond}
-use mathlib.Core.List.{List, [], _∷_, _++_}
+use mathlib.Core.List.{List, [], _∷_, _++_, append-assoc}
 use Prim.Native.Nat.{ℕ, zero, suc, _+_, _*_, _-_, _/_, _%_, _^_, _≤_, _<_}
 use native.Mathlib.Nat.{div-lt-iff-lt-mul, div-add-mod', mod-lt, pow-suc}
 use native.Mathlib.Omega.{arith}
-use borrow.Author.Tests.{eqb-true, ltb-true, ltb-false, lt-ltb}
-use lib.Dec.{eqb, ltb, lit<, lit≤}
-use lib.ListN.{length, take, drop, getD, replicate, length-replicate}
-use lib.Seq.{take-append-seam}
+use borrow.Author.Tests.{eqb-true, ltb-true, ltb-false, lt-ltb, le-ltb, eq-eqb, ne-eqb, leb-true}
+use lib.Dec.{eqb, leb, ltb, lit<, lit≤}
+use lib.ListN.{length, take, drop, getD, replicate, length-replicate, length-append, take-append-drop}
+use lib.Seq.{length-take-le, take-append-seam, drop-append-seam}
 use Rattle.terms.specs.Refusal.{numberOf}
 use Rattle.error_memory.specs.Memory.{Card}
 use Rattle.record_runs.specs.Record.{Event}
 use Rattle.record_runs.specs.Record.{Push, Pop, Command, Status, Reset, Acknowledge, Recall, Forget}
 use Rattle.record_runs.specs.Record.{wordAt, kindOf, answerOf, dataOf, replyOf}
 use Rattle.record_runs.specs.Run.{Outcome, runOf}
+use Rattle.record_files.proofs.Append.{appended}
 use Rattle.record_files.proofs.Through.{tally}
-use Rattle.state_bytes.specs.Bytes.{isState}
-use Rattle.state_bytes.specs.Calls.{Called, ranOf}
-use Rattle.state_bytes.proofs.Calling.{too-long, good}
+use Rattle.record_runs.proofs.Prefix.{lawful}
+use Rattle.state_bytes.specs.Bytes.{isState, cardIn, laidOut}
+use Rattle.state_bytes.specs.Calls.{Called, callOf, ranOf}
+use Rattle.state_bytes.proofs.Calling.{good}
 use Rattle.listing.specs.Text.{spelled as their-spelled, decimal as their-decimal}
 use Rattle.promises.specs.PrintedText.{digit, spelled, decimal}
 use Rattle.promises.proofs.PrintedText.{decimal-is}
-use Rattle.listing.specs.Listing.{dataText, lineOf, endOf, replyKind, replyRefusal, replySize, replyData, linesUpTo, hasReply, linesOf, listingOf, printedOf}
+use Rattle.listing.specs.Listing.{dataText, lineOf, endOf, replyKind, replyRefusal, replySize, replyData, linesUpTo, hasReply, linesOf}
 use Rattle.numbers.proofs.Exact.{two-bytes}
 use Rattle.listing.proofs.Listed.{reply-listed, core-kind}
 use Rattle.listing.specs.declared.options.Asked.{Asked}
 use Rattle.listing.specs.declared.options.Asked.the-variants.{Under, Nothing}
 use Rattle.listing.specs.Options.{sameText, am9511Text, nearestText, askedOf, textFor}
 use Rattle.listing.proofs.Texts.{same-is}
-use Rattle.list_text.specs.Trace.{traceOf}
-use Rattle.list_text.specs.Printout.{callUnder, printoutUnder, traceText, isTrace, toldOf}
+use Rattle.list_text.specs.Printout.{printoutUnder}
+use Rattle.record_text.specs.Trace.{stateText, afterText, endAt, linesFrom, traceOf}
+use Rattle.record_text.proofs.Tracing.{one-more, too-long, not-long}
 use Rattle.promises.proofs.RecordFiles.{theirs-record}
-use Rattle.promises.specs.Records.{joined, EachTaken, repliesOf, total, lengths}
+use Rattle.promises.specs.Records.{joined, EachTaken, repliesOf, total, lengths, Split}
 use Rattle.promises.specs.PrintedText.{written}
-use Rattle.promises.specs.Given.{Given, Chosen}
-use Rattle.promises.specs.Listings.{valueOf, Digits, Decimal, hexText, recordLine, linesFor, lastLine}
+use Rattle.promises.specs.Given.{Given, Chosen, settingsIn}
+use Rattle.promises.specs.Listings.{valueOf, Digits, Decimal, hexText, recordLine, stateLine, linesFor, lastLine}
 use Rattle.promises.specs.Listings.{Asks, neither, older, nearest, both, resetCard, Listings}
 use Rattle.promises.proofs.Records.{record-run}
-use Rattle.numbers.proofs.Exact.{le4-exact}
-use Rattle.record_runs.proofs.Prefix.{lawful}
 
 -- ---- the lines of the records
 data-same : (bytes : List ℕ) → dataText bytes ≡ hexText bytes
@@ -58,7 +59,8 @@ low Acknowledge = lit< tt
 low Recall = lit< tt
 low Forget = lit< tt
 
-lines-are : (rs : List (List ℕ)) (s : Card) (room number : ℕ) → EachTaken s rs room → linesOf number (joined (repliesOf s rs room)) ≡ linesFor number s rs room
+lines-are : (rs : List (List ℕ)) (s : Card) (room number : ℕ) → EachTaken s rs room
+    → linesOf number (joined (repliesOf s rs room)) ≡ linesFor recordLine number s rs room
 unfolding linesUpTo
 lines-are [] s room number h = refl
 lines-are (r ∷ rs) s room number h =
@@ -70,12 +72,12 @@ lines-are (r ∷ rs) s room number h =
     let more = joined (repliesOf (o .state) rs (room - length (o .written))) in
     ap (λ (l : List ℕ). linesOf number (l ++ more)) w
     ∙ reply-listed number (kindOf e) n (dataOf s e) more (low e)
-    ∙ ap₂ (λ (x y : List ℕ). x ++ y) (line r (kindOf e) n (dataOf s e) (o .written) (theirs-record one .held .kind-is) w)
+    ∙ ap₂ (λ (x y : List ℕ). x ++ y) (line r (kindOf e) n (dataOf s e) o (theirs-record one .held .kind-is) w)
     (lines-are rs (o .state) (room - length (o .written)) (number + 1) (h .2))
   where
-    line : (r : List ℕ) (kind n : ℕ) (bytes reply : List ℕ) → getD r 2 0 + getD r 3 0 * 256 ≡ kind → reply ≡ replyOf kind n bytes
-        → lineOf number kind n bytes ≡ recordLine number r reply
-    line r kind n bytes reply k w =
+    line : (r : List ℕ) (kind n : ℕ) (bytes : List ℕ) (o : Outcome) → getD r 2 0 + getD r 3 0 * 256 ≡ kind → o .written ≡ replyOf kind n bytes
+        → lineOf number kind n bytes ≡ recordLine number r o
+    line r kind n bytes o k w =
         ap (λ (t : List ℕ). their-decimal number ++ ((32 ∷ their-decimal kind) ++ ((32 ∷ their-decimal n) ++ (t ++ (10 ∷ []))))) (data-same bytes)
         ∙ ap (λ (t : List ℕ). t ++ ((32 ∷ their-decimal kind) ++ ((32 ∷ their-decimal n) ++ (hexText bytes ++ (10 ∷ []))))) (decimal-is number)
         ∙ ap₂ (λ (t u : List ℕ). decimal number ++ ((32 ∷ t) ++ ((32 ∷ u) ++ (hexText bytes ++ (10 ∷ []))))) (decimal-is kind) (decimal-is n)
@@ -85,39 +87,125 @@ lines-are (r ∷ rs) s room number h =
 last-is : (refusal taken : ℕ) → endOf refusal taken ≡ lastLine refusal taken
 last-is refusal taken = ap₂ (λ (t u : List ℕ). 101 ∷ 110 ∷ 100 ∷ ((32 ∷ t) ++ ((32 ∷ u) ++ (10 ∷ [])))) (decimal-is refusal) (decimal-is taken)
 
--- ---- the call, and what is printed of it
-count-back : (n : ℕ) → n < 4294967296 → n % 256 + n / 256 % 256 * 256 + n / 65536 % 256 * 65536 + n / 16777216 % 256 * 16777216 ≡ n
-count-back n h = omega (arith, le4-exact n h)
+-- ---- what is printed of a run
+module _ (g : Given) (input : List ℕ) where
+  abbrev listed : Outcome
+  listed = runOf (resetCard g) input 65536
 
-resetCard-good : isState (replicate 19 0) ≡ true
-unfolding isState
-resetCard-good = refl
-
-module _ (g : Given) (C : Chosen g) (input : List ℕ) where
-  abbrev run : Outcome
-  run = runOf (resetCard g) input 65536
-
-  call-is : length input ≤ 12288 → callUnder (g .mode) (g .rule) input ≡ ranOf 19 run (replicate 65536 0)
-  call-is h =
-      good (g .mode) (g .rule) (replicate 19 0) input (replicate 65536 0) (replicate 9 0) refl (C .mode) (C .rule) resetCard-good h
-      ∙ ap (λ (n : ℕ). ranOf 19 (runOf (resetCard g) input n) (replicate 65536 0)) (length-replicate {A = ℕ} 65536 0)
-
-  text-is : length input ≤ 12288 → printoutUnder (g .mode) (g .rule) input ≡ linesOf 1 (run .written) ++ endOf (run .refusal) (run .taken)
-  text-is h =
-      let t = tally lawful (resetCard g) input 65536 in
-      let i = t .in-file in
-      let f = t .few in
-      let w = run .written in
-      ap (λ (c : Called). printedOf (c .replies) (c .report)) (call-is h)
-      ∙ ap₂ (λ (m n : ℕ). listingOf (take m (w ++ drop (length w) (replicate 65536 0))) (run .refusal) n)
-      (count-back (length w) (omega arith)) (count-back (run .taken) (omega arith))
-      ∙ ap (λ (l : List ℕ). listingOf l (run .refusal) (run .taken)) (take-append-seam w (drop (length w) (replicate 65536 0)))
+  text-is : length input ≤ 12288 → printoutUnder (g .mode) (g .rule) input ≡ linesOf 1 (listed .written) ++ endOf (listed .refusal) (listed .taken)
+  text-is h = rw (le-ltb 12288 (length input) h)
 
   long-is : 12288 < length input → printoutUnder (g .mode) (g .rule) input ≡ written "end 9 0" ++ (10 ∷ [])
   unfolding linesUpTo hasReply their-spelled
-  long-is h =
-      ap (λ (c : Called). printedOf (c .replies) (c .report))
-      (too-long (g .mode) (g .rule) (replicate 19 0) input (replicate 65536 0) (replicate 9 0) refl (C .mode) (C .rule) resetCard-good h)
+  long-is h = rw (lt-ltb 12288 (length input) h)
+
+-- ---- the trace
+long-good : isState (replicate 21 0) ≡ true
+unfolding isState
+long-good = refl
+
+-- a record's length counts what follows its first two bytes
+first-two : (r m : List ℕ) → 2 ≤ length r → wordAt (r ++ m) 0 ≡ wordAt r 0
+first-two [] m h = absurd (omega arith)
+first-two (a ∷ []) m h = absurd (omega arith)
+first-two (a ∷ b ∷ r) m h = refl
+
+module _ (g : Given) (C : Chosen g) where
+  -- the run of a file from reset
+  abbrev run : List ℕ → Outcome
+  run file = runOf (resetCard g) file 65536
+
+  -- the call on the bytes of a state
+  call-is : (state : List ℕ) → isState state ≡ true → (file : List ℕ) → length file ≤ 12288
+      → callOf (g .mode) (g .rule) state file (replicate 65536 0) (replicate 9 0)
+      ≡ ranOf (length state) (runOf (cardIn (settingsIn g) state) file 65536) (replicate 65536 0)
+  call-is state S file h =
+      good (g .mode) (g .rule) state file (replicate 65536 0) (replicate 9 0) refl (C .mode) (C .rule) S h
+      ∙ ap (λ (n : ℕ). ranOf (length state) (runOf (cardIn (settingsIn g) state) file n) (replicate 65536 0)) (length-replicate {A = ℕ} 65536 0)
+
+  -- the line behind a file: the state that its run leaves, or nothing where that is stopped
+  after-is : (number : ℕ) (file : List ℕ) → length file ≤ 12288
+      → afterText (g .mode) (g .rule) number file ≡ cond (eqb (run file .refusal) 0) (stateText number (laidOut 21 (run file .state))) []
+  after-is number file h =
+      ap (λ (c : Called). cond (eqb (c .result) 0) (stateText number (c .state)) []) (call-is (replicate 21 0) long-good file h)
+
+  -- behind a file the run is on this card and in this room
+  abbrev Leaves : List ℕ → Card → ℕ → Type 0
+  Leaves file s room = (q : List ℕ) → (run (file ++ q) .refusal ≡ runOf s q room .refusal) × (run (file ++ q) .state ≡ runOf s q room .state)
+
+  leaves-too : (p r : List ℕ) (s : Card) (room : ℕ) → Leaves p s room → runOf s r room .refusal ≡ 0
+      → Leaves (p ++ r) (runOf s r room .state) (room - length (runOf s r room .written))
+  leaves-too p r s room L z q =
+      let both = appended lawful s r q room z in
+      rw (append-assoc p r q)
+      (L (r ++ q) .0 ∙ ap (λ (o : Outcome). o .refusal) both, L (r ++ q) .1 ∙ ap (λ (o : Outcome). o .state) both)
+
+  module _ (input : List ℕ) (h : length input ≤ 12288) where
+    -- the lines from a place on, the first of this number, at most so many
+    abbrev from : ℕ → ℕ → ℕ → List ℕ
+    from f number at = linesFrom f (g .mode) (g .rule) input number at
+
+    -- no file that ends behind the bytes taken is run to its end, so it has no line
+    stopped-behind : (n : ℕ) → n ≤ length input → run input .taken < n → run (take n input) .refusal ≡ 0 → ⊥
+    stopped-behind n k b z =
+        let o = run (take n input) in
+        let all : run input .taken ≡ o .taken + runOf (o .state) (drop n input) (65536 - length (o .written)) .taken =
+        ap (λ (l : List ℕ). run l .taken) (sym (take-append-drop n input))
+        ∙ ap (λ (p : Outcome). p .taken) (appended lawful (resetCard g) (take n input) (drop n input) 65536 z) in
+        omega (arith, all, tally lawful (resetCard g) (take n input) 65536 .all z, length-take-le n input k)
+
+    untold : (number n : ℕ) → n ≤ length input → run input .taken < n → afterText (g .mode) (g .rule) number (take n input) ≡ []
+    untold number n k b =
+        after-is number (take n input) (omega (arith, length-take-le n input k)) ∙ rw (ne-eqb (run (take n input) .refusal) 0 (stopped-behind n k b))
+
+    none-behind : (f number at : ℕ) → run input .taken ≤ at → from f number at ≡ []
+    unfolding linesFrom
+    none-behind zero number at b = refl
+    none-behind (suc f) number at b =
+        by (leb (at + 2) (length input)) (leb (endAt input at) (length input)) refl (none-behind f (number + 1) (endAt input at) (omega (arith, b)))
+      where
+        by : (x y : Bool) → leb (endAt input at) (length input) ≡ y → from f (number + 1) (endAt input at) ≡ []
+            → cond x (cond y (afterText (g .mode) (g .rule) number (take (endAt input at) input) ++ from f (number + 1) (endAt input at)) []) [] ≡ []
+        by false y e i = refl
+        by true false e i = refl
+        by true true e i = rw (i, untold number (endAt input at) (leb-true (endAt input at) (length input) e) (omega (arith, b)))
+
+    -- the lines of the records that are left behind a file
+    states-are : (rs : List (List ℕ)) (p rest : List ℕ) (s : Card) (room number f : ℕ) → input ≡ p ++ (joined rs ++ rest) → EachTaken s rs room
+        → Leaves p s room → run input .taken ≡ length p + total (lengths rs) → length input ≤ f + length p
+        → from f number (length p) ≡ linesFor stateLine number s rs room
+    states-are [] p rest s room number f e each L t few = none-behind f number (length p) (omega (arith, t))
+    states-are (r ∷ rs) p rest s room number f e each L t few =
+        let o = runOf s r room in
+        let w = theirs-record (each .0) in
+        let more = joined rs ++ rest in
+        let i : input ≡ (p ++ r) ++ more = e ∙ ap (λ (l : List ℕ). p ++ l) (append-assoc r (joined rs) rest) ∙ sym (append-assoc p r more) in
+        let size = length-append p r in
+        let n : length input ≡ length (p ++ r) + length more = ap length i ∙ length-append (p ++ r) more in
+        let front : drop (length p) input ≡ r ++ more = rw (i, append-assoc p r more) (drop-append-seam p (r ++ more)) in
+        let end : endAt input (length p) ≡ length (p ++ r) =
+        rw (front, first-two r more (omega (arith, w .size)), w .held .length-is) (omega (arith, size, w .size)) in
+        let passed : take (endAt input (length p)) input ≡ p ++ r = rw (end, i) (take-append-seam (p ++ r) more) in
+        let fuel : f ≡ suc (f - 1) = omega (arith, few, n, size, w .size) in
+        let line : afterText (g .mode) (g .rule) number (p ++ r) ≡ stateLine number r o =
+        after-is number (p ++ r) (omega (arith, n, h))
+        ∙ rw (eq-eqb (run (p ++ r) .refusal) 0 (L r .0 ∙ each .1))
+        (ap₂ (λ (t u : List ℕ). t ++ (u ++ (10 ∷ []))) (decimal-is number)
+        (data-same (laidOut 21 (run (p ++ r) .state)) ∙ ap (λ (c : Card). hexText (laidOut 21 c)) (L r .1))) in
+        ap (λ (k : ℕ). from k number (length p)) fuel
+        ∙ one-more (f - 1) (g .mode) (g .rule) input number (length p) (omega (arith, n, size, w .size)) (omega (arith, end, n))
+        ∙ ap₂ (λ (x y : List ℕ). x ++ y) (ap (λ (l : List ℕ). afterText (g .mode) (g .rule) number l) passed ∙ line)
+        (ap (λ (k : ℕ). from (f - 1) (number + 1) k) end
+        ∙ states-are rs (p ++ r) rest (o .state) (room - length (o .written)) (number + 1) (f - 1) i (each .2) (leaves-too p r s room L (each .1))
+        (omega (arith, t, size)) (omega (arith, few, size, w .size)))
+
+    trace-is : (split : Split (resetCard g) input 65536 (run input))
+        → traceOf (g .mode) (g .rule) input ≡ linesFor stateLine 1 (resetCard g) (split .records) 65536 ++ (written "end" ++ (10 ∷ []))
+    trace-is split =
+        sym (not-long (g .mode) (g .rule) input h)
+        ∙ ap (λ (l : List ℕ). l ++ (written "end" ++ (10 ∷ [])))
+        (states-are (split .records) [] (split .rest) (resetCard g) 65536 1 (length input) (split .parts) (split .each) (λ q. (refl, refl))
+        (omega (arith, split .taken)) (omega arith))
 
 -- ---- what a call asks for
 chosen : {words : ℕ} {first second : List ℕ} {g : Given} → Asks words first second g → Chosen g
@@ -133,30 +221,9 @@ asked (older e f) = rw (e, f)
 asked (nearest e f) = rw (e, f)
 asked (both e f s) = rw (e, f, s)
 
--- none of them is `--trace`, and behind it they ask for the same
-no-trace : {words : ℕ} {first second : List ℕ} {g : Given} → Asks words first second g → isTrace words first ≡ false
-unfolding isTrace sameText
-no-trace (neither e) = rw e
-no-trace (older e f) = rw (e, f)
-no-trace (nearest e f) = rw (e, f)
-no-trace (both e f s) = rw (e, f)
-
-told-is : {words : ℕ} {first second : List ℕ} {g : Given} → (third input : List ℕ) → Asks words first second g
-    → toldOf words first second third input ≡ printoutUnder (g .mode) (g .rule) input
-told-is third input A = rw (no-trace A) (ap (λ (a : Asked). textFor printoutUnder a input) (asked A))
-
-is-trace : {words : ℕ} {first second : List ℕ} {g : Given} → Asks words first second g → isTrace (words + 1) traceText ≡ true
-unfolding isTrace sameText
-is-trace (neither e) = rw e
-is-trace (older e f) = rw e
-is-trace (nearest e f) = rw e
-is-trace (both e f s) = rw e
-
-traced-is : {words : ℕ} {first second : List ℕ} {g : Given} → (input : List ℕ) → Asks words first second g
-    → toldOf (words + 1) traceText first second input ≡ traceOf (g .mode) (g .rule) input
-traced-is {words} input A =
-    let n : words + 1 - 1 ≡ words = omega arith in
-    rw (is-trace A, n) (ap (λ (a : Asked). textFor traceOf a input) (asked A))
+told-is : {words : ℕ} {first second : List ℕ} {g : Given} → (under : ℕ → ℕ → List ℕ → List ℕ) (input : List ℕ) → Asks words first second g
+    → textFor under (askedOf words first second) input ≡ under (g .mode) (g .rule) input
+told-is under input A = ap (λ (a : Asked). textFor under a input) (asked A)
 
 usage-is : (words : ℕ) (first second : List ℕ) → ((g : Given) → Asks words first second g → ⊥) → askedOf words first second ≡ Nothing
 unfolding askedOf
@@ -175,23 +242,6 @@ usage-is words first second h =
     by false e false f true i true j q k false l = refl
     by false e false f true i false j q k r l = refl
     by false e false f false i p j q k r l = refl
-
--- a call that is none of these, with `--trace` before them or not
-other-is : (words : ℕ) (first second third input : List ℕ) → ((g : Given) → Asks words first second g → ⊥)
-    → ((n : ℕ) (g : Given) → words ≡ n + 1 → first ≡ traceText → Asks n second third g → ⊥)
-    → toldOf words first second third input ≡ written "usage" ++ (10 ∷ [])
-unfolding isTrace
-other-is words first second third input h k = by (ltb words 2) refl (sameText first traceText) refl
-  where
-    by : (a : Bool) → ltb words 2 ≡ a → (b : Bool) → sameText first traceText ≡ b
-        → cond (cond a false b) (textFor traceOf (askedOf (words - 1) second third) input) (textFor printoutUnder (askedOf words first second) input)
-        ≡ written "usage" ++ (10 ∷ [])
-    by true e b f = ap (λ (a : Asked). textFor printoutUnder a input) (usage-is words first second h)
-    by false e false f = ap (λ (a : Asked). textFor printoutUnder a input) (usage-is words first second h)
-    by false e true f =
-        let two = ltb-false words 2 e in
-        ap (λ (a : Asked). textFor traceOf a input)
-        (usage-is (words - 1) second third (λ g. k (words - 1) g (omega arith) (same-is first traceText f)))
 
 -- ---- characters
 value-snoc : (n : ℕ) (l : List ℕ) (c : ℕ) → valueOf n (l ++ (c ∷ [])) ≡ valueOf n l * 10 + (c - 48)
@@ -249,15 +299,16 @@ read-back kind refusal bytes rest h =
 
 pub listings : Listings
 listings = record {
-  printed = λ words first second third input g A h p.
+  printed = λ words first second input g A h p.
       let r = runOf (resetCard g) input 65536 in
-      told-is third input A
-      ∙ text-is g (chosen A) input h
+      told-is printoutUnder input A
+      ∙ text-is g input h
       ∙ ap₂ (λ (l : List ℕ) (n : ℕ). linesOf 1 l ++ endOf (r .refusal) n) (p .replies) (p .taken)
       ∙ ap₂ (λ (l m : List ℕ). l ++ m) (lines-are (p .records) (resetCard g) 65536 1 (p .each)) (last-is (r .refusal) (total (lengths (p .records))));
-  long = λ words first second third input g A h. told-is third input A ∙ long-is g (chosen A) input h;
-  traced = λ words first second input g A. traced-is input A;
-  usage = λ words first second third input h k. other-is words first second third input h k;
+  long = λ words first second input g A h. told-is printoutUnder input A ∙ long-is g input h;
+  usage = λ words first second input h. ap (λ (a : Asked). textFor printoutUnder a input) (usage-is words first second h);
+  traced = λ words first second input g A h p. told-is traceOf input A ∙ trace-is g (chosen A) input h p;
+  traced-long = λ words first second input g A h. told-is traceOf input A ∙ sym (too-long (g .mode) (g .rule) input h);
   read-back = λ kind refusal bytes rest h. read-back kind refusal bytes rest h;
   characters = record { decimals = λ n h. spells 20 n h; hex-digits = refl };
 }

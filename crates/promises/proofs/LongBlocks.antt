@@ -9,17 +9,17 @@ use borrow.Author.Tests.{leb-false}
 use lib.Dec.{lit≤}
 use lib.ListN.{length, getD, drop}
 use Rattle.stack.specs.Stack.{poppedAll, handedOut}
-use Rattle.stack.proofs.Round.{once-round, byte-round, last-pushed}
+use Rattle.promises.proofs.Round.{once-round, byte-round, last-pushed}
 use Rattle.chip.specs.State.{State}
 use Rattle.chip.specs.State.{busy}
 use Rattle.chip.specs.Step.{popOf}
-use Rattle.chip.specs.InTurn.{afterPushes, afterPops, bytesPopped}
+use Rattle.promises.specs.BusEvents.{afterPushes, afterPops, bytesPopped}
 use Rattle.chip.specs.Held.{held}
-use Rattle.chip.proofs.InTurn.{turned, pushes-state, pops-state, pops-bytes}
+use Rattle.chip.proofs.InTurn.{turned, pops-bytes}
 use Rattle.chip.proofs.Held.{flips}
 use Rattle.error_memory.specs.Memory.{cardWith}
 use Rattle.record_runs.specs.Run.{took, runOf}
-use Rattle.record_runs.proofs.Single.{push-alone, pop-alone}
+use Rattle.promises.proofs.InTurn.{pushes-state, pops-state, push-alone, pop-alone}
 use Rattle.promises.specs.LongBlocks.{timesOver, LongBlocks}
 
 ready : (s : State) → busy s ≡ false → s .status < 128

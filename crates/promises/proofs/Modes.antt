@@ -23,7 +23,7 @@ use Rattle.chip.specs.Event.{Event as ChipEvent}
 use Rattle.chip.specs.Event.{Push as PushEvent, Pop as PopEvent, Command as CommandEvent, Status as StatusEvent, Reset as ResetEvent}
 use Rattle.chip.specs.State.{busy, moved, keptStack, afterReset}
 use Rattle.chip.specs.Step.{pushOf, popOf, resetOf, commandUnder}
-use Rattle.chip.specs.Events.{afterEvents}
+use Rattle.promises.specs.BusEvents.{afterEvents}
 use Rattle.chip.proofs.InTurn.{push-done, pop-done}
 use Rattle.error_memory.specs.declared.Memory.{Memory}
 use Rattle.error_memory.specs.Memory.{Card, CardAnswer, cardWith, answerWith}
@@ -36,7 +36,7 @@ use Rattle.record_runs.specs.Record.{Push, Pop, Command, Status, Reset, Acknowl
 use Rattle.record_runs.specs.Record.{kindOf, answerOf, replyOf}
 use Rattle.record_runs.specs.Run.{Outcome, took, after, runOf}
 use Rattle.record_runs.proofs.Prefix.{lawful}
-use Rattle.record_runs.proofs.Single.{reset-is}
+use Rattle.promises.proofs.Single.{reset-is}
 use Rattle.state_bytes.specs.Bytes.{isState, stateOf, memoryIn, cardIn}
 use Rattle.terms.specs.declared.EventKind.{EventKind}
 use Rattle.state_bytes.specs.Calls.{Called, Signal, ranOf, away, callUnder, signalBy, signalUnder, unsent, answerToKind, answeredBy}

@@ -17,7 +17,7 @@ use Rattle.record_runs.specs.Record.{payloadOf, answeredOf, answerOf, headIn, h
 use Rattle.record_runs.specs.Run.{Outcome, ended, after, runUnder}
 use Rattle.record_runs.proofs.Heads.{high, whole, head-is}
 use Rattle.record_runs.proofs.Prefix.{lawful-under}
-use Rattle.record_runs.proofs.Wider.{same-run, same-up-to}
+use Rattle.promises.proofs.Wider.{same-run, same-up-to}
 use Rattle.state_bytes.specs.Bytes.{cardIn}
 use Rattle.state_bytes.specs.Calls.{ranOf}
 use Rattle.state_bytes.proofs.Calling.{good}
@@ -90,8 +90,8 @@ module _ (s : Card) (r : List ℕ) (room : ℕ) (one : IsRecord r) (w : WithinOl
       by false e z =
           let t : turnUnder 16 s r room ≡ worked s event (answerOf s (take (payloadOf event) (drop 4 r)) event) = turn-is ∙ rw e in
           let o = alone (lawful-under 16 (lit≤ tt)) s r room some (ap (λ (u : Turned). u .refusal) t) in
-          let n : turnUnder 16 s r room .size ≡ length r = ap (λ (u : Turned). u .size) t ∙ sym (theirs-record one .size) in
-          let all : take (turnUnder 16 s r room .size) r ≡ r = ap (λ (k : ℕ). take k r) n ∙ take-all (length r) r (omega arith) in
+          let n : turnUnder 16 s r room .taken ≡ length r = ap (λ (u : Turned). u .taken) t ∙ sym (theirs-record one .size) in
+          let all : take (turnUnder 16 s r room .taken) r ≡ r = ap (λ (k : ℕ). take k r) n ∙ take-all (length r) r (omega arith) in
           omega (
             arith,
             sym (ap (λ (l : List ℕ). runUnder 16 s l room .refusal) all) ∙ sym (ap (λ (x : Outcome). x .refusal) (sym o))

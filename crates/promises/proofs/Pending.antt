@@ -19,14 +19,14 @@ use Rattle.chip.specs.State.{Answer}
 use Rattle.chip.specs.Event.{Event}
 use Rattle.chip.specs.Event.{Push, Pop, Command, Status, Reset, Acknowledge}
 use Rattle.chip.specs.Step.{pushOf, popOf, readOf, resetOf, acknowledgeOf, commandUnder, answerTo}
-use Rattle.chip.specs.Events.{afterEvents}
+use Rattle.promises.specs.BusEvents.{afterEvents}
 use Rattle.chip.proofs.Kept.{command-keeps}
 use Rattle.chip.proofs.Accepted.{leaves}
 use Rattle.chip.proofs.InTurn.{pop-done}
 use Rattle.chip.proofs.Ready.{Ready, push-fair, pop-fair, read-fair, reset-fair, acknowledge-fair}
 use Rattle.record_files.proofs.Tests.{either-eq}
-use Rattle.error_memory.specs.History.{afterAll}
-use Rattle.error_memory.proofs.Kept.{chip-alone}
+use Rattle.promises.specs.Remembered.{afterAll}
+use Rattle.promises.proofs.Remembered.{chip-alone}
 use Rattle.state_bytes.specs.Bytes.{stateOf, cardIn, flagOf}
 use Rattle.state_bytes.proofs.Cards.{card-ready, laid-at}
 use Rattle.promises.proofs.Measures.{theirs-stack, theirs-state}

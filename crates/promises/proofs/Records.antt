@@ -25,8 +25,9 @@ use Rattle.terms.specs.Limits.{mostPayload}
 use Rattle.record_runs.proofs.Heads.{heads}
 use Rattle.record_runs.proofs.Steps.{steps}
 use Rattle.record_runs.proofs.Prefix.{holds-too, within, lawful}
-use Rattle.record_runs.proofs.Single.{one-turn, no-turn, stopped-by, push-alone, pop-alone, command-alone, status-alone, reset-alone, acknowledge-alone}
-use Rattle.record_runs.proofs.Single.{recall-alone, forget-alone}
+use Rattle.promises.proofs.Single.{one-turn, no-turn, stopped-by, command-alone, status-alone, reset-alone, acknowledge-alone}
+use Rattle.promises.proofs.Single.{recall-alone, forget-alone}
+use Rattle.promises.proofs.InTurn.{push-alone, pop-alone}
 use Rattle.record_runs.proofs.Ready.{event-fair, run-ready}
 use Rattle.state_bytes.specs.Bytes.{cardIn}
 use Rattle.state_bytes.proofs.Calling.{good}
@@ -52,9 +53,9 @@ in-turn s (r ∷ rs) rest room h =
 -- ---- every file is split
 
 -- the bytes of a record that is taken are a record
-is-record : (s : Card) (l : List ℕ) (room : ℕ) → turnOf s l room .refusal ≡ 0 → Record (take (turnOf s l room .size) l)
+is-record : (s : Card) (l : List ℕ) (room : ℕ) → turnOf s l room .refusal ≡ 0 → Record (take (turnOf s l room .taken) l)
 is-record s l room =
-    steps (λ t. t .refusal ≡ 0 → Record (take (t .size) l)) s l room (λ r a b z. let y : ⊥ = omega arith in absurd y)
+    steps (λ t. t .refusal ≡ 0 → Record (take (t .taken) l)) s l room (λ r a b z. let y : ⊥ = omega arith in absurd y)
     (λ e h g z.
     let n = length-take-le (4 + payloadOf e) l (h .there) in
     record {
@@ -76,21 +77,21 @@ counted =
     (λ s l room p z. none-taken s l room (turnOf s l room .refusal) (λ y. absurd (z y)) (λ y. rw (sub-zero room) (first-stops lawful s l room _ refl p z)))
     (λ s l room p z h.
     let t = turnOf s l room in
-    let r = take (t .size) l in
-    let o = runOf (t .state) (drop (t .size) l) (room - length (t .reply)) in
+    let r = take (t .taken) l in
+    let o = runOf (t .state) (drop (t .taken) l) (room - length (t .written)) in
     let one = alone lawful s l room p z in
-    let n = length-take-le (t .size) l (within mostPayload s l room z) in
-    let g = length-append (t .reply) (o .written) in
+    let n = length-take-le (t .taken) l (within mostPayload s l room z) in
+    let g = length-append (t .written) (o .written) in
     record {
       records = r ∷ h .records;
       rest = h .rest;
-      parts = sym (take-append-drop (t .size) l) ∙ ap (λ (k : List ℕ). r ++ k) (h .parts) ∙ sym (append-assoc r (joined (h .records)) (h .rest));
+      parts = sym (take-append-drop (t .taken) l) ∙ ap (λ (k : List ℕ). r ++ k) (h .parts) ∙ sym (append-assoc r (joined (h .records)) (h .rest));
       each = (ours-record (is-record s l room z), rw one, rw one (h .each));
-      replies = rw one (ap (λ (k : List ℕ). t .reply ++ k) (h .replies));
+      replies = rw one (ap (λ (k : List ℕ). t .written ++ k) (h .replies));
       taken = omega (arith, n, h .taken);
       written = rw (g, one) (omega (arith, h .written));
       complete = h .complete;
-      stopped = λ y. rw (room-after room (t .reply) (o .written)) (h .stopped y);
+      stopped = λ y. rw (room-after room (t .written) (o .written)) (h .stopped y);
     })
 
 -- ---- the report's counts

@@ -1,4 +1,4 @@
--- SQRT: its rows as the rows of the other commands are, its values from the laws of the crate float, its table computed. Assumes nothing.
+-- SQRT: its rows as the rows of the other commands are, its values from the laws of `float`, its table computed. Assumes nothing.
 use mathlib.Core.Path.{_≡_, refl, sym, ap, _∙_}
 use mathlib.Core.Bool.{true, false}
 use mathlib.Core.List.{List}
@@ -16,7 +16,8 @@ use Rattle.terms.specs.declared.Rule.the-variants.{Cut}
 use Rattle.float.specs.Float.{exactProduct}
 use Rattle.float.specs.Root.{sqrt}
 use Rattle.float.proofs.root.RootCut.{root-negative, root-none}
-use Rattle.float.proofs.root.RootExact.{one-root, root-exactly, root-no-error, root-result, root-keeps, root-exact}
+use Rattle.promises.proofs.float.RootExact.{one-root, root-exactly, root-no-error, root-keeps, root-exact}
+use Rattle.float.proofs.Results.{root-result}
 use Rattle.stack.specs.Stack.{zeros}
 use Rattle.codes.specs.Command.{Sqrt}
 use Rattle.codes.specs.Codes.{decoded}
@@ -26,7 +27,7 @@ use Rattle.chip.specs.Step.{pushOf, carried, commandUnder}
 use Rattle.promises.specs.Commands.{words, word, statusBy}
 use Rattle.promises.specs.FloatWords.{FloatWord}
 use Rattle.promises.specs.FloatResults.{clean}
-use Rattle.promises.proofs.Measures.{theirs-word, ours-word, theirs-cut-root, ours-exactly-root, theirs-le, ours-le}
+use Rattle.promises.proofs.Measures.{theirs-word, ours-word, theirs-le, ours-le}
 use Rattle.promises.specs.Roots.{RootRows, RootValues, Roots, RootOrder, RootBench}
 use Rattle.promises.proofs.Commands.{top-is, accepted, refusing, three, no-error}
 
@@ -84,11 +85,11 @@ squares a b s t e = ap natAbs (rw (s, t) at e)
 
 root-values : RootValues
 root-values = record {
-  only = λ n m m' e e' P Q. one-root n m m' e e' (theirs-cut-root P) (theirs-cut-root Q);
-  found = λ a A. ours-exactly-root Cut (root-exactly Cut a (A .is-proper));
+  only = one-root;
+  found = λ a A. root-exactly Cut a (A .is-proper);
   no-error = λ rule a A s. root-no-error rule a (A .is-proper) s;
   proper-root = λ rule a A. ours-word (root-result rule a (theirs-word A) .word);
-  square = unfold value in (λ rule a b s B t e. root-exact rule a b s t (theirs-word B) (squares a b s t e));
+  square = unfold value in (λ rule a b s B t e. root-exact rule a b s t B (squares a b s t e));
 }
 
 -- ---- the statements

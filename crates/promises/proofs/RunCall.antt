@@ -18,7 +18,6 @@ use Rattle.record_runs.specs.Record.{Head}
 use Rattle.record_runs.specs.Record.{Whole, Stop}
 use Rattle.record_runs.specs.Record.{payloadOf, answeredOf, answerOf, worked, headOf, turnBy, turnUnder, turnOf, stopped}
 use Rattle.record_runs.specs.Run.{Outcome, ended, runOf}
-use Rattle.record_files.specs.Run.{Turned, idle}
 use Rattle.record_files.proofs.Append.{nothing, first-stops}
 use Rattle.record_files.proofs.Through.{tally, stops-there}
 use Rattle.state_bytes.specs.Bytes.{isState, cardIn, laidOut}
@@ -88,17 +87,17 @@ after-joined (r ∷ rs) rest =
     ∙ after-joined rs rest
 
 -- what stops a record stops it whatever stands on the card
-other-card : (c d : Card) (l : List ℕ) (room : ℕ) (h : Head) → (turnBy c l room h .refusal ≡ 0 → ⊥) → turnBy d l room h ≡ idle (turnBy c l room h .refusal) d
+other-card : (c d : Card) (l : List ℕ) (room : ℕ) (h : Head) → (turnBy c l room h .refusal ≡ 0 → ⊥) → turnBy d l room h ≡ ended (turnBy c l room h .refusal) d
 other-card c d l room (Stop r) z = refl
 other-card c d l room (Whole e) z = by (worked c e (answerOf c (take (payloadOf e) (drop 4 l)) e)) (worked d e (answerOf d (take (payloadOf e) (drop 4 l)) e))
     (ltb room (5 + answeredOf e)) refl z
   where
-    by : (p q : Turned Card) (x : Bool) → p .refusal ≡ 0 → (cond {A = Turned Card} x (stopped NoRoom c) p .refusal ≡ 0 → ⊥) → cond x (stopped NoRoom d)
-        q ≡ idle (cond x (stopped NoRoom c) p .refusal) d
+    by : (p q : Outcome) (x : Bool) → p .refusal ≡ 0 → (cond {A = Outcome} x (stopped NoRoom c) p .refusal ≡ 0 → ⊥) → cond x (stopped NoRoom d)
+        q ≡ ended (cond x (stopped NoRoom c) p .refusal) d
     by p q true w y = refl
     by p q false w y = absurd (y w)
 
-stops-too : (c d : Card) (l : List ℕ) (room : ℕ) → (turnOf c l room .refusal ≡ 0 → ⊥) → turnOf d l room ≡ idle (turnOf c l room .refusal) d
+stops-too : (c d : Card) (l : List ℕ) (room : ℕ) → (turnOf c l room .refusal ≡ 0 → ⊥) → turnOf d l room ≡ ended (turnOf c l room .refusal) d
 unfolding turnUnder
 stops-too c d l room z = other-card c d l room (headOf l) z
 
@@ -127,9 +126,9 @@ module _ (s : Card) (l : List ℕ) (room : ℕ) (z : runOf s l room .refusal ≡
   pub stops-on : (d : Card) → runOf d left room-left ≡ ended (runOf s l room .refusal) d
   stops-on d =
       let q : turnOf (runOf s l room .state) left room-left .refusal ≡ runOf s l room .refusal = stops-there lawful s l room z in
-      let t : turnOf d left room-left ≡ idle (runOf s l room .refusal) d = stops-too (runOf s l room .state) d left room-left (λ y. z (sym q ∙ y))
-      ∙ ap (λ (r : ℕ). idle r d) q in
-      first-stops lawful d left room-left (idle (runOf s l room .refusal) d) t some-left z
+      let t : turnOf d left room-left ≡ ended (runOf s l room .refusal) d = stops-too (runOf s l room .state) d left room-left (λ y. z (sym q ∙ y))
+      ∙ ap (λ (r : ℕ). ended r d) q in
+      first-stops lawful d left room-left (ended (runOf s l room .refusal) d) t some-left z
 
 pub stops-again : StopsAgain
 stops-again g C state input replies report B I H n d z =

@@ -1,6 +1,6 @@
 -- The second engine's answers are the first's, of which the rows of the chip's commands speak; its steps are those of its tasks; and what is told of
 -- them is their lines by number. Assumes nothing.
-use Prim.Native.Nat.{ℕ, zero, suc, _+_, _*_, _^_, _≤_, _<_}
+use Prim.Native.Nat.{ℕ, _+_, _*_, _^_, _≤_, _<_}
 use native.Mathlib.Nat.{le-refl, le-trans}
 use native.Mathlib.Omega.{arith}
 use mathlib.Core.Path.{_≡_, refl, sym, ap, ap₂, _∙_, subst}
@@ -33,30 +33,28 @@ use Rattle.bit_serial.specs.declared.Answer.{Answer}
 use Rattle.bit_serial.specs.declared.Answer.the-variants.{Word, Refused}
 use Rattle.bit_serial.specs.declared.tasks.Task.{Task}
 use Rattle.bit_serial.specs.declared.tasks.Task.the-variants.{Nothing}
-use Rattle.bit_serial.specs.Product.{addedUpTo}
-use Rattle.bit_serial.specs.Quotient.{subtractedUpTo}
+use Rattle.bit_serial.specs.UpTo.{upTo}
 use Rattle.bit_serial.specs.Answer.{stepsIn}
 use Rattle.bit_serial.specs.Engine.{mulAnswer, muuAnswer, divAnswer, fmulAnswer, fdivAnswer}
-use Rattle.bit_serial.specs.Work.{widthOf, Operands, answerOf, mulTask, divTask, fmulTask, fdivTask, taskOf, mostOf, Made}
+use Rattle.bit_serial.specs.Work.{widthOf, Operands, answerOf, mulTask, divTask, fmulTask, fdivTask, taskOf}
 use Rattle.bit_serial.proofs.Cases.{words as words-of}
 use Rattle.bit_serial.proofs.Same.{same-mul, same-muu, same-div, same-fmul, same-fdiv}
-use Rattle.bit_serial.proofs.Steps.{made}
 use Rattle.step_text.specs.declared.asked.Found.{Found}
 use Rattle.step_text.specs.declared.asked.Found.the-variants.{Operation as Named, Nothing as Unnamed}
 use Rattle.listing.specs.Text.{spelled as their-spelled, decimal as their-decimal}
 use Rattle.listing.specs.Hex.{digitValue, hexFrom, digitsTo}
 use Rattle.listing.specs.Options.{sameText}
-use Rattle.step_text.specs.Lines.{stepLine, answerLine, statusFor}
-use Rattle.step_text.specs.Steps.{productLines, quotientLines, workingsOf, leftAfter, partialAfter, linesAfter}
+use Rattle.step_text.specs.Lines.{answerLine, statusFor}
+use Rattle.step_text.specs.Steps.{linesUpTo, workingsOf}
 use Rattle.step_text.specs.Asked.{readHex, operationAt, ruleFor}
-use Rattle.step_text.proofs.Numbered.{numbered}
 use Rattle.promises.specs.SerialWork as book
-use Rattle.promises.specs.PrintedText.{written, decimal, hexOf}
+use Rattle.promises.specs.PrintedText.{written, hexOf}
 use Rattle.promises.proofs.PrintedText.{decimal-is, hex-is}
 use Rattle.promises.specs.Figures.{from}
 use Rattle.promises.specs.Commands.{least, words, word, statusBy, Two}
 use Rattle.promises.specs.Serial.{floatAnswer, firstAnswer, commandFor, ChipGives, ZeroOrFour, SameEngine, mostSteps, Work, eightCodes, StepsText}
 use Rattle.promises.specs.Serial.{StepsBench}
+use Rattle.promises.proofs.SerialSteps.{made, numbered}
 use Rattle.promises.proofs.StepsAsked.{told, not-told}
 use Rattle.promises.proofs.Commands.{accepted, loses, rows}
 
@@ -142,35 +140,19 @@ same-engine = record {
 }
 
 -- ---- the work
-either-way : (t : Bool) (task : Task) (n : ℕ) → mostOf task ≤ n → (mostOf (cond t Nothing task) ≤ n) × (mostOf (cond t task Nothing) ≤ n)
+either-way : (t : Bool) (task : Task) (n : ℕ) → book.mostOf task ≤ n → (book.mostOf (cond t Nothing task) ≤ n) × (book.mostOf (cond t task Nothing) ≤ n)
 either-way true task n l = (omega arith, l)
 either-way false task n l = (l, omega arith)
 
-most : (op : Operation) (b a : ℕ) → mostOf (taskOf op b a) ≤ mostSteps op
-unfolding mulTask divTask fmulTask fdivTask
+most : (op : Operation) (b a : ℕ) → book.mostOf (book.taskOf op b a) ≤ mostSteps op
 most (Mul w) b a = either-way (eitherLeast (least w) b a) _ (bitsOf w) (le-refl (bitsOf w)) .0
 most (Muu w) b a = either-way (eitherLeast (least w) b a) _ (bitsOf w) (le-refl (bitsOf w)) .0
 most (Div w) b a = either-way (eqb a 0) _ (bitsOf w) (either-way (eitherLeast (least w) b a) _ (bitsOf w) (le-refl (bitsOf w)) .0) .0
 most Fmul b a = either-way (proper b && proper a) _ 24 (le-refl 24) .1
 most Fdiv b a = either-way (proper b && proper a) _ 26 (either-way (eqb (mantissa a) 0) _ 26 (le-refl 26) .0) .1
 
--- the book's task is the crate's
-task-is : (op : Operation) (b a : ℕ) → taskOf op b a ≡ book.taskOf op b a
-unfolding mulTask divTask fmulTask fdivTask
-task-is (Mul w) b a = refl
-task-is (Muu w) b a = refl
-task-is (Div w) b a = refl
-task-is Fmul b a = refl
-task-is Fdiv b a = refl
-
-ours-made : (task other : Task) (steps : ℕ) → task ≡ other → Made task steps → book.StepsMade other steps
-ours-made task other steps e M = subst (λ (t : Task). book.StepsMade t steps) e (record { at-most = M .at-most; fewer = M .fewer })
-
 pub work : Work
-work = record {
-  at-most = λ op rule b a l. le-trans (made op rule b a l .at-most) (most op b a);
-  fewer = λ op rule b a l. ours-made (taskOf op b a) (book.taskOf op b a) (stepsIn (answerOf op rule b a)) (task-is op b a) (made op rule b a l);
-}
+work = record { at-most = λ op rule b a l. le-trans (made op rule b a l .at-most) (most op b a); fewer = made }
 
 -- ---- what is told
 coded : (code : ℕ) (op : Operation) → operationAt code ≡ Named op → decoded code ≡ Known (commandFor op)
@@ -190,16 +172,6 @@ coded code op =
         go true g e = let o : k ≡ op = (cc) in ap decoded (g refl) ∙ d ∙ ap (λ (x : Operation). Known (commandFor x)) o
         go false g e = f e
 
--- a line, and the lines, as the book has them
-step-is : (number left partial : ℕ) → stepLine number left partial ≡ book.stepLine number left partial
-step-is number left partial =
-    ap (λ (t : List ℕ). t ++ ((32 ∷ their-decimal left) ++ (32 ∷ (digitsTo 16 16 partial ++ (10 ∷ []))))) (decimal-is number)
-    ∙ ap₂ (λ (t u : List ℕ). decimal number ++ ((32 ∷ t) ++ (32 ∷ (u ++ (10 ∷ []))))) (decimal-is left) (hex-is 16 partial)
-
-lines-are : (task : Task) (n k : ℕ) → linesAfter task n k ≡ book.linesAfter task n k
-lines-are task zero k = refl
-lines-are task (suc n) k = ap₂ (λ (t u : List ℕ). t ++ u) (step-is (k + 1) (leftAfter task (k + 1)) (partialAfter task (k + 1))) (lines-are task n (k + 1))
-
 status-is : (w : Width) (r error : ℕ) → statusFor w r error ≡ statusBy w r error false
 status-is w r error = same-bits (cond (leb (least w) r) 64 0) (cond (eqb r 0) 32 0)
   where
@@ -218,19 +190,15 @@ answer-is w (Refused refusal) = ap (λ (t : List ℕ). written "refused" ++ ((32
 
 told-lines : (op : Operation) (rule : Rule) (b a : ℕ) → Operands op b a
     → workingsOf op rule b a ≡ book.linesAfter (book.taskOf op b a) (stepsIn (answerOf op rule b a)) 0 ++ book.answerLine (widthOf op) (answerOf op rule b a)
-told-lines op rule b a l =
-    let n = stepsIn (answerOf op rule b a) in
-    ap₂ (λ (s t : List ℕ). s ++ t)
-    (numbered op rule b a l ∙ lines-are (taskOf op b a) n 0 ∙ ap (λ (t : Task). book.linesAfter t n 0) (task-is op b a))
-    (answer-is (widthOf op) (answerOf op rule b a))
+told-lines op rule b a l = ap₂ (λ (s t : List ℕ). s ++ t) (numbered op rule b a l) (answer-is (widthOf op) (answerOf op rule b a))
 
 eight : map operationAt (from 256 0) ≡ eightCodes
 unfolding operationAt
 eight = refl
 
 pub steps-text : StepsText
-unfolding size low packed errorAt cutSize cut their-spelled digitsTo addedUpTo subtractedUpTo mulAnswer muuAnswer divAnswer fmulAnswer fdivAnswer mulTask
-    divTask fmulTask fdivTask productLines quotientLines digitValue hexFrom readHex operationAt sameText ruleFor
+unfolding size low packed errorAt cutSize cut their-spelled digitsTo upTo mulAnswer muuAnswer divAnswer fmulAnswer fdivAnswer mulTask
+    divTask fmulTask fdivTask linesUpTo digitValue hexFrom readHex operationAt sameText ruleFor
 steps-text = record {
   codes = eight;
   chips = coded;
@@ -247,5 +215,5 @@ steps-text = record {
 
 -- ---- the examples, computed from the definitions
 pub steps-bench : StepsBench
-unfolding size low packed errorAt cutSize cut addedUpTo subtractedUpTo mulAnswer muuAnswer divAnswer fmulAnswer fdivAnswer
+unfolding size low packed errorAt cutSize cut upTo mulAnswer muuAnswer divAnswer fmulAnswer fdivAnswer
 steps-bench = refl

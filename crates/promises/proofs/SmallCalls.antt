@@ -19,7 +19,7 @@ use Rattle.chip.specs.Event.{Reset}
 use Rattle.chip.specs.State.{afterReset}
 use Rattle.chip.specs.Step.{done, pushOf, popOf, readOf, resetOf, acknowledgeOf, given}
 use Rattle.error_memory.specs.declared.Memory.{Memory}
-use Rattle.error_memory.specs.Memory.{emptyMemory, Card, CardAnswer, cardWith, around, answerWith}
+use Rattle.error_memory.specs.Memory.{emptyMemory, Card, CardAnswer, cardWith, cardAnswer, answerWith}
 use Rattle.host_floats.specs.declared.Reply.{Reply}
 use Rattle.terms.specs.declared.Refusal.the-variants.{Done, BadState, BadMode, BadRule}
 use Rattle.state_bytes.specs.Bytes.{isState, stateOf, memoryIn, cardIn, flagOf, laidOut}
@@ -252,13 +252,15 @@ module _ (g : Given) (C : Chosen g) where
     bad-kind = λ state kind byte i h. chosen state kind byte (bad-kind set state kind byte (theirs-state i) h);
     byte-ignored = λ state kind byte other a b. byte-ignored g state kind byte other a b;
     push-call = λ b l p u v t P.
-        chosen (laid l p u v t) 1 b (signals l p u v t P set 1 b 0 _ (behindIs t) (ap (around set (behindIs t)) (pushes l p u v t P b)) (tail-back l p u v t P))
+        chosen (laid l p u v t) 1 b (signals l p u v t P set 1 b 0 _ (behindIs t)
+        (ap (cardAnswer set (behindIs t)) (pushes l p u v t P b)) (tail-back l p u v t P))
         ∙ ap (signalled 0) (turned l p u v t P (b ∷ take 15 l));
     pop-call = λ b byte l p u v t P.
-        chosen (laid (b ∷ l) p u v t) 2 byte (signals (b ∷ l) p u v t P set 2 byte b _ (behindIs t) (ap (around set (behindIs t)) (pops b l p u v (P .ready)))
+        chosen (laid (b ∷ l) p u v t) 2 byte (signals (b ∷ l) p u v t P set 2 byte b _ (behindIs t)
+        (ap (cardAnswer set (behindIs t)) (pops b l p u v (P .ready)))
         (tail-back (b ∷ l) p u v t P)) ∙ ap (signalled b) (turned (b ∷ l) p u v t P (l ++ (b ∷ [])));
     status-call = λ byte l p u v t P.
-        chosen (laid l p u v t) 4 byte (signals l p u v t P set 4 byte u _ (behindIs t) (ap (around set (behindIs t)) (statuses l p u v t P))
+        chosen (laid l p u v t) 4 byte (signals l p u v t P set 4 byte u _ (behindIs t) (ap (cardAnswer set (behindIs t)) (statuses l p u v t P))
         (tail-back l p u v t P)) ∙ ap (signalled u) (back l p u v t P l t);
     reset-call = λ m byte l p u v t P. reset-told 0 m byte l p u v t P;
     older-reset-call = λ m byte l u v t P. reset-told 1 m byte l 0 u v t P;
@@ -267,7 +269,7 @@ module _ (g : Given) (C : Chosen g) where
         reset-told 1 m byte (b ∷ l) 1 u v t P ∙ ap (λ (k : List ℕ). signalled 0 ((k ++ (0 ∷ 0 ∷ [])) ++ (0 ∷ 0 ∷ 0 ∷ zeros (length t))))
         (take-append-le 14 l (b ∷ []) (omega arith));
     acknowledge-call = λ byte l p u v t P.
-        chosen (laid l p u v t) 6 byte (signals l p u v t P set 6 byte 0 _ (behindIs t) (ap (around set (behindIs t)) (acknowledges l p u v t P))
+        chosen (laid l p u v t) 6 byte (signals l p u v t P set 6 byte 0 _ (behindIs t) (ap (cardAnswer set (behindIs t)) (acknowledges l p u v t P))
         (tail-back l p u v t P)) ∙ ap (λ (x : ℕ). signalled 0 (l ++ (x ∷ u ∷ 0 ∷ t))) (flag-back p (P .pending));
     recall-call = λ byte l p u v t P.
         chosen (laid l p u v t) 7 byte (signals l p u v t P set 7 byte (getD t 0 0) _ (behindIs t) (recalls l p u v t P set) (tail-back l p u v t P))

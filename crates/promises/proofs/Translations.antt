@@ -18,7 +18,7 @@ use Rattle.stack.specs.Stack.{Bytes, bytesOf, numberFrom}
 use Rattle.stack.proofs.Words.{number-bytes}
 use Rattle.chip.specs.State.{State}
 use Rattle.chip.specs.State.{resetState}
-use Rattle.chip.specs.Events.{AtRest}
+use Rattle.promises.specs.BusEvents.{AtRest}
 use Rattle.error_memory.specs.declared.Memory.{Memory}
 use Rattle.error_memory.specs.Memory.{emptyMemory, Card}
 use Rattle.record_runs.specs.Run.{Outcome}
@@ -28,17 +28,19 @@ use Rattle.state_bytes.proofs.States.{state-ready}
 use Rattle.formula.specs.Formula.{Plus, Less, Times, Over, Formula, Letter, Constant, Minus, Brackets, Joined, nested, needOf}
 use Rattle.formula.specs.Grammar.{IsSum, product, plus, less, IsProduct, factor, times, over, IsFactor, letter, constant, minus, brackets, IsText}
 use Rattle.formula.specs.Reader.{Read, Found, Outside, formulaOf, factorOf, more, leafOf}
-use Rattle.formula.specs.File.{letterWord, properIn, fileOf, repliesTo}
-use Rattle.formula.specs.Evaluation.{evaluated}
+use Rattle.formula.specs.File.{letterWord, properIn, fileOf}
 use Rattle.formula.specs.Translation.{Translated, turnedAway as refusing, judged, translationOf, numberOf}
 use Rattle.formula.specs.declared.Refusal.the-variants.{Done, NoFormula, Improper, NeedsMore, NoRoom}
 use Rattle.formula.proofs.Texts.{read-is, is-read, one-tree}
 use Rattle.formula.proofs.Translating.{letters-wrong, text-empty, text-long, text-fits}
-use Rattle.formula.proofs.Sizes.{file-most, replies-few, file-bytes}
+use Rattle.formula.proofs.Sizes.{file-most, file-bytes}
+use Rattle.promises.specs.FormulaText as book
+use Rattle.promises.specs.FormulaText.{repliesTo, evaluated}
+use Rattle.promises.proofs.FormulaText.{tree}
 use Rattle.promises.proofs.FormulaLeaves.{leaves}
 use Rattle.promises.proofs.FormulaRuns.{AfterFile, evaluates}
 use Rattle.pundaliket.specs.FormulaCall.{Wrote, wroteBy, formulaCall}
-use Rattle.promises.proofs.Measures.{ours-rest, ours-word, ours-state, theirs-state}
+use Rattle.promises.proofs.Measures.{ours-word, ours-state, theirs-state}
 use Rattle.promises.specs.Given.{Given, Chosen, settingsIn, runCall}
 use Rattle.promises.specs.RunCall.{Laid, StandsFor, Reports}
 use Rattle.promises.proofs.Records.{counts-exact}
@@ -48,16 +50,10 @@ use Rattle.promises.proofs.RunCall.{run-call}
 use Rattle.promises.specs.FloatWords.{FloatWord}
 use Rattle.promises.specs.Formulas.{fileIn, Evaluates, EvaluatesCall}
 
--- ---- a text that is stated, refused or taken, as the statement has it, over the crate's trees
+-- ---- a text that is stated or taken, as the statement has it, over the crate's trees
 pub record Stated (text letters : List ℕ) (f : Formula) : Type 0 where
   pub eight-words : length letters ≡ 32
   pub is-text : IsText text f
-
-pub data Refuses (text letters : List ℕ) (room : ℕ) : ℕ → Type 0 where
-  no-formula : ((f : Formula) → Stated text letters f → ⊥) → Refuses text letters room 30
-  improper : (f : Formula) → Stated text letters f → properIn letters f ≡ false → Refuses text letters room 31
-  needs-more : (f : Formula) → Stated text letters f → properIn letters f ≡ true → 4 < needOf f → Refuses text letters room 32
-  no-room : (f : Formula) → Stated text letters f → properIn letters f ≡ true → needOf f ≤ 4 → room < length (fileOf letters f) → Refuses text letters room 33
 
 pub record Takes (text letters : List ℕ) (room : ℕ) (f : Formula) : Type 0 where
   pub stated : Stated text letters f
@@ -73,13 +69,13 @@ module _ (text letters : List ℕ) (room : ℕ) (f : Formula) (S : Stated text l
       let T = S .is-text in
       text-fits letters text room (S .eight-words) (λ e. omega (arith, T .some)) (T .short) ∙ ap (judged letters room) (is-read (T .inside) (T .shallow))
 
-  says-31 : properIn letters f ≡ false → translationOf letters text room ≡ refusing Improper
+  pub says-31 : properIn letters f ≡ false → translationOf letters text room ≡ refusing Improper
   says-31 p = judged-so ∙ rw p
 
-  says-32 : properIn letters f ≡ true → 4 < needOf f → translationOf letters text room ≡ refusing NeedsMore
+  pub says-32 : properIn letters f ≡ true → 4 < needOf f → translationOf letters text room ≡ refusing NeedsMore
   says-32 p n = judged-so ∙ rw (p, lt-ltb 4 (needOf f) n)
 
-  says-33 : properIn letters f ≡ true → needOf f ≤ 4 → room < length (fileOf letters f) → translationOf letters text room ≡ refusing NoRoom
+  pub says-33 : properIn letters f ≡ true → needOf f ≤ 4 → room < length (fileOf letters f) → translationOf letters text room ≡ refusing NoRoom
   says-33 p n r = judged-so ∙ rw (p, le-ltb 4 (needOf f) n, lt-ltb room (length (fileOf letters f)) r)
 
   says-0 : properIn letters f ≡ true → needOf f ≤ 4 → length (fileOf letters f) ≤ room → translationOf letters text
@@ -87,12 +83,12 @@ module _ (text letters : List ℕ) (room : ℕ) (f : Formula) (S : Stated text l
   says-0 p n r = judged-so ∙ rw (p, le-ltb 4 (needOf f) n, le-ltb room (length (fileOf letters f)) r)
 
 -- a text that is none is 30
-record None (text letters : List ℕ) : Type 0 where
-  says-30 : (room : ℕ) → translationOf letters text room ≡ refusing NoFormula
-  not-stated : (f : Formula) → Stated text letters f → ⊥
+pub record None (text letters : List ℕ) : Type 0 where
+  pub says-30 : (room : ℕ) → translationOf letters text room ≡ refusing NoFormula
+  pub not-stated : (f : Formula) → Stated text letters f → ⊥
 
 -- a formula, or none
-looked : (text letters : List ℕ) → ((f : Formula) × Stated text letters f) ⊎ None text letters
+pub looked : (text letters : List ℕ) → ((f : Formula) × Stated text letters f) ⊎ None text letters
 looked text letters = go (eqb (length letters) 32) refl (eqb (length text) 0) refl (ltb 256 (length text)) refl (formulaOf text) refl
   where
     go : (p : Bool) → eqb (length letters) 32 ≡ p → (q : Bool) → eqb (length text) 0 ≡ q → (r : Bool) → ltb 256 (length text) ≡ r → (x : Read)
@@ -135,78 +131,30 @@ looked text letters = go (eqb (length letters) 32) refl (eqb (length text) 0) re
         )
 
 -- ---- the calls
-pub is-refused : (text letters file : List ℕ) (n : ℕ) → Refuses text letters (length file) n
-    → formulaCall text letters file ≡ record { result = 65536 * n; file = file }
-is-refused text letters file n (no-formula h) = ⊎-elim (λ x. absurd (h (x .0) (x .1))) (λ z. ap (λ (t : Translated). wroteBy t file) (z .says-30 (length file)))
-    (looked text letters)
-is-refused text letters file n (improper f S p) = ap (λ (t : Translated). wroteBy t file) (says-31 text letters (length file) f S p)
-is-refused text letters file n (needs-more f S p m) = ap (λ (t : Translated). wroteBy t file) (says-32 text letters (length file) f S p m)
-is-refused text letters file n (no-room f S p m r) = ap (λ (t : Translated). wroteBy t file) (says-33 text letters (length file) f S p m r)
+-- by what the translator says
+pub written-so : (text letters file : List ℕ) {t : Translated} → translationOf letters text (length file) ≡ t → formulaCall text letters file ≡ wroteBy t file
+written-so text letters file e = ap (λ (t : Translated). wroteBy t file) e
 
 pub is-translated : (text letters file : List ℕ) (f : Formula) → Takes text letters (length file) f
     → formulaCall text letters file ≡ record { result = length (fileOf letters f); file = fileOf letters f ++ drop (length (fileOf letters f)) file }
 is-translated text letters file f T =
     let F = fileOf letters f in
     let z : 65536 * 0 + length F ≡ length F = omega arith in
-    ap (λ (t : Translated). wroteBy t file) (says-0 text letters (length file) f (T .stated) (T .proper) (T .need) (T .fits))
+    written-so text letters file (says-0 text letters (length file) f (T .stated) (T .proper) (T .need) (T .fits))
     ∙ ap (λ (n : ℕ). record { result = n; file = F ++ drop (length F) file }) z
 
-pub either-way : (text letters file : List ℕ) → ((n : ℕ) × Refuses text letters (length file) n) ⊎ ((f : Formula) × Takes text letters (length file) f)
-either-way text letters file = ⊎-elim (λ x. by (x .0) (x .1)) (λ z. inl (30, no-formula (z .not-stated))) (looked text letters)
-  where
-    by : (f : Formula) → Stated text letters f → ((n : ℕ) × Refuses text letters (length file) n) ⊎ ((f : Formula) × Takes text letters (length file) f)
-    by f S = go (properIn letters f) refl (ltb 4 (needOf f)) refl (ltb (length file) (length (fileOf letters f))) refl
-      where
-        go : (p : Bool) → properIn letters f ≡ p → (q : Bool) → ltb 4 (needOf f) ≡ q → (r : Bool) → ltb (length file) (length (fileOf letters f)) ≡ r
-            → ((n : ℕ) × Refuses text letters (length file) n) ⊎ ((f : Formula) × Takes text letters (length file) f)
-        go false a q b r c = inl (31, improper f S a)
-        go true a true b r c = inl (32, needs-more f S a (ltb-true 4 (needOf f) b))
-        go true a false b true c = inl (33, no-room f S a (ltb-false 4 (needOf f) b) (ltb-true (length file) (length (fileOf letters f)) c))
-        go true a false b false c = inr (
-          f,
-          record {
-            stated = S;
-            proper = a;
-            need = ltb-false 4 (needOf f) b;
-            fits = ltb-false (length file)
-                (length (fileOf letters f)) c;
-          },
-        )
-
--- a file has less than 65,536 bytes, and a refusal is of at least 30
+-- a file has less than 65,536 bytes
 pub file-short : (text letters : List ℕ) (room : ℕ) (f : Formula) → Takes text letters room f → length (fileOf letters f) ≤ 1664
 file-short text letters room f T = file-most letters (T .stated .is-text .inside) (T .stated .is-text .short)
-
-least : {text letters : List ℕ} {room n : ℕ} → Refuses text letters room n → 30 ≤ n
-least (no-formula h) = omega arith
-least (improper f S p) = omega arith
-least (needs-more f S p m) = omega arith
-least (no-room f S p m r) = omega arith
-
-pub given-there : (text letters file : List ℕ) (n : ℕ) → 1 ≤ n → formulaCall text letters file .result ≡ 65536 * n → Refuses text letters (length file) n
-given-there text letters file n h e = ⊎-elim
-    (λ x.
-    let z = ap (λ (w : Wrote). w .result) (is-refused text letters file (x .0) (x .1)) in
-    let same : x .0 ≡ n = omega (arith, e) in
-    subst (λ (k : ℕ). Refuses text letters (length file) k) same (x .1))
-    (λ x. let z = ap (λ (w : Wrote). w .result) (is-translated text letters file (x .0) (x .1))
-    in absurd (omega (arith, e, file-short text letters (length file) (x .0) (x .1))))
-    (either-way text letters file)
-
-pub given-then : (text letters file : List ℕ) → formulaCall text letters file .result < 65536 → (f : Formula) × Takes text letters (length file) f
-given-then text letters file h = ⊎-elim
-    (λ x. let z = ap (λ (w : Wrote). w .result) (is-refused text letters file (x .0) (x .1)) in absurd (omega (arith, least (x .1))))
-    (λ x. x)
-    (either-way text letters file)
 
 -- ---- the run
 pub file-is : (text letters file : List ℕ) (f : Formula) → Takes text letters (length file) f → fileIn (formulaCall text letters file) ≡ fileOf letters f
 file-is text letters file f T = ap fileIn (is-translated text letters file f T) ∙ take-at (fileOf letters f) (drop (length (fileOf letters f)) file)
     (length (fileOf letters f)) refl
 
-record-run : (on : Settings) (s : State) (m : Memory) (text letters file : List ℕ) (f : Formula) → Takes text letters (length file) f → Bytes letters
-    → length (s .stack) ≡ 16 → AtRest s
-    → AfterFile on s m (fileOf letters f) (repliesTo f) (evaluated (on .rule) letters f)
+record-run : (on : Settings) (s : State) (m : Memory) (text letters file : List ℕ) (f : book.Formula) → Takes text letters (length file) (tree f)
+    → Bytes letters → length (s .stack) ≡ 16 → AtRest s
+    → AfterFile on s m (fileOf letters (tree f)) (repliesTo f) (evaluated (on .rule) letters f)
 record-run on s m text letters file f T B six R = evaluates on letters f s m (leaves letters (T .stated .eight-words) B (T .stated .is-text .inside)
     (T .proper)) (T .need) six R
 
@@ -238,23 +186,24 @@ byte-16 n bytes c size L p = ⊎-elim
     ∙ ap (λ (t : Bool). cond t 1 0) p)
     size
 
-call-run : (g : Given) → Chosen g → (state replies report text letters file : List ℕ) (f : Formula) → Takes text letters (length file) f → Bytes letters
-    → Bytes state → IsState state
+call-run : (g : Given) → Chosen g → (state replies report text letters file : List ℕ) (f : book.Formula)
+    → Takes text letters (length file) (tree f) → Bytes letters → Bytes state → IsState state
     → getD state 16 0 ≡ 0 → length report ≡ 9 → length (repliesTo f) ≤ length replies
-    → EvaluatesCall (runCall g state (fileOf letters f) replies report) (fileOf letters f) (repliesTo f) replies (evaluated (settingsIn g .rule) letters f)
+    → EvaluatesCall (runCall g state (fileOf letters (tree f)) replies report) (fileOf letters (tree f)) (repliesTo f) replies
+    (evaluated (settingsIn g .rule) letters f)
 call-run g C state replies report text letters file f T B S H w n r =
     let h = theirs-state H in
     let on = settingsIn g in
-    let F = fileOf letters f in
+    let F = fileOf letters (tree f) in
     let c = cardIn on state in
     let A = stands-for on state h in
     let size = ours-state h .size in
-    let short = file-short text letters (length file) f T in
+    let short = file-short text letters (length file) (tree f) T in
     let L = record-run on (stateOf state) (memoryIn state) text letters file f T B (A .laid .sixteen)
     (record { taken = lt-leb 128 (getD state 17 0) (state-ready state h); whole = ap (λ (k : ℕ). eqb k 1) w }) in
     let ran = L .ran .ran (length replies) r in
     let R = subst (λ (o : Outcome). Reports (length state) (runCall g state F replies report) o replies) ran (run-call g C c refl state F replies report S
-    (file-bytes letters f) H A n (omega arith)) in
+    (file-bytes letters (tree f)) H A n (omega arith)) in
     let counts = counts-exact g C state F replies report n H (omega arith) in
     record {
       result = R .result;
@@ -262,39 +211,39 @@ call-run g C state replies report text letters file f T B S H w n r =
       all-taken = counts .0 ∙ ap (λ (o : Outcome). o .taken) ran;
       all-written = counts .1 ∙ ap (λ (o : Outcome). length (o .written)) ran;
       on-top = bytes-begin (length state) _ _ size (R .state) ∙ L .on-top;
-      again = state-stays g state F replies report S (file-bytes letters f) H .0;
+      again = state-stays g state F replies report S (file-bytes letters (tree f)) H .0;
       whole = byte-16 (length state) _ _ size (R .state) (L .at-rest .whole);
     }
 
 -- a file that is run as records
-pub as-records : (on : Settings) (s : State) (m : Memory) (text letters file : List ℕ) (f : Formula) (room : ℕ) → Takes text letters (length file) f
+pub as-records : (on : Settings) (s : State) (m : Memory) (text letters file : List ℕ) (f : book.Formula) (room : ℕ) → Takes text letters (length file) (tree f)
     → Bytes letters
     → length (s .stack) ≡ 16 → AtRest s → length (repliesTo f) ≤ room → Evaluates on s m (fileIn (formulaCall text letters file)) (repliesTo f) room
     (evaluated (on .rule) letters f)
 as-records on s m text letters file f room T B six R h =
     let L = record-run on s m text letters file f T B six R in
     let w = evaluated (on .rule) letters f in
-    subst (λ (l : List ℕ). Evaluates on s m l (repliesTo f) room w) (sym (file-is text letters file f T)) (record {
+    subst (λ (l : List ℕ). Evaluates on s m l (repliesTo f) room w) (sym (file-is text letters file (tree f) T)) (record {
       end = L .end;
       memory = L .memory;
       ran = L .ran .ran room h;
       on-top = ap (numberFrom 0) (L .on-top) ∙ number-bytes 4 w (L .proper .fits);
       sixteen = L .sixteen;
-      at-rest = ours-rest (L .at-rest);
+      at-rest = L .at-rest;
     })
 
 -- and through the call
-pub as-call : (g : Given) → Chosen g → (state replies report text letters file : List ℕ) (f : Formula) → Takes text letters (length file) f → Bytes letters
-    → Bytes state
+pub as-call : (g : Given) → Chosen g → (state replies report text letters file : List ℕ) (f : book.Formula)
+    → Takes text letters (length file) (tree f) → Bytes letters → Bytes state
     → IsState state → getD state 16 0 ≡ 0 → length report ≡ 9 → length (repliesTo f) ≤ length replies
     → EvaluatesCall (runCall g state (fileIn (formulaCall text letters file)) replies report) (fileIn (formulaCall text letters file)) (repliesTo f) replies
     (evaluated (settingsIn g .rule) letters f)
 as-call g C state replies report text letters file f T B S h w n r =
     subst (λ (l : List ℕ). EvaluatesCall (runCall g state l replies report) l (repliesTo f) replies (evaluated (settingsIn g .rule) letters f))
-    (sym (file-is text letters file f T))
+    (sym (file-is text letters file (tree f) T))
     (call-run g C state replies report text letters file f T B S h w n r)
 
-pub word-proper : (rule : Rule) (text letters file : List ℕ) (f : Formula) → Takes text letters (length file) f → Bytes letters
+pub word-proper : (rule : Rule) (text letters file : List ℕ) (f : book.Formula) → Takes text letters (length file) (tree f) → Bytes letters
     → FloatWord (evaluated rule letters f)
 word-proper rule text letters file f T B =
     ours-word (record-run (record { mode = Am9511A; rule = rule }) resetState emptyMemory text letters file f T B refl (record { taken = refl; whole = refl })

@@ -18,7 +18,7 @@ use Rattle.terms.specs.Settings.{Settings}
 use Rattle.stack.specs.Stack.{IsStack, rotated, poppedAll, exchanged}
 use Rattle.stack.proofs.Elems.{elems, spelled}
 use Rattle.stack.proofs.Several.{pops-block}
-use Rattle.stack.proofs.Round.{once-round}
+use Rattle.promises.proofs.Round.{once-round}
 use Rattle.codes.specs.Command.{Command}
 use Rattle.codes.specs.Command.{Pop, Xch}
 use Rattle.codes.specs.Command.{Known}
@@ -31,22 +31,23 @@ use Rattle.chip.specs.State.{settled}
 use Rattle.chip.specs.Status.{statusOf, errorOf}
 use Rattle.chip.specs.Commands.{outcomeOf, properOperands}
 use Rattle.chip.specs.Step.{done, carried, commandUnder, answerTo}
-use Rattle.chip.specs.Events.{afterEvents, answered, AtRest}
-use Rattle.chip.specs.InTurn.{afterPops}
+use Rattle.promises.specs.BusEvents.{afterEvents, answered, AtRest, afterPops}
 use Rattle.chip.proofs.Outcomes.{status-lt, status-error, outcome-fair}
 use Rattle.chip.proofs.Accepted.{accepts}
-use Rattle.chip.proofs.InTurn.{turned as passed, pops-state}
-use Rattle.chip.proofs.OnTop.{idle}
-use Rattle.chip.proofs.Events.{at-rest-lt, at-rest}
+use Rattle.chip.proofs.InTurn.{turned as passed}
+use Rattle.promises.proofs.InTurn.{pops-state}
+use Rattle.promises.proofs.OnTop.{idle}
+use Rattle.promises.proofs.Events.{at-rest-lt, at-rest}
 use Rattle.error_memory.specs.Event.{Event as CardEvent}
 use Rattle.error_memory.specs.Event.{Chip}
 use Rattle.error_memory.specs.Memory.{Card, eventIn, keptAfter}
-use Rattle.error_memory.specs.History.{afterAll}
-use Rattle.error_memory.proofs.Kept.{chip-alone, none-left}
+use Rattle.promises.specs.Remembered.{afterAll}
+use Rattle.error_memory.proofs.Kept.{none-left}
+use Rattle.promises.proofs.Remembered.{chip-alone}
 use Rattle.state_bytes.specs.Bytes.{stateOf, cardIn, stateBytesOf, memoryBytesOf, flagOf, laidOut}
 use Rattle.state_bytes.proofs.Cards.{behind, laid-is, laid-at, card-returns, card-ready}
 use Rattle.state_bytes.specs.Calls.{joinedOf}
-use Rattle.promises.proofs.Measures.{theirs-stack, ours-stack, theirs-rest, ours-rest, theirs-state}
+use Rattle.promises.proofs.Measures.{theirs-stack, ours-stack, theirs-state}
 use Rattle.promises.specs.Chains.{commandEvent}
 use Rattle.promises.specs.Given.{Given, Chosen, settingsIn}
 use Rattle.promises.specs.Cores.{Core, Meets, onBus, driven, returned, answersOf, Sendable, allZero}
@@ -146,15 +147,15 @@ module _ (on : Settings) where
 
   at-chip : (ks : List Shuffle) → Stays ks → AtChip on ks
   at-chip ks h = record {
-    every-answered = λ s bit R. worked ks bit s (theirs-rest R) .all-answered;
-    all-bytes = λ s bit R S. worked ks bit s (theirs-rest R) .stack-is ∙ h (s .stack) (theirs-stack S);
-    ready-again = λ s bit R. ours-rest (worked ks bit s (theirs-rest R) .at-end);
+    every-answered = λ s bit R. worked ks bit s R .all-answered;
+    all-bytes = λ s bit R S. worked ks bit s R .stack-is ∙ h (s .stack) (theirs-stack S);
+    ready-again = λ s bit R. worked ks bit s R .at-end;
   }
 
   stays : (ks : List Shuffle) → AtChip on ks → Stays ks
   stays ks c l S =
       let R = at-rest l 0 false (lit< tt) in
-      sym (worked ks (λ (n : ℕ). false) (idle l 0 false) R .stack-is) ∙ c .all-bytes (idle l 0 false) (λ (n : ℕ). false) (ours-rest R) (ours-stack S)
+      sym (worked ks (λ (n : ℕ). false) (idle l 0 false) R .stack-is) ∙ c .all-bytes (idle l 0 false) (λ (n : ℕ). false) R (ours-stack S)
 
   -- ---- lists joined
   left-append : (ks ls : List Shuffle) (l : List ℕ) → leftBy (ks ++ ls) l ≡ leftBy ls (leftBy ks l)
@@ -282,11 +283,11 @@ module _ (g : Given) (C : Chosen g) (ks : List Shuffle) (h : AtChip (settingsIn 
 
   stack-back : last .chip .stack ≡ take 16 state
   stack-back = ap (λ (s : State). s .stack) (chip-alone (cardIn (settingsIn g) state) (shuffled bit ks)) ∙ h .all-bytes (stateOf state) bit
-      (ours-rest chip-at-rest) (ours-stack is-stack)
+      chip-at-rest (ours-stack is-stack)
 
   nothing-pending : last .chip .pending ≡ false
   nothing-pending = ap (λ (s : State). s .pending) (chip-alone (cardIn (settingsIn g) state) (shuffled bit ks)) ∙ h .ready-again (stateOf state) bit
-      (ours-rest chip-at-rest) .whole
+      chip-at-rest .whole
 
   sixteen-again : length (last .chip .stack) ≡ 16
   sixteen-again = ap length stack-back ∙ is-stack .sixteen
@@ -356,12 +357,12 @@ even-pops false = refl
 
 pub looks : Looks
 looks = record {
-  two-bytes = λ on s bit A S. let R = theirs-rest A in stack-read 2 s R ∙ sym (pops-block 2 (s .stack) (S .sixteen) (lit≤ tt))
+  two-bytes = λ on s bit R S. stack-read 2 s R ∙ sym (pops-block 2 (s .stack) (S .sixteen) (lit≤ tt))
       ∙ sym (worked on (POPS ∷ []) bit s R .stack-is);
-  four-bytes = λ on s bit A S. let R = theirs-rest A in stack-read 4 s R ∙ sym (pops-block 4 (s .stack) (S .sixteen) (lit≤ tt))
+  four-bytes = λ on s bit R S. stack-read 4 s R ∙ sym (pops-block 4 (s .stack) (S .sixteen) (lit≤ tt))
       ∙ sym (worked on (POPD ∷ []) bit s R .stack-is);
   sixteen-bytes = λ s R S.
-      pops-state 16 s (at-rest-lt (theirs-rest R))
+      pops-state 16 s (at-rest-lt R)
       ∙ ap₂ (λ (l : List ℕ) (p : Bool). record { stack = l; pending = p; status = s .status; service = s .service }) (once-round 0 (s .stack) (S .sixteen) .1)
       (even-pops (s .pending));
 }

@@ -23,9 +23,10 @@ use Rattle.chip.specs.State.{Answer}
 use Rattle.chip.specs.Event.{Event}
 use Rattle.chip.specs.State.{busy, moved}
 use Rattle.chip.specs.Step.{refused, carried, commandUnder, under}
-use Rattle.chip.specs.Events.{afterEvents}
+use Rattle.promises.specs.BusEvents.{afterEvents}
 use Rattle.chip.proofs.Accepted.{accepted}
-use Rattle.chip.proofs.InTurn.{push-done, pop-done, word-pushed, word-popped, result-popped}
+use Rattle.chip.proofs.InTurn.{push-done, pop-done}
+use Rattle.promises.proofs.InTurn.{word-pushed, word-popped, result-popped}
 use Rattle.promises.proofs.Measures.{theirs-stack}
 use Rattle.promises.specs.WholeWords.{Moves, none, pushing, popping, odd, Whole, WholeWords, wordsOf, EachBelow, StackOfWords}
 

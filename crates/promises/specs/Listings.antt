@@ -6,12 +6,13 @@ use mathlib.Core.Path.{_≡_}
 use mathlib.Core.List.{List, [], _∷_, _++_, map}
 use lib.ListN.{length, drop, getD}
 use Rattle.listing.specs.Listing.{replyKind, replyRefusal, replySize, replyData}
-use Rattle.list_text.specs.Trace.{traceOf}
 use Rattle.list_text.specs.Printout.{toldOf}
+use Rattle.record_text.specs.Trace.{tracedOf}
 use Rattle.promises.specs.PrintedText.{written, digit, decimal}
-use Rattle.promises.specs.Subjects.{Card, runOf}
+use Rattle.promises.specs.Subjects.{Card, Outcome, runOf}
 use Rattle.promises.specs.BusEvents.{resetState}
 use Rattle.promises.specs.Remembered.{emptyMemory, cardWith}
+use Rattle.promises.specs.StateBytes.{laidOut}
 use Rattle.promises.specs.Given.{Given, settingsIn}
 use Rattle.promises.specs.Records.{total, lengths, Split}
 
@@ -52,17 +53,21 @@ hexText [] = []
 hexText (b ∷ bs) = 32 ∷ digit (b / 16) ∷ digit (b % 16) ∷ hexText bs
 
 -- a record's line: its number, its own kind, the refusal of its reply, the data of its reply; a newline (10) ends it
-abbrev pub recordLine : ℕ → List ℕ → List ℕ → List ℕ
-recordLine number r reply =
+abbrev pub recordLine : ℕ → List ℕ → Outcome → List ℕ
+recordLine number r o =
     decimal number ++ ((32 ∷ decimal (getD r 2 0 + getD r 3 0 * 256))
-    ++ ((32 ∷ decimal (getD reply 4 0)) ++ (hexText (drop 5 reply) ++ (10 ∷ []))))
+    ++ ((32 ∷ decimal (getD (o .written) 4 0)) ++ (hexText (drop 5 (o .written)) ++ (10 ∷ []))))
+
+-- its line in the trace: its number, the 21 bytes of the state that it leaves
+abbrev pub stateLine : ℕ → List ℕ → Outcome → List ℕ
+stateLine number r o = decimal number ++ (hexText (laidOut 21 (o .state)) ++ (10 ∷ []))
 
 -- the lines of records in turn, each run as a file of its own on the card and in the room that the one before left
-abbrev pub linesFor : ℕ → Card → List (List ℕ) → ℕ → List ℕ
-linesFor number s [] room = []
-linesFor number s (r ∷ rs) room =
-    recordLine number r (runOf s r room .written)
-    ++ linesFor (number + 1) (runOf s r room .state) rs (room - length (runOf s r room .written))
+abbrev pub linesFor : (ℕ → List ℕ → Outcome → List ℕ) → ℕ → Card → List (List ℕ) → ℕ → List ℕ
+linesFor line number s [] room = []
+linesFor line number s (r ∷ rs) room =
+    line number r (runOf s r room)
+    ++ linesFor line (number + 1) (runOf s r room .state) rs (room - length (runOf s r room .written))
 
 -- `end`, the run's refusal, bytes of whole records taken
 abbrev pub lastLine : ℕ → ℕ → List ℕ
@@ -86,21 +91,25 @@ pub record Listings : Type 0 where
   -- an input of at most 12,288 bytes, run from reset with 65,536 bytes of room and split into the records taken and the
   -- rest (Records: every file splits so):
   -- a line for each record taken, numbered from 1, then the last line
-  pub printed : (words : ℕ) (first second third input : List ℕ) (g : Given) → Asks words first second g
+  pub printed : (words : ℕ) (first second input : List ℕ) (g : Given) → Asks words first second g
       → length input ≤ 12288 → (split : Split (resetCard g) input 65536 (runOf (resetCard g) input 65536))
-      → toldOf words first second third input
-      ≡ linesFor 1 (resetCard g) (split .records) 65536
+      → toldOf words first second input
+      ≡ linesFor recordLine 1 (resetCard g) (split .records) 65536
       ++ lastLine (runOf (resetCard g) input 65536 .refusal) (total (lengths (split .records)))
   -- a longer one prints only `end 9 0`
-  pub long : (words : ℕ) (first second third input : List ℕ) (g : Given) → Asks words first second g
-      → 12288 < length input → toldOf words first second third input ≡ written "end 9 0" ++ (10 ∷ [])
-  -- with `--trace` before them the same words ask for the trace under the same mode and rule
-  pub traced : (words : ℕ) (first second input : List ℕ) (g : Given) → Asks words first second g
-      → toldOf (words + 1) (written "--trace") first second input ≡ traceOf (g .mode) (g .rule) input
+  pub long : (words : ℕ) (first second input : List ℕ) (g : Given) → Asks words first second g
+      → 12288 < length input → toldOf words first second input ≡ written "end 9 0" ++ (10 ∷ [])
   -- any other call prints `usage`
-  pub usage : (words : ℕ) (first second third input : List ℕ) → ((g : Given) → Asks words first second g → ⊥)
-      → ((n : ℕ) (g : Given) → words ≡ n + 1 → first ≡ written "--trace" → Asks n second third g → ⊥)
-      → toldOf words first second third input ≡ written "usage" ++ (10 ∷ [])
+  pub usage : (words : ℕ) (first second input : List ℕ) → ((g : Given) → Asks words first second g → ⊥)
+      → toldOf words first second input ≡ written "usage" ++ (10 ∷ [])
+  -- for the trace the same words ask for that of the same run: the state after each record taken, then `end`; of a longer
+  -- input only that
+  pub traced : (words : ℕ) (first second input : List ℕ) (g : Given) → Asks words first second g
+      → length input ≤ 12288 → (split : Split (resetCard g) input 65536 (runOf (resetCard g) input 65536))
+      → tracedOf words first second input
+      ≡ linesFor stateLine 1 (resetCard g) (split .records) 65536 ++ (written "end" ++ (10 ∷ []))
+  pub traced-long : (words : ℕ) (first second input : List ℕ) (g : Given) → Asks words first second g
+      → 12288 < length input → tracedOf words first second input ≡ written "end" ++ (10 ∷ [])
   -- a reply that the run writes is the reply that the listing reads, whatever follows it; its word has no bit 15, which
   -- marks the kinds of module sheets
   pub read-back : (kind refusal : ℕ) (bytes rest : List ℕ) → kind + 128 < 32768

@@ -13,45 +13,43 @@ use Rattle.record_text.specs.Told.{recordText}
 use Rattle.record_text.specs.Line.{Said, Record, Empty, saidOf}
 use Rattle.promises.specs.PrintedText.{written, bytes}
 
--- the number of a kind: 01's, 02's of the error memory and of module sheets
-abbrev pub kindNumber : Kind → ℕ
-kindNumber Push = 1
-kindNumber Pop = 2
-kindNumber Command = 3
-kindNumber Status = 4
-kindNumber Reset = 5
-kindNumber Acknowledge = 6
-kindNumber Recall = 7
-kindNumber Forget = 8
-kindNumber Open = 256
-kindNumber Keep = 257
-kindNumber Close = 258
-kindNumber Unknown = 0
+-- the number of a kind: 01's, 02's of the error memory and of module sheets; the payload that a library takes with it
+pub record KindRow : Type 1 where
+  pub number : ℕ
+  pub payload : List ℕ → Type 0
 
--- the payload that a library takes with a kind
-abbrev pub HasPayload : Kind → List ℕ → Type 0
-HasPayload Push payload = (1 ≤ length payload) × (length payload ≤ 240)
-HasPayload Pop payload = (length payload ≡ 1) × (1 ≤ getD payload 0 0) × (getD payload 0 0 ≤ 240)
-HasPayload Command payload = length payload ≡ 1
-HasPayload Status payload = payload ≡ []
-HasPayload Reset payload = payload ≡ []
-HasPayload Acknowledge payload = payload ≡ []
-HasPayload Recall payload = payload ≡ []
-HasPayload Forget payload = payload ≡ []
-HasPayload Open payload = length payload ≡ 4
-HasPayload Keep payload = length payload ≡ 1
-HasPayload Close payload = payload ≡ []
-HasPayload Unknown payload = ⊥
+abbrev row : ℕ → (List ℕ → Type 0) → KindRow
+row n p = record { number = n; payload = p }
+
+abbrev none : List ℕ → Type 0
+none l = l ≡ []
+
+abbrev sized : ℕ → List ℕ → Type 0
+sized n l = length l ≡ n
+
+abbrev pub kindRow : Kind → KindRow
+kindRow Push = row 1 (λ (l : List ℕ). (1 ≤ length l) × (length l ≤ 240))
+kindRow Pop = row 2 (λ (l : List ℕ). (length l ≡ 1) × (1 ≤ getD l 0 0) × (getD l 0 0 ≤ 240))
+kindRow Command = row 3 (sized 1)
+kindRow Status = row 4 none
+kindRow Reset = row 5 none
+kindRow Acknowledge = row 6 none
+kindRow Recall = row 7 none
+kindRow Forget = row 8 none
+kindRow Open = row 256 (sized 4)
+kindRow Keep = row 257 (sized 1)
+kindRow Close = row 258 none
+kindRow Unknown = row 0 (λ (l : List ℕ). ⊥)
 
 -- the bytes of a record: its length, which counts what follows, its kind, its payload; low bytes first
 abbrev pub bytesOfRecord : Kind → List ℕ → List ℕ
 bytesOfRecord kind payload =
-    (2 + length payload) % 256 ∷ (2 + length payload) / 256 ∷ kindNumber kind % 256 ∷ kindNumber kind / 256 ∷ payload
+    (2 + length payload) % 256 ∷ (2 + length payload) / 256 ∷ kindRow kind .number % 256 ∷ kindRow kind .number / 256 ∷ payload
 
 -- a record's text, read by either rule, is the record
 abbrev pub RecordTextReadsBack : Type 0
 RecordTextReadsBack =
-    (rule : Rule) (kind : Kind) (payload : List ℕ) → HasPayload kind payload → ((i : ℕ) → getD payload i 0 < 256)
+    (rule : Rule) (kind : Kind) (payload : List ℕ) → kindRow kind .payload payload → ((i : ℕ) → getD payload i 0 < 256)
     → saidOf rule (recordText kind payload) ≡ Record (bytesOfRecord kind payload)
 
 -- ---- lines by the letter: a rule, the text, and what it is read as

@@ -22,40 +22,27 @@ use Rattle.promises.specs.Cores.{Core, Meets, onBus, driven, returned, a
 
 -- ---- the six commands
 pub data Shuffle : Type 0 where
-  POPS : Shuffle
-  POPD : Shuffle
-  POPF : Shuffle
-  XCHS : Shuffle
-  XCHD : Shuffle
-  XCHF : Shuffle
+  POPS POPD POPF XCHS XCHD XCHF : Shuffle
 
--- their codes in Figure 8 of 001, without bit 7
+-- the code in Figure 8 of 001, without bit 7; what it does: A goes to the bottom, or A and B change places, "The D and F
+-- forms .. do the same"; what undoes it: "each exchange once, POPS seven times, POPD or POPF three times"
+abbrev pub rowOf : Shuffle → ℕ × Command × List Shuffle
+rowOf POPS = (0x78, Pop Single, replicate 7 POPS)
+rowOf POPD = (0x38, Pop Double, replicate 3 POPD)
+rowOf POPF = (0x18, Pop Double, replicate 3 POPF)
+rowOf XCHS = (0x79, Xch Single, XCHS ∷ [])
+rowOf XCHD = (0x39, Xch Double, XCHD ∷ [])
+rowOf XCHF = (0x19, Xch Double, XCHF ∷ [])
+
 abbrev pub codeOf : Shuffle → ℕ
-codeOf POPS = 0x78
-codeOf POPD = 0x38
-codeOf POPF = 0x18
-codeOf XCHS = 0x79
-codeOf XCHD = 0x39
-codeOf XCHF = 0x19
+codeOf k = rowOf k .0
 
--- what they do: A goes to the bottom, or A and B change places; "The D and F forms .. do the same"
 abbrev pub commandOf : Shuffle → Command
-commandOf POPS = Pop Single
-commandOf POPD = Pop Double
-commandOf POPF = Pop Double
-commandOf XCHS = Xch Single
-commandOf XCHD = Xch Double
-commandOf XCHF = Xch Double
+commandOf k = rowOf k .1
 
 -- ---- the rule
--- "each exchange once, POPS seven times, POPD or POPF three times"
 abbrev pub undoOne : Shuffle → List Shuffle
-undoOne POPS = replicate 7 POPS
-undoOne POPD = replicate 3 POPD
-undoOne POPF = replicate 3 POPF
-undoOne XCHS = XCHS ∷ []
-undoOne XCHD = XCHD ∷ []
-undoOne XCHF = XCHF ∷ []
+undoOne k = rowOf k .2
 
 -- "backwards": what undoes the first command comes last
 abbrev pub undo : List Shuffle → List Shuffle

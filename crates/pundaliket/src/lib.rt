@@ -1,6 +1,11 @@
 // The calls that the rack controller's firmware makes, on byte slices that it lends. Every call refuses by 01's number,
 // asks nothing of its caller, and says what each slice holds after. Each is thin over the function that does its work.
+pub mod event;
+
+use terms::kind_of;
+use terms::mode_of;
 use terms::number;
+use terms::rule_of;
 ghost use Rattle.host_floats.specs.Host.{hostOf, takenOf, hostReply, takenReply};
 ghost use Rattle.host_floats.specs.Buffers.{wordsTurn, floatsTurn, Turns};
 ghost use Rattle.state_bytes.specs.Calls.{Calls, callOf, Signals, signalOf};
@@ -34,7 +39,11 @@ pub extern "C" fn pundaliket_event(
 ) -> u32
     ensures { λ r. ⌜ Signals (signalOf mode rule (now (state .entry)) kind byte) r (now (state .exit)) ⌝ }
 {
-    state_bytes::calls::event(mode, rule, state, kind, byte)
+    let refusal = number(state_bytes::admit(mode, rule, state));
+    if refusal != 0 {
+        return crate::event::joined(refusal, 0);
+    }
+    crate::event::event_on(mode_of(mode), rule_of(rule), state, kind_of(kind), byte)
 }
 
 // The reply of a conversion, its 32 bits to `out` on 0 alone; a slice that is not four bytes first.

@@ -36,40 +36,33 @@ zero-of : (k : ℕ) → k ≤ 0 → 0 ≡ k
 zero-of k h = omega arith
 
 module _ {S : Type 0} {most : ℕ} {step : RecordStep S} (ok : Lawful most step) where
-  -- a cut before the first byte
-  cut-none : (s : S) (l : List ℕ) (room : ℕ) → CutAt step s l room 0 0
-  cut-none s l room = rw (nothing ok s room) record {
+  -- a cut of which nothing is taken: before the first byte, or through the first record
+  cut-early : (s : S) (l : List ℕ) (room k r : ℕ) → runBy step s (take k l) room ≡ ended r s → (k ≡ 0 → r ≡ 0) → (0 < k → r ≡ numberOf CutShort)
+      → CutAt step s l room k 0
+  cut-early s l room k r e at-end in-one = rw (e, nothing ok s room) record {
     upto = zero-le;
     whole-done = refl;
     whole-taken = refl;
     state-is = refl;
     taken-is = refl;
     written-is = refl;
-    at-end = λ x. refl;
-    in-one = λ x. let y : ⊥ = omega arith in absurd y;
+    at-end = at-end;
+    in-one = in-one;
   }
 
-  -- a cut through the first record
-  cut-first : (s : S) (l : List ℕ) (room k : ℕ) → step s l room .refusal ≡ 0 → 0 < k → k < step s l room .size → k ≤ length l → CutAt step s l room k 0
+  cut-none : (s : S) (l : List ℕ) (room : ℕ) → CutAt step s l room 0 0
+  cut-none s l room = cut-early s l room 0 0 (nothing ok s room) (λ x. refl) (λ x. omega arith)
+
+  cut-first : (s : S) (l : List ℕ) (room k : ℕ) → step s l room .refusal ≡ 0 → 0 < k → k < step s l room .taken → k ≤ length l → CutAt step s l room k 0
   cut-first s l room k z p h there =
-      let six = ok .cut-through s l room k there z h in
       let g = length-take-le k l there in
-      let r : runBy step s (take k l) room ≡ ended (numberOf CutShort) s = first-stops ok s (take k l) room _ six (omega arith) (λ y. omega arith) in
-      rw (r, nothing ok s room) record {
-        upto = zero-le;
-        whole-done = refl;
-        whole-taken = refl;
-        state-is = refl;
-        taken-is = refl;
-        written-is = refl;
-        at-end = λ x. let y : ⊥ = omega arith in absurd y;
-        in-one = λ x. refl;
-      }
+      cut-early s l room k _ (first-stops ok s (take k l) room _ (ok .cut-through s l room k there z h) (omega arith) (λ y. omega arith)) (λ x. omega arith)
+      (λ x. refl)
 
   -- a cut behind the first record
-  cut-behind : (s : S) (l : List ℕ) (room k n : ℕ) → 0 < length l → step s l room .refusal ≡ 0 → step s l room .size + k ≤ length l
-      → CutAt step (step s l room .state) (drop (step s l room .size) l) (room - length (step s l room .reply)) k n
-      → CutAt step s l room (step s l room .size + k) (step s l room .size + n)
+  cut-behind : (s : S) (l : List ℕ) (room k n : ℕ) → 0 < length l → step s l room .refusal ≡ 0 → step s l room .taken + k ≤ length l
+      → CutAt step (step s l room .state) (drop (step s l room .taken) l) (room - length (step s l room .written)) k n
+      → CutAt step s l room (step s l room .taken + k) (step s l room .taken + n)
   cut-behind s l room k n p z there c =
       rw (behind-first ok s l room k p z there, behind-first ok s l room n p z (omega (arith, c .upto))) record {
         upto = omega (arith, c .upto);
@@ -84,19 +77,19 @@ module _ {S : Type 0} {most : ℕ} {step : RecordStep S} (ok : Lawful most step)
 
   -- a cut of a file whose first record is taken
   cut-taken : (s : S) (l : List ℕ) (room : ℕ) → 0 < length l → step s l room .refusal ≡ 0
-      → Cuts step (step s l room .state) (drop (step s l room .size) l) (room - length (step s l room .reply)) (beyond step (step s l room) l room)
-      → Cuts step s l room (after (step s l room .size) (step s l room .reply) (beyond step (step s l room) l room))
+      → Cuts step (step s l room .state) (drop (step s l room .taken) l) (room - length (step s l room .written)) (beyond step (step s l room) l room)
+      → Cuts step s l room (after (step s l room .taken) (step s l room .written) (beyond step (step s l room) l room))
   cut-taken s l room p z h e k there =
       let t = step s l room in
-      let d = length-drop (t .size) l in
+      let d = length-drop (t .taken) l in
       either-lt (λ (i : ℕ). (n : ℕ) × CutAt step s l room k n) 0 k 0 0
       (λ some.
-      either-lt (λ (i : ℕ). (n : ℕ) × CutAt step s l room k n) k (t .size) 0 0
+      either-lt (λ (i : ℕ). (n : ℕ) × CutAt step s l room k n) k (t .taken) 0 0
       (λ i. (0, cut-first s l room k z some i there))
       (λ i.
-      let j : t .size + (k - t .size) ≡ k = omega arith in
-      let r = h e (k - t .size) (omega arith) in
-      subst (λ (i : ℕ). (n : ℕ) × CutAt step s l room i n) j (t .size + r .0, cut-behind s l room (k - t .size) (r .0) p z (omega arith) (r .1))))
+      let j : t .taken + (k - t .taken) ≡ k = omega arith in
+      let r = h e (k - t .taken) (omega arith) in
+      subst (λ (i : ℕ). (n : ℕ) × CutAt step s l room i n) j (t .taken + r .0, cut-behind s l room (k - t .taken) (r .0) p z (omega arith) (r .1))))
       (λ none. (0, subst (λ (i : ℕ). CutAt step s l room i 0) (zero-of k none) (cut-none s l room)))
 
   pub cut-anywhere : (s : S) (l : List ℕ) (room : ℕ) → Cuts step s l room (runBy step s l room)

@@ -4,4 +4,3 @@ pub mod Running
 pub mod Append
 pub mod Through
 pub mod Cut
-pub mod Alike

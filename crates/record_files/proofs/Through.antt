@@ -37,8 +37,8 @@ module _ {S : Type 0} {most : ℕ} {step : RecordStep S} (ok : Lawful most step)
       (none : (s : S) (room : ℕ) → P s [] room (ended 0 s))
       (stop : (s : S) (l : List ℕ) (room : ℕ) → 0 < length l → (step s l room .refusal ≡ 0 → ⊥) → P s l room (ended (step s l room .refusal) s))
       (on : (s : S) (l : List ℕ) (room : ℕ) → 0 < length l → step s l room .refusal ≡ 0
-      → P (step s l room .state) (drop (step s l room .size) l) (room - length (step s l room .reply)) (beyond step (step s l room) l room)
-      → P s l room (after (step s l room .size) (step s l room .reply) (beyond step (step s l room) l room))) where
+      → P (step s l room .state) (drop (step s l room .taken) l) (room - length (step s l room .written)) (beyond step (step s l room) l room)
+      → P s l room (after (step s l room .taken) (step s l room .written) (beyond step (step s l room) l room))) where
     by : (f : ℕ) (s : S) (l : List ℕ) (room : ℕ) → length l ≤ f → P s l room (runBy step s l room)
     by zero s [] room a = subst (P s [] room) (sym (nothing ok s room)) (none s room)
     by (suc f) s [] room a = subst (P s [] room) (sym (nothing ok s room)) (none s room)
@@ -48,10 +48,10 @@ module _ {S : Type 0} {most : ℕ} {step : RecordStep S} (ok : Lawful most step)
         let p : 0 < length (x ∷ l) = omega arith in
         either-eq (λ (n : ℕ). P s (x ∷ l) room (runBy step s (x ∷ l) room)) (t .refusal) 0 0 0
         (λ z.
-        let m : 0 < t .size = ok .moves s (x ∷ l) room z in
-        let d = length-drop (t .size) (x ∷ l) in
+        let m : 0 < t .taken = ok .moves s (x ∷ l) room z in
+        let d = length-drop (t .taken) (x ∷ l) in
         subst (P s (x ∷ l) room) (sym (first-taken ok s (x ∷ l) room t refl p z))
-        (on s (x ∷ l) room p z (by f (t .state) (drop (t .size) (x ∷ l)) (room - length (t .reply)) (omega arith))))
+        (on s (x ∷ l) room p z (by f (t .state) (drop (t .taken) (x ∷ l)) (room - length (t .written)) (omega arith))))
         (λ z. subst (P s (x ∷ l) room) (sym (first-stops ok s (x ∷ l) room t refl p z)) (stop s (x ∷ l) room p z))
 
     pub through : (s : S) (l : List ℕ) (room : ℕ) → P s l room (runBy step s l room)
@@ -69,29 +69,29 @@ module _ {S : Type 0} {most : ℕ} {step : RecordStep S} (ok : Lawful most step)
       let o = beyond step t l room in
       let w = ok .within s l room z in
       let f = ok .fits s l room z in
-      let d = length-drop (t .size) l in
-      let g = length-append (t .reply) (o .written) in
+      let d = length-drop (t .taken) l in
+      let g = length-append (t .written) (o .written) in
       record {
         in-file = omega (arith, h .in-file);
         all = λ y. let k = h .all y in omega arith;
         in-room = rw g (omega (arith, h .in-room));
-        few = rw (g, mul-add most (t .size) (o .taken)) (add-le-add (ok .few s l room z) (h .few));
+        few = rw (g, mul-add most (t .taken) (o .taken)) (add-le-add (ok .few s l room z) (h .few));
         range = h .range;
       })
 
   -- ---- the file up to the stop
 
   -- the run of the first bytes of a file, up to a place behind its first record
-  pub behind-first : (s : S) (l : List ℕ) (room k : ℕ) → 0 < length l → step s l room .refusal ≡ 0 → step s l room .size + k ≤ length l
-      → runBy step s (take (step s l room .size + k) l) room
-      ≡ after (step s l room .size) (step s l room .reply) (runBy step (step s l room .state) (take k (drop (step s l room .size) l))
-      (room - length (step s l room .reply)))
+  pub behind-first : (s : S) (l : List ℕ) (room k : ℕ) → 0 < length l → step s l room .refusal ≡ 0 → step s l room .taken + k ≤ length l
+      → runBy step s (take (step s l room .taken + k) l) room
+      ≡ after (step s l room .taken) (step s l room .written) (runBy step (step s l room .state) (take k (drop (step s l room .taken) l))
+      (room - length (step s l room .written)))
   behind-first s l room k p z there =
       let t = step s l room in
-      let m : 0 < t .size = ok .moves s l room z in
-      let g : length (take (t .size + k) l) ≡ t .size + k = length-take-le (t .size + k) l there in
-      taken-in ok s l room t refl p (take (t .size + k) l) z (sym (take-take (t .size) (t .size + k) l (omega arith))) (omega arith) (omega arith)
-      ∙ ap (λ (i : List ℕ). after (t .size) (t .reply) (runBy step (t .state) i (room - length (t .reply)))) (drop-take (t .size) k l)
+      let m : 0 < t .taken = ok .moves s l room z in
+      let g : length (take (t .taken + k) l) ≡ t .taken + k = length-take-le (t .taken + k) l there in
+      taken-in ok s l room t refl p (take (t .taken + k) l) z (sym (take-take (t .taken) (t .taken + k) l (omega arith))) (omega arith) (omega arith)
+      ∙ ap (λ (i : List ℕ). after (t .taken) (t .written) (runBy step (t .state) i (room - length (t .written)))) (drop-take (t .taken) k l)
 
   -- the whole records before the stop, as a file of their own, leave all that the run left
   pub up-to-stop : (s : S) (l : List ℕ) (room : ℕ) → runBy step s (take (runBy step s l room .taken) l) room ≡ ended-well (runBy step s l room)
@@ -102,9 +102,9 @@ module _ {S : Type 0} {most : ℕ} {step : RecordStep S} (ok : Lawful most step)
       (λ s l room p z h.
       let t = step s l room in
       let w = ok .within s l room z in
-      let d = length-drop (t .size) l in
-      let f = tally (t .state) (drop (t .size) l) (room - length (t .reply)) .in-file in
-      behind-first s l room (beyond step t l room .taken) p z (omega arith) ∙ ap (after (t .size) (t .reply)) h)
+      let d = length-drop (t .taken) l in
+      let f = tally (t .state) (drop (t .taken) l) (room - length (t .written)) .in-file in
+      behind-first s l room (beyond step t l room .taken) p z (omega arith) ∙ ap (after (t .taken) (t .written)) h)
 
   -- and the record that stands there stops with the run's refusal
   pub stops-there : (s : S) (l : List ℕ) (room : ℕ) → (runBy step s l room .refusal ≡ 0 → ⊥)
@@ -117,4 +117,4 @@ module _ {S : Type 0} {most : ℕ} {step : RecordStep S} (ok : Lawful most step)
       (λ s l room p z h y.
       let t = step s l room in
       let o = beyond step t l room in
-      rw (← drop-drop (o .taken) (t .size) l, room-after room (t .reply) (o .written)) (h y))
+      rw (← drop-drop (o .taken) (t .taken) l, room-after room (t .written) (o .written)) (h y))

@@ -4,8 +4,7 @@ pub mod Blocks
 pub mod Writes
 pub mod Places
 pub mod Turning
+pub mod Looping
 pub mod Steps
 pub mod Prefix
-pub mod Wider
-pub mod Single
 pub mod Ready

@@ -5,7 +5,7 @@ use native.Mathlib.Omega.{arith}
 use native.Mathlib.Nat.{add-zero}
 use lib.ListN.{length}
 use Rattle.terms.specs.Limits.{mostPayload, mostInput}
-use Rattle.record_files.specs.Run.{Turned, idle}
+use Rattle.record_files.specs.Run.{Outcome, ended}
 use Rattle.record_files.proofs.Tests.{either-lt}
 use Rattle.record_runs.specs.declared.step.Place.{Place}
 use Rattle.record_runs.specs.Held.{mostReplies, countedIn, further, Stands}
@@ -36,5 +36,5 @@ module _ (p : Place) (size room : ℕ) (in-all : p .most ≡ countedIn room) (fe
   }
 
 -- a step that stops leaves the place
-pub stays-there : {S : Type 0} (p q : Place) (t : Turned S) (r : ℕ) (s : S) → q ≡ further p (t .size) (length (t .reply)) → t ≡ idle r s → q ≡ p
-stays-there {S = S} p q t r s e h = e ∙ ap (λ (u : Turned S). further p (u .size) (length (u .reply))) h ∙ sym (at-rest p)
+pub stays-there : {S : Type 0} (p q : Place) (t : Outcome S) (r : ℕ) (s : S) → q ≡ further p (t .taken) (length (t .written)) → t ≡ ended r s → q ≡ p
+stays-there {S = S} p q t r s e h = e ∙ ap (λ (u : Outcome S). further p (u .taken) (length (u .written))) h ∙ sym (at-rest p)

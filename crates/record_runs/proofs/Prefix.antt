@@ -12,7 +12,7 @@ use borrow.Author.Tests.{le-ltb}
 use Rattle.terms.specs.declared.Refusal.the-variants.{CutShort}
 use Rattle.terms.specs.Limits.{mostPayload}
 use Rattle.error_memory.specs.Memory.{Card}
-use Rattle.record_files.specs.Run.{idle}
+use Rattle.record_files.specs.Run.{ended}
 use Rattle.record_files.specs.Lawful.{Stopping, Lawful}
 use Rattle.record_files.proofs.Tests.{either-lt}
 use Rattle.record_files.proofs.Through.{drop-take}
@@ -53,7 +53,8 @@ module _ (e : Event) (l m : List ℕ) (same : take (4 + payloadOf e) l ≡ take 
   same-payload = sym (drop-take 4 (payloadOf e) m) ∙ ap (drop 4) (sym same) ∙ drop-take 4 (payloadOf e) l
 
 abbrev Alike : ℕ → Card → List ℕ → List ℕ → ℕ → Turned → Type 0
-Alike most s l m more t = t .refusal ≡ 0 → take (t .size) l ≡ take (t .size) m → t .size ≤ length m → length (t .reply) ≤ more → turnUnder most s m more ≡ t
+Alike most s l m more t = t .refusal ≡ 0 → take (t .taken) l ≡ take (t .taken) m → t .taken ≤ length m → length (t .written) ≤ more → turnUnder most s m more
+    ≡ t
 
 worked-too : {most : ℕ} (s : Card) (l m : List ℕ) (more : ℕ) (e : Event) → Holds most l e
     → Alike most s l m more (worked s e (answerOf s (take (payloadOf e) (drop 4 l)) e))
@@ -68,14 +69,14 @@ alike most s l m room more = steps {most = most} (Alike most s l m more) s l roo
     (λ e h g. worked-too s l m more e h)
 
 -- what is taken stands in the file
-pub within : (most : ℕ) (s : Card) (l : List ℕ) (room : ℕ) → turnUnder most s l room .refusal ≡ 0 → turnUnder most s l room .size ≤ length l
-within most s l room = steps {most = most} (λ t. t .refusal ≡ 0 → t .size ≤ length l) s l room (λ r a b z. omega arith) (λ e h g z. h .there)
+pub within : (most : ℕ) (s : Card) (l : List ℕ) (room : ℕ) → turnUnder most s l room .refusal ≡ 0 → turnUnder most s l room .taken ≤ length l
+within most s l room = steps {most = most} (λ t. t .refusal ≡ 0 → t .taken ≤ length l) s l room (λ r a b z. omega arith) (λ e h g z. h .there)
 
 -- its reply fits the room and, for each byte of the record, is no longer than the longest
 pub reply-few : (most : ℕ) → 2 ≤ most → (s : Card) (l : List ℕ) (room : ℕ)
-    → (length (turnUnder most s l room .reply) ≤ room) × (length (turnUnder most s l room .reply) ≤ (5 + most) * turnUnder most s l room .size)
+    → (length (turnUnder most s l room .written) ≤ room) × (length (turnUnder most s l room .written) ≤ (5 + most) * turnUnder most s l room .taken)
 reply-few most some s l room =
-    steps {most = most} (λ t. (length (t .reply) ≤ room) × (length (t .reply) ≤ (5 + most) * t .size)) s l room
+    steps {most = most} (λ t. (length (t .written) ≤ room) × (length (t .written) ≤ (5 + most) * t .taken)) s l room
     (λ r a b. (zero-le, zero-le))
     (λ e h g.
     let d = length-dataOf s e in
@@ -104,16 +105,16 @@ module _ (most : ℕ) (s : Card) (l : List ℕ) (room k : ℕ) (in-file : k ≤ 
   unfolding turnUnder
   cut-turn e h i = rw (cut-frame e h i)
 
-  pub cut-through : turnUnder most s l room .refusal ≡ 0 → k < turnUnder most s l room .size → turnUnder most s (take k l) room ≡ stopped CutShort s
+  pub cut-through : turnUnder most s l room .refusal ≡ 0 → k < turnUnder most s l room .taken → turnUnder most s (take k l) room ≡ stopped CutShort s
   cut-through =
-      steps {most = most} (λ t. t .refusal ≡ 0 → k < t .size → turnUnder most s (take k l) room ≡ stopped CutShort s) s l room
+      steps {most = most} (λ t. t .refusal ≡ 0 → k < t .taken → turnUnder most s (take k l) room ≡ stopped CutShort s) s l room
       (λ r a b z. let y : ⊥ = omega arith in absurd y) (λ e h g z i. cut-turn e h i)
 
 -- a record that stops stops with 5 to 8 and nothing done
 stops : (most : ℕ) (s : Card) (l : List ℕ) (room : ℕ) → (turnUnder most s l room .refusal ≡ 0 → ⊥) → Stopping (turnUnder most s l room .refusal)
-    × (turnUnder most s l room ≡ idle (turnUnder most s l room .refusal) s)
+    × (turnUnder most s l room ≡ ended (turnUnder most s l room .refusal) s)
 stops most s l room =
-    steps {most = most} (λ t. (t .refusal ≡ 0 → ⊥) → Stopping (t .refusal) × (t ≡ idle (t .refusal) s)) s l room (λ r a b z. ((a, b), refl))
+    steps {most = most} (λ t. (t .refusal ≡ 0 → ⊥) → Stopping (t .refusal) × (t ≡ ended (t .refusal) s)) s l room (λ r a b z. ((a, b), refl))
     (λ e h g z. absurd (z refl))
 
 -- under every limit that lets two bytes through

@@ -1,5 +1,5 @@
 -- A run keeps a card whose state 13 does not turn away: every event of a record leaves such a card and answers 0 to 4. Assumes nothing.
-use mathlib.Core.Path.{_≡_, sym, subst}
+use mathlib.Core.Path.{sym, subst}
 use mathlib.Core.List.{List, [], _∷_}
 use Prim.Native.Nat.{ℕ, zero, suc, _≤_, _<_, zero-le}
 use borrow.Author.Tests.{lt-leb}
@@ -13,7 +13,7 @@ use Rattle.chip.specs.Step.{pushOf, popOf}
 use Rattle.chip.proofs.InTurn.{push-done, pop-done}
 use Rattle.chip.proofs.Ready.{Ready, Fair, push-fair, pop-fair, read-fair, reset-fair, acknowledge-fair, command-fair}
 use Rattle.error_memory.specs.Event.{Chip, Recall as RecallEvent, Forget as ForgetEvent}
-use Rattle.error_memory.specs.Memory.{Card, around}
+use Rattle.error_memory.specs.Memory.{Card, cardAnswer}
 use Rattle.error_memory.proofs.Good.{ReadyCard, FairCard, event-fair as card-fair}
 use Rattle.record_files.proofs.Through.{through}
 use Rattle.record_runs.specs.Record.{Event}
@@ -33,7 +33,7 @@ pop-all-fair zero a f = f
 pop-all-fair (suc n) a f = pop-all-fair n (popOf (a .state)) (pop-fair (a .state) (f .left))
 
 -- ---- every event
-block-fair : (c : Card) (a : Answer) → ReadyCard c → Fair a → FairCard (around (c .on) (c .memory) a)
+block-fair : (c : Card) (a : Answer) → ReadyCard c → Fair a → FairCard (cardAnswer (c .on) (c .memory) a)
 block-fair c a r f = record { left = record { chip = f .left; memory = r .memory }; small = f .small }
 
 pub event-fair : (c : Card) (p : List ℕ) (e : Event) → ReadyCard c → Bytes p → FairCard (answerOf c p e)
@@ -77,7 +77,7 @@ turn-ready c l room r h =
 pub run-ready : (c : Card) (l : List ℕ) (room : ℕ) → ReadyCard c → Bytes l → ReadyCard (runOf c l room .state)
 run-ready =
     through lawful (λ c l room o. ReadyCard c → Bytes l → ReadyCard (o .state)) (λ c room r h. r) (λ c l room p z r h. r)
-    (λ c l room p z more r h. more (turn-ready c l room r h) (bytes-drop (turnOf c l room .size) l h))
+    (λ c l room p z more r h. more (turn-ready c l room r h) (bytes-drop (turnOf c l room .taken) l h))
 
 -- ---- a run ends with 0, or with 5 to 8
 pub run-small : (c : Card) (l : List ℕ) (room : ℕ) → runOf c l room .refusal ≤ 8

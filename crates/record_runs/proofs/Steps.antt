@@ -25,7 +25,7 @@ steps P s l room stop work =
     (λ e h. either-lt P room (5 + answeredOf e) _ _ (λ g. stop NoRoom (lit≤ tt) (lit≤ tt)) (λ g. work e h g))
 
 abbrev Moves : Turned → Type 0
-Moves t = t .refusal ≡ 0 → 0 < t .size
+Moves t = t .refusal ≡ 0 → 0 < t .taken
 
 -- a record that is taken has at least one byte
 pub moves : (most : ℕ) (s : Card) (l : List ℕ) (room : ℕ) → Moves (turnUnder most s l room)

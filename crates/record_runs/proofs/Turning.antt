@@ -6,23 +6,22 @@ use mathlib.Core.Bool.{Bool, true, false, _&&_, false≢true}
 use Prim.Native.Nat.{ℕ, zero, suc, _+_, _≤_, _<_, zero-le}
 use native.Mathlib.Omega.{arith}
 use borrow.Author.Tests.{lt-ltb, le-ltb, lt-leb, leb-true, leb-false, eq-eqb, ne-eqb}
-use lib.Dec.{leb, eqb, lit<}
-use lib.ListN.{length, take, drop, getD, length-drop}
+use lib.Dec.{leb, eqb}
+use lib.ListN.{length, take, drop, getD, length-drop, length-append}
 use lib.Seq.{length-take-le, drop-drop, drop-at, sets, sets-eq, getD-take, getD-drop}
 use Rattle.terms.specs.declared.Refusal.{Refusal}
 use Rattle.terms.specs.declared.Refusal.the-variants.{Done, NoRoom, BadLength}
 use Rattle.terms.specs.Refusal.{numberOf}
-use Rattle.terms.specs.Limits.{mostPayload}
+use Rattle.terms.specs.Limits.{mostPayload, mostInput}
 use Rattle.terms.specs.Settings.{Settings}
 use Rattle.chip.specs.declared.State.{State}
-use Rattle.chip.specs.State.{Answer}
-use Rattle.chip.specs.Event.{Command as CommandEvent, Reset as ResetEvent}
+use Rattle.chip.specs.Event.{Command as CommandEvent}
 use Rattle.chip.specs.Step.{readOf}
 use Rattle.error_memory.specs.declared.Memory.{Memory}
 use Rattle.error_memory.specs.declared.Card.{Card as Held}
-use Rattle.error_memory.specs.Memory.{Card, CardAnswer, emptyMemory, remembered, keptBy}
+use Rattle.error_memory.specs.Memory.{Card, CardAnswer, remembered, keptBy}
 use Rattle.error_memory.specs.Held.{cardUnder}
-use Rattle.record_files.specs.Run.{Turns}
+use Rattle.record_files.specs.Run.{ended}
 use Rattle.record_files.proofs.Tests.{either-lt, both, not-both}
 use Rattle.terms.specs.declared.EventKind.{EventKind}
 use Rattle.terms.specs.declared.EventKind.the-variants.{Push as PushKind, Pop as PopKind, Command as CommandKind, Status as StatusKind}
@@ -34,9 +33,8 @@ use Rattle.record_runs.specs.declared.step.Pass.{Pass}
 use Rattle.record_runs.specs.declared.step.Place.{Place}
 use Rattle.record_runs.specs.Record.{Event, Push, Pop, Command, Status, Reset, Acknowledge, Recall, Forget, Head, Whole, Stop}
 use Rattle.record_runs.specs.Record.{wordAt, le2, exactly, popRow, rowBy, kindOf, payloadOf, answeredOf, frameUnder, headIn}
-use Rattle.record_runs.specs.Record.{answerOf, dataOf, replyOf, stopped, turnBy, turnUnder, turnOf}
-use Rattle.record_runs.specs.Held.{Stands, readyAt, further, unchanged, finished, Passed, Passes, Leaves}
-use Rattle.record_runs.proofs.Heads.{frame-stops}
+use Rattle.record_runs.specs.Record.{answerOf, dataOf, replyOf, turnUnder, turnOf}
+use Rattle.record_runs.specs.Held.{mostReplies, Stands, readyAt, further, unchanged, finished, Work, Passed, PassesHead, Passes, Leaves}
 use Rattle.record_runs.proofs.Blocks.{length-popped}
 use Rattle.record_runs.proofs.Places.{at-rest}
 
@@ -73,111 +71,105 @@ no-count n count one e =
     (not-both (leb 1 count) (leb count mostPayload) e)
 
 -- a record that is not held up: its payload is right, and its reply has room
-pub cleared : (right : Bool) (p : Place) (m : ℕ) {room : ℕ} {q : Refusal} → Stands p room → (right ≡ true → m ≤ 5 + mostPayload) → q ≡ readyAt right p m
-    → numberOf q ≡ 0 → (right ≡ true) × (m ≤ room)
-cleared false p m s few eq z = let y : ⊥ = omega (arith, sym (ap numberOf eq) ∙ z) in absurd y
-cleared true p m {q = q} s few eq z =
+pub cleared : {right : Bool} {p : Place} {m room n : ℕ} {q : Refusal} → Stands p room → (right ≡ true → m ≤ 5 + mostPayload) → q ≡ readyAt right p m
+    → n ≡ numberOf q → n ≡ 0 → (right ≡ true) × (m ≤ room)
+cleared {right = false} s few eq en z = let y : ⊥ = omega (arith, ap numberOf eq, en, z) in absurd y
+cleared {right = true} {p} {m} {q = q} s few eq en z =
     let fits : p .written + m ≤ p .most = either-lt (λ (x : Refusal). q ≡ x → p .written + m ≤ p .most) (p .most) (p .written + m) NoRoom Done
-    (λ less is. let y : ⊥ = omega (arith, sym (ap numberOf is) ∙ z) in absurd y) (λ h is. h) eq in
+    (λ less is. let y : ⊥ = omega (arith, ap numberOf is, en, z) in absurd y) (λ h is. h) eq in
     (refl, s .some m (few refl) fits)
 
-module _ (on : Settings) (p : Place) (c : Held) (file room : List ℕ) where
-  -- a record that stops
-  pub stays : (q : Refusal) {r : Pass} → r ≡ unchanged q c p → 0 < numberOf q → Passed on p (stopped q (cardUnder on c)) r file room room
-  stays q e h = subst (λ (x : Pass). Passed on p (stopped q (cardUnder on c)) x file room room) (sym e) (
-    at-rest p,
-    record {
-      refusal-is = refl;
-      state-is = refl;
-      size-is = refl;
-      reply-is = refl;
-      left-is = refl;
-      within = zero-le;
-      fits = zero-le;
-      moves = λ z. omega arith;
-    },
-  )
+pub clears : {right : Bool} {p : Place} {m room n : ℕ} {q : Refusal} → Stands p room → m ≤ 5 + mostPayload → q ≡ readyAt right p m → n ≡ numberOf q → n ≡ 0
+    → (right ≡ true) × (m ≤ room)
+clears s few = cleared s (λ right. few)
 
-  no-room : (e : Event) {r : Pass} → r ≡ unchanged NoRoom c p → length room < 5 + answeredOf e
-      → Passed on p (turnBy (cardUnder on c) file (length room) (Whole e)) r file room room
-  no-room e er h = rw (lt-ltb (length room) (5 + answeredOf e) h) (stays NoRoom er (lit< tt))
+-- a record that stops, read as any state
+pub stays : {S : Type 0} {read : Held → S} {w : Work} (q : Refusal) → w .pass ≡ unchanged q (w .card) (w .place) → w .left ≡ w .room
+    → Passed read (ended (numberOf q) (read (w .card))) w
+stays {read = read} {w} q e l = record {
+  place-is = ap (λ (x : Pass). x .place) e ∙ at-rest (w .place);
+  refusal-is = ap (λ (x : Pass). x .refusal) e;
+  state-is = ap (λ (x : Pass). read (x .card)) e;
+  left-is = l;
+  fits = zero-le;
+}
 
+module _ {on : Settings} {w : Work} (file : List ℕ) where
   -- a record that is held up: its payload is not right, or its reply has no room
-  pub held-up : (right : Bool) (e : Event) (h : Head) → (right ≡ true → h ≡ Whole e) → (right ≡ false → h ≡ Stop BadLength) → Stands p (length room)
-      → answeredOf e ≤ mostPayload → {q : Refusal} {r : Pass} → q ≡ readyAt right p (5 + answeredOf e) → (numberOf q ≡ 0 → ⊥) → r ≡ unchanged q c p
-      → Passed on p (turnBy (cardUnder on c) file (length room) h) r file room room
-  held-up false e h is-whole is-bad s few eq some er = rw (is-bad refl) (stays BadLength (er ∙ ap (λ (x : Refusal). unchanged x c p) eq) (lit< tt))
-  held-up true e h is-whole is-bad s few {q} {r} eq some er =
+  pub held-up : (right : Bool) (e : Event) (h : Head) → (right ≡ true → h ≡ Whole e) → (right ≡ false → h ≡ Stop BadLength) → Stands (w .place)
+      (length (w .room))
+      → answeredOf e ≤ mostPayload → {q : Refusal} {n : ℕ} → q ≡ readyAt right (w .place) (5 + answeredOf e) → n ≡ numberOf q → (n ≡ 0 → ⊥)
+      → w .pass ≡ unchanged q (w .card) (w .place) → w .left ≡ w .room → PassesHead on file h w
+  held-up false e h is-whole is-bad s few eq en some er el =
+      rw (is-bad refl) (stays BadLength (er ∙ ap (λ (x : Refusal). unchanged x (w .card) (w .place)) eq) el)
+  held-up true e h is-whole is-bad s few {q} eq en some er el =
       rw (is-whole refl)
-      (either-lt (λ (x : Refusal). q ≡ x → Passed on p (turnBy (cardUnder on c) file (length room) (Whole e)) r file room room) (p .most)
-      (p .written + (5 + answeredOf e)) NoRoom Done
-      (λ less is. no-room e (er ∙ ap (λ (x : Refusal). unchanged x c p) is) (s .none (5 + answeredOf e) (omega arith) less))
-      (λ fits is. absurd (some (ap numberOf is))) eq)
+      (either-lt (λ (x : Refusal). q ≡ x → PassesHead on file (Whole e) w) (w .place .most) (w .place .written + (5 + answeredOf e)) NoRoom Done
+      (λ less is. rw (lt-ltb (length (w .room)) (5 + answeredOf e) (s .none (5 + answeredOf e) (omega arith) less))
+      (stays NoRoom (er ∙ ap (λ (x : Refusal). unchanged x (w .card) (w .place)) is) el))
+      (λ fits is. absurd (some (en ∙ ap numberOf is))) eq)
+
+  -- one that asks a payload of so many bytes
+  pub exactly-held-up : (wanted n : ℕ) (e : Event) → Stands (w .place) (length (w .room)) → answeredOf e ≤ mostPayload → {q : Refusal} {k : ℕ}
+      → q ≡ readyAt (eqb n wanted) (w .place) (5 + answeredOf e) → k ≡ numberOf q → (k ≡ 0 → ⊥) → w .pass ≡ unchanged q (w .card) (w .place) → w .left ≡ w .room
+      → PassesHead on file (exactly wanted n e) w
+  exactly-held-up wanted n e = held-up (eqb n wanted) e (exactly wanted n e) (λ z. rw z) (λ z. rw z)
 
   -- a pop: a count out of range is no payload
-  pub pop-held-up : (n count : ℕ) → n ≡ 1 → Stands p (length room) → {q : Refusal} {r : Pass}
-      → q ≡ readyAt (leb 1 count && leb count mostPayload) p (5 + count) → (numberOf q ≡ 0 → ⊥) → r ≡ unchanged q c p
-      → Passed on p (turnBy (cardUnder on c) file (length room) (popRow mostPayload n count)) r file room room
-  pop-held-up n count one s {q} {r} eq some er = by (leb 1 count && leb count mostPayload) refl
+  pub pop-held-up : (n count : ℕ) → n ≡ 1 → Stands (w .place) (length (w .room)) → {q : Refusal} {k : ℕ}
+      → q ≡ readyAt (leb 1 count && leb count mostPayload) (w .place) (5 + count) → k ≡ numberOf q → (k ≡ 0 → ⊥) → w .pass ≡ unchanged q (w .card) (w .place)
+      → w .left ≡ w .room → PassesHead on file (popRow mostPayload n count) w
+  pop-held-up n count one s {q} eq en some er el = by (leb 1 count && leb count mostPayload) refl
     where
-      by : (right : Bool) → leb 1 count && leb count mostPayload ≡ right
-          → Passed on p (turnBy (cardUnder on c) file (length room) (popRow mostPayload n count)) r file room room
+      by : (right : Bool) → leb 1 count && leb count mostPayload ≡ right → PassesHead on file (popRow mostPayload n count) w
       by true is =
           let k = a-count count is in
           held-up true (Pop count) (popRow mostPayload n count) (λ z. pop-counts mostPayload n count one (k .0) (k .1))
           (λ z. absurd (false≢true (sym z))) s (k .1)
-          (eq ∙ ap (λ (x : Bool). readyAt x p (5 + count)) is) some er
+          (eq ∙ ap (λ (x : Bool). readyAt x (w .place) (5 + count)) is) en some er el
       by false is =
           rw (no-count n count one is)
-          (stays BadLength (er ∙ ap (λ (x : Refusal). unchanged x c p) (eq ∙ ap (λ (x : Bool). readyAt x p (5 + count)) is)) (lit< tt))
+          (stays BadLength (er ∙ ap (λ (x : Refusal). unchanged x (w .card) (w .place)) (eq ∙ ap (λ (x : Bool). readyAt x (w .place) (5 + count)) is)) el)
 
   -- a record that is worked: the answer found to be its event's, the data behind the reply's first five bytes
-  pub took : (e : Event) (a : CardAnswer) (s : State) (m : Memory) {r : Pass} {refusal : ℕ} {bytes left : List ℕ}
-      → r ≡ finished s m (further p (4 + payloadOf e) (5 + answeredOf e)) → a ≡ answerOf (cardUnder on c) (take (payloadOf e) (drop 4 file)) e
+  pub took : (e : Event) (a : CardAnswer) {s : State} {m : Memory} {refusal : ℕ} {bytes : List ℕ}
+      → w .pass ≡ finished s m (further (w .place) (4 + payloadOf e) (5 + answeredOf e))
+      → a ≡ answerOf (cardUnder on (w .card)) (take (payloadOf e) (drop 4 file)) e
       → cardUnder on (record { chip = s; memory = m }) ≡ a .card → refusal ≡ numberOf (a .refusal)
-      → bytes ≡ dataOf (cardUnder on c) e ++ drop (answeredOf e) (drop 5 room) → left ≡ le2 (3 + answeredOf e) ++ (le2 (kindOf e + 128) ++ (refusal ∷ bytes))
-      → 4 + payloadOf e ≤ length file → 5 + answeredOf e ≤ length room
-      → Passed on p (turnBy (cardUnder on c) file (length room) (Whole e)) r file room left
-  took e a s m {left = left} ep ea ek er eb el there has =
-      let k = cardUnder on c in
+      → bytes ≡ dataOf (cardUnder on (w .card)) e ++ drop (answeredOf e) (drop 5 (w .room))
+      → w .left ≡ le2 (3 + answeredOf e) ++ (le2 (kindOf e + 128) ++ (refusal ∷ bytes))
+      → 5 + answeredOf e ≤ length (w .room) → PassesHead on file (Whole e) w
+  took e a ep ea ek er eb el has =
+      let k = cardUnder on (w .card) in
       let d = length-dataOf k e in
-      let long : 5 + answeredOf e ≡ length (replyOf (kindOf e) (numberOf (answerOf k (take (payloadOf e) (drop 4 file)) e .refusal)) (dataOf k e)) = omega
-      (arith, d) in
-      let t : Passed on p (turnBy k file (length room) (Whole e)) (finished s m (further p (4 + payloadOf e) (5 + answeredOf e))) file room left =
-      rw (le-ltb (length room) (5 + answeredOf e) has) (
-        ap (further p (4 + payloadOf e)) long,
-        record {
-          refusal-is = refl;
-          state-is = ek ∙ ap (λ (x : CardAnswer). x .card) ea;
-          size-is = refl;
-          reply-is = refl;
-          left-is =
-              el
-              ∙ rw (eb, drop-drop (answeredOf e) 5 room, er, ea)
-              (closed (kindOf e) (numberOf (answerOf k (take (payloadOf e) (drop 4 file)) e .refusal)) (answeredOf e) (dataOf k e) room d);
-          within = there;
-          fits = omega (arith, long);
-          moves = λ z. omega arith;
-        },
-      ) in
-      subst (λ (x : Pass). Passed on p (turnBy k file (length room) (Whole e)) x file room left) (sym ep) t
+      let n = numberOf (answerOf k (take (payloadOf e) (drop 4 file)) e .refusal) in
+      let long : 5 + answeredOf e ≡ length (replyOf (kindOf e) n (dataOf k e)) = omega (arith, d) in
+      rw (le-ltb (length (w .room)) (5 + answeredOf e) has) record {
+        place-is = ap (λ (x : Pass). x .place) ep ∙ ap (further (w .place) (4 + payloadOf e)) long;
+        refusal-is = ap (λ (x : Pass). x .refusal) ep;
+        state-is = ap (λ (x : Pass). cardUnder on (x .card)) ep ∙ ek ∙ ap (λ (x : CardAnswer). x .card) ea;
+        left-is = el ∙ rw (eb, drop-drop (answeredOf e) 5 (w .room), er, ea) (closed (kindOf e) n (answeredOf e) (dataOf k e) (w .room) d);
+        fits = omega (arith, long);
+      }
 
   -- a record of an event that asks no payload and answers no data
-  module _ (after : Held) {kind : ℕ} (e : Event) (h : Leaves (cardUnder on c) (cardUnder on after) kind e) where
-    pub bare-held-up : (n : ℕ) → Stands p (length room)
-        → {q : Refusal} {r : Pass} → q ≡ readyAt (eqb n 0) p 5 → (numberOf q ≡ 0 → ⊥) → r ≡ unchanged q c p
-        → Passed on p (turnBy (cardUnder on c) file (length room) (exactly 0 n e)) r file room room
-    bare-held-up n s eq some er =
+  module _ (after : Held) {kind : ℕ} (e : Event) (h : Leaves (cardUnder on (w .card)) (cardUnder on after) kind e) where
+    pub bare-held-up : (n : ℕ) → Stands (w .place) (length (w .room)) → {q : Refusal} {k : ℕ} → q ≡ readyAt (eqb n 0) (w .place) 5 → k ≡ numberOf q
+        → (k ≡ 0 → ⊥) → w .pass ≡ unchanged q (w .card) (w .place) → w .left ≡ w .room → PassesHead on file (exactly 0 n e) w
+    bare-held-up n s eq en some er el =
         let none = h .no-data .0 in
-        held-up (eqb n 0) e (exactly 0 n e) (λ z. rw z) (λ z. rw z) s (omega (arith, none))
-        (eq ∙ ap (λ (i : ℕ). readyAt (eqb n 0) p (5 + i)) (sym none)) some er
+        exactly-held-up 0 n e s (omega (arith, none)) (eq ∙ ap (λ (i : ℕ). readyAt (eqb n 0) (w .place) (5 + i)) (sym none)) en some er el
 
-    pub bare : {r : Pass} {left : List ℕ} → r ≡ finished (after .chip) (after .memory) (further p 4 5) → left ≡ le2 3 ++ (le2 kind ++ (0 ∷ drop 5 room))
-        → 4 ≤ length file → 5 ≤ length room → Passed on p (turnBy (cardUnder on c) file (length room) (Whole e)) r file room left
-    bare er el there has =
+    pub bare : w .pass ≡ finished (after .chip) (after .memory) (further (w .place) 4 5) → w .left ≡ le2 3 ++ (le2 kind ++ (0 ∷ drop 5 (w .room)))
+        → 5 ≤ length (w .room) → PassesHead on file (Whole e) w
+    bare er el has =
         let q = take (payloadOf e) (drop 4 file) in
-        took e (answerOf (cardUnder on c) q e) (after .chip) (after .memory) {bytes = drop 5 room} (rw (h .no-payload, h .no-data .0) er) refl (h .card-is q)
-        (h .done-is q) (rw (h .no-data .1, h .no-data .0)) (rw (h .no-data .0, ← h .kind-is) el) (omega (arith, h .no-payload)) (omega (arith, h .no-data .0))
+        took e (answerOf (cardUnder on (w .card)) q e) {bytes = drop 5 (w .room)} (rw (h .no-payload, h .no-data .0) er) refl (h .card-is q) (h .done-is q)
+        (rw (h .no-data .1, h .no-data .0)) (rw (h .no-data .0, ← h .kind-is) el) (omega (arith, h .no-data .0))
+
+-- where a worker stands, its record may be finished
+pub may-finish : {p : Place} {room n m : ℕ} → Stands p room → n ≤ 300 → m ≤ 300 → (p .taken ≤ mostInput) × (p .written ≤ mostReplies) × (n ≤ 300) × (m ≤ 300)
+may-finish s a b = (s .early, s .low, a, b)
 
 -- ---- what is remembered after a command and after a reset, by the number of the refusal
 module _ (m : Memory) (code n status : ℕ) where
@@ -196,6 +188,18 @@ stored room bytes h =
     ap (drop 5) (sets-eq bytes room 5 (omega arith) ∙ append-assoc (take 5 room) bytes (drop (5 + length bytes) room))
     ∙ behind room (bytes ++ drop (5 + length bytes) room) (omega arith)
     ∙ ap (λ (l : List ℕ). bytes ++ l) (sym (drop-drop (length bytes) 5 room))
+
+-- the room with a reply in it has as many bytes as it had
+pub same-stored : {a b d e x : ℕ} {left : List ℕ} (room bytes : List ℕ) → 5 + length bytes ≤ length room
+    → left ≡ a ∷ b ∷ d ∷ e ∷ x ∷ drop 5 (sets room 5 bytes) → length left ≡ length room
+same-stored room bytes h is =
+    ap length is ∙ omega (
+      arith,
+      ap length (stored room bytes h),
+      length-append bytes (drop (length bytes) (drop 5 room)),
+      length-drop (length bytes) (drop 5 room),
+      length-drop 5 room,
+    )
 
 -- the status byte as the data of a reply, and the memory's two bytes
 pub status-data : (c : Card) (room : List ℕ) (b : ℕ) → b ≡ readOf (c .chip) .byte → 6 ≤ length room → drop 5 (sets room 5 (b ∷ [])) ≡ dataOf c Status
@@ -223,22 +227,19 @@ same-first : (kind : EventKind) (n : ℕ) (l : List ℕ) → rowBy mostPayload k
 same-first kind zero l = no-first kind (getD (take 0 (drop 4 l)) 0 0) (getD l 4 0)
 same-first kind (suc n) l = ap (rowBy mostPayload kind (suc n)) (getD-take (suc n) (drop 4 l) 0 0 (omega arith) ∙ getD-drop 4 l 0 0)
 
-pub framed : (on : Settings) (p : Place) (c : Held) (l room left : List ℕ) (n : ℕ) (kind : EventKind) (r : Pass)
-    → 4 + n ≤ length l → kind ≡ kindNamed (wordAt l 2) → frameUnder mostPayload l ≡ Framed n
-    → Passes on p c kind (take n (drop 4 l)) r room left → Passed on p (turnOf (cardUnder on c) l (length room)) r l room left
+pub framed : {on : Settings} {w : Work} (l : List ℕ) (n : ℕ) (kind : EventKind) → 4 + n ≤ length l → kind ≡ kindNamed (wordAt l 2)
+    → frameUnder mostPayload l ≡ Framed n → Passes on kind (take n (drop 4 l)) w
+    → Passed (cardUnder on) (turnOf (cardUnder on (w .card)) l (length (w .room))) w
 unfolding turnUnder
-framed on p c l room left n kind r there ek ef passes =
+framed {on} {w} l n kind there ek ef passes =
     let q = take n (drop 4 l) in
     let e : length q ≡ n = length-take-le n (drop 4 l) (omega (arith, length-drop 4 l)) in
     let row =
     ap (λ (k : ℕ). rowBy mostPayload kind k (getD q 0 0)) e ∙ same-first kind n l ∙ ap (λ (k : EventKind). rowBy mostPayload k n (getD l 4 0)) ek
     ∙ ap (headIn mostPayload l) (sym ef) in
-    subst (λ (h : Head). Passed on p (turnBy (cardUnder on c) l (length room) h) r l room left) row
-    (passes l (omega (arith, e, there)) (ap (λ (k : ℕ). take k (drop 4 l)) e))
+    subst (λ (h : Head). PassesHead on l h w) row (passes l (ap (λ (k : ℕ). take k (drop 4 l)) e))
 
-pub broken : (on : Settings) (p : Place) (c : Held) (l room : List ℕ) (q : Refusal) {r : Pass} → frameUnder mostPayload l ≡ Broken q → r ≡ unchanged q c p
-    → Passed on p (turnOf (cardUnder on c) l (length room)) r l room room
+pub broken : {on : Settings} {w : Work} (l : List ℕ) (q : Refusal) → frameUnder mostPayload l ≡ Broken q → w .pass ≡ unchanged q (w .card) (w .place)
+    → w .left ≡ w .room → Passed (cardUnder on) (turnOf (cardUnder on (w .card)) l (length (w .room))) w
 unfolding turnUnder
-broken on p c l room q ef er =
-    let s = frame-stops mostPayload l q ef in
-    rw ef (stays on p c l room q er (omega (arith, s .0)))
+broken l q ef er el = rw ef (stays q er el)

@@ -1,7 +1,7 @@
 -- How the program holds a run: its place, and what its record step and its run say of their definitions. Definitions only. Assumes nothing.
 use Prim.Native.Nat.{ℕ, _+_, _≤_, _<_}
 use mathlib.Core.Path.{_≡_}
-use mathlib.Core.List.{List, []}
+use mathlib.Core.List.{List, [], _++_}
 use mathlib.Core.Bool.{Bool, cond}
 use lib.Dec.{ltb}
 use lib.ListN.{length, take, drop, getD}
@@ -18,12 +18,11 @@ use Rattle.error_memory.specs.declared.Memory.{Memory}
 use Rattle.error_memory.specs.declared.Card.{Card}
 use Rattle.error_memory.specs.Memory.{Card as CardOf}
 use Rattle.error_memory.specs.Held.{cardUnder}
-use Rattle.record_files.specs.Run.{Turns, Runs}
+use Rattle.record_files.specs.Run.{Outcome}
 use Rattle.terms.specs.declared.EventKind.{EventKind}
 use Rattle.record_runs.specs.declared.step.Pass.{Pass}
 use Rattle.record_runs.specs.declared.step.Place.{Place}
-use Rattle.record_runs.specs.Record.{Event, kindOf, payloadOf, answeredOf, exactly, rowBy, answerOf, dataOf, Turned, turnBy}
-use Rattle.record_runs.specs.Run.{Outcome}
+use Rattle.record_runs.specs.Record.{Event, Head, kindOf, payloadOf, answeredOf, exactly, rowBy, answerOf, dataOf, turnBy}
 
 -- room over this is as good as this: a reply has at most 245 bytes, for each byte of an input
 abbrev pub mostReplies : ℕ
@@ -33,8 +32,8 @@ abbrev pub countedIn : ℕ → ℕ
 countedIn room = cond (ltb room mostReplies) room mostReplies
 
 -- the place before the first record, and the place after a record of n bytes with a reply of m
-abbrev pub start : ℕ → ℕ → Place
-start size room = record { taken = 0; size = size; written = 0; most = countedIn room }
+abbrev pub atStart : ℕ → ℕ → Place
+atStart size room = record { taken = 0; size = size; written = 0; most = countedIn room }
 
 abbrev pub further : Place → ℕ → ℕ → Place
 further p n m = record { taken = p .taken + n; size = p .size; written = p .written + m; most = p .most }
@@ -61,26 +60,37 @@ unchanged r c p = record { card = c; refusal = numberOf r; place = p }
 abbrev pub finished : State → Memory → Place → Pass
 finished s m p = record { card = record { chip = s; memory = m }; refusal = 0; place = p }
 
--- a turn of the code at a place, and a run, beside the definition's; the settings stay
-abbrev pub Passed : Settings → Place → Turned → Pass → List ℕ → List ℕ → List ℕ → Type 0
-Passed on p t r file room left =
-    (r .place ≡ further p (t .size) (length (t .reply))) × Turns t (r .refusal) (cardUnder on (r .card)) (t .size) (length (t .reply)) file room left
+-- what the code did with a record, or with a file: the place, the card and the room that it was given, what it returned, the room that it left
+pub record Work : Type 0 where
+  pub place : Place
+  pub card : Card
+  pub room : List ℕ
+  pub pass : Pass
+  pub left : List ℕ
 
-abbrev pub Ran : Settings → Outcome → Pass → List ℕ → List ℕ → List ℕ → Type 0
-Ran on o r file room left = Runs o (r .refusal) (cardUnder on (r .card)) (r .place .taken) (r .place .written) file room left
+-- it did what the definition says, where a card is read as a state of it
+pub record Passed {S : Type 0} (read : Card → S) (t : Outcome S) (w : Work) : Type 0 where
+  pub place-is : w .pass .place ≡ further (w .place) (t .taken) (length (t .written))
+  pub refusal-is : w .pass .refusal ≡ t .refusal
+  pub state-is : read (w .pass .card) ≡ t .state
+  pub left-is : w .left ≡ t .written ++ drop (length (t .written)) (w .room)
+  pub fits : length (t .written) ≤ length (w .room)
+
+-- the turn of a record whose head is this, under these settings
+abbrev pub PassesHead : Settings → List ℕ → Head → Work → Type 0
+PassesHead on file h w = Passed (cardUnder on) (turnBy (cardUnder on (w .card)) file (length (w .room)) h) w
 
 -- the turn of a record of this kind with this payload, whatever file it stands in front of
-abbrev pub Passes : Settings → Place → Card → EventKind → List ℕ → Pass → List ℕ → List ℕ → Type 0
-Passes on p c kind payload r room left =
-    (file : List ℕ) → 4 + length payload ≤ length file → take (length payload) (drop 4 file) ≡ payload
-    → Passed on p (turnBy (cardUnder on c) file (length room) (rowBy mostPayload kind (length payload) (getD payload 0 0))) r file room left
+abbrev pub Passes : Settings → EventKind → List ℕ → Work → Type 0
+Passes on kind payload w =
+    (file : List ℕ) → take (length payload) (drop 4 file) ≡ payload → PassesHead on file (rowBy mostPayload kind (length payload) (getD payload 0 0)) w
 
 -- and whatever the mode, or both settings
-abbrev pub PassesByRule : Rule → Place → Card → EventKind → List ℕ → Pass → List ℕ → List ℕ → Type 0
-PassesByRule rule p c kind payload r room left = (mode : Mode) → Passes (given mode rule) p c kind payload r room left
+abbrev pub PassesByRule : Rule → EventKind → List ℕ → Work → Type 0
+PassesByRule rule kind payload w = (mode : Mode) → Passes (given mode rule) kind payload w
 
-abbrev pub PassesAll : Place → Card → EventKind → List ℕ → Pass → List ℕ → List ℕ → Type 0
-PassesAll p c kind payload r room left = (on : Settings) → Passes on p c kind payload r room left
+abbrev pub PassesAll : EventKind → List ℕ → Work → Type 0
+PassesAll kind payload w = (on : Settings) → Passes on kind payload w
 
 -- an event that asks no payload and answers no data, with a reply of this kind, leaves a card so
 pub record Leaves (c after : CardOf) (kind : ℕ) (e : Event) : Type 0 where
@@ -90,8 +100,7 @@ pub record Leaves (c after : CardOf) (kind : ℕ) (e : Event) : Type 0 where
   pub card-is : (bytes : List ℕ) → after ≡ answerOf c bytes e .card
   pub done-is : (bytes : List ℕ) → 0 ≡ numberOf (answerOf c bytes e .refusal)
 
--- the turn of a record of such an event
-abbrev pub PassesBare : Place → Card → Card → ℕ → List ℕ → Pass → List ℕ → List ℕ → Type 0
-PassesBare p c after kind payload r room left =
-    (on : Settings) (e : Event) → Leaves (cardUnder on c) (cardUnder on after) kind e → (file : List ℕ) → 4 + length payload ≤ length file
-    → Passed on p (turnBy (cardUnder on c) file (length room) (exactly 0 (length payload) e)) r file room left
+-- the turn of a record of such an event, with a payload of n bytes
+abbrev pub PassesBare : Card → ℕ → ℕ → Work → Type 0
+PassesBare after kind n w =
+    (on : Settings) (e : Event) → Leaves (cardUnder on (w .card)) (cardUnder on after) kind e → (file : List ℕ) → PassesHead on file (exactly 0 n e) w

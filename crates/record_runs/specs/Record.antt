@@ -17,7 +17,7 @@ use Rattle.chip.specs.State.{busy}
 use Rattle.chip.specs.Step.{pushOf, popOf, readOf}
 use Rattle.chip.specs.InTurn.{bytesPopped}
 use Rattle.error_memory.specs.Event.{Chip, Recall as RecallEvent, Forget as ForgetEvent}
-use Rattle.error_memory.specs.Memory.{Card, CardAnswer, around, eventIn}
+use Rattle.error_memory.specs.Memory.{Card, CardAnswer, cardAnswer, eventIn}
 use Rattle.record_files.specs.Run as files
 use Rattle.terms.specs.declared.EventKind.{EventKind}
 use Rattle.terms.specs.declared.EventKind.the-variants.{Push as PushKind, Pop as PopKind, Command as CommandKind, Status as StatusKind}
@@ -167,8 +167,8 @@ popAll (suc n) a = popAll n (popOf (a .state))
 
 -- the answer to an event with this payload; a block leaves what is remembered
 abbrev pub answerOf : Card → List ℕ → Event → CardAnswer
-answerOf c payload (Push n) = around (c .on) (c .memory) (pushAll (before (c .chip)) payload)
-answerOf c payload (Pop n) = around (c .on) (c .memory) (popAll n (before (c .chip)))
+answerOf c payload (Push n) = cardAnswer (c .on) (c .memory) (pushAll (before (c .chip)) payload)
+answerOf c payload (Pop n) = cardAnswer (c .on) (c .memory) (popAll n (before (c .chip)))
 answerOf c payload (Command code) = eventIn c (Chip (CommandEvent code))
 answerOf c payload Status = eventIn c (Chip StatusEvent)
 answerOf c payload Reset = eventIn c (Chip ResetEvent)
@@ -199,19 +199,19 @@ replyOf kind refusal bytes = le2 (3 + length bytes) ++ (le2 (kind + 128) ++ (ref
 
 -- the refusal that stops the run, or 0; the card; the bytes of the record; its reply
 abbrev pub Turned : Type 0
-Turned = files.Turned Card
+Turned = files.Outcome Card
 
 -- nothing of the record is done
 abbrev pub stopped : Refusal → Card → Turned
-stopped r c = files.idle (numberOf r) c
+stopped r c = files.ended (numberOf r) c
 
 -- the answer makes the card and the reply
 abbrev pub worked : Card → Event → CardAnswer → Turned
 worked c e a = record {
   refusal = 0;
   state = a .card;
-  size = 4 + payloadOf e;
-  reply = replyOf (kindOf e) (numberOf (a .refusal)) (dataOf c e);
+  taken = 4 + payloadOf e;
+  written = replyOf (kindOf e) (numberOf (a .refusal)) (dataOf c e);
 }
 
 -- with so much room for the reply: 8 where it does not fit, else the event is done with the payload

@@ -1,9 +1,7 @@
 // The run of a file: every record in turn, by the record step, with the card in locals of the loop.
 use crate::step::Pass;
 use crate::step::Place;
-use chip::State;
 use error_memory::Card;
-use terms::Mode;
 use terms::Rule;
 ghost use mathlib.Core.Path.{_≡_};
 ghost use Prim.Native.Nat.{_≤_, _<_};
@@ -12,7 +10,7 @@ ghost use Rattle.terms.specs.Limits.{mostInput};
 ghost use Rattle.chip.specs.Step.{given};
 ghost use Rattle.error_memory.specs.Held.{cardUnder};
 ghost use Rattle.record_runs.specs.Run.{runOf};
-ghost use Rattle.record_runs.specs.Held.{countedIn, start, Ran};
+ghost use Rattle.record_runs.specs.Held.{countedIn, atStart, Passed};
 
 // More room than the replies of any file take: 245 bytes for each byte of an input.
 const MOST_REPLIES: usize = 3_010_560;
@@ -30,7 +28,7 @@ fn counted(room: usize) -> u32
 // The start of a run in a file and in room of so many bytes.
 pub fn begin(size: usize, room: usize) -> Place
     requires { ⌜ size ≤ mostInput ⌝ }
-    ensures { λ p. ⌜ p ≡ start size room ⌝ }
+    ensures { λ p. ⌜ p ≡ atStart size room ⌝ }
 {
     Place {
         taken: 0,
@@ -42,11 +40,17 @@ pub fn begin(size: usize, room: usize) -> Place
 
 // Every record of `input` in turn, until one is refused or none is left. The state is laid down part by part: a copy of
 // the whole would carry the bytes between its parts through memory, at each record.
-pub fn run_all(start: Card, mode: Mode, rule: Rule, input: &[u8], replies: &mut [u8]) -> Pass
+pub fn run_all(start: Card, mode: terms::Mode, rule: Rule, input: &[u8], replies: &mut [u8]) -> Pass
     requires { ⌜ (start .chip .status < 128) × (length (now input) ≤ mostInput) ⌝ }
-    ensures { λ r. ⌜ Ran (given mode rule)
+    ensures { λ r. ⌜ Passed (cardUnder (given mode rule))
         (runOf (cardUnder (given mode rule) start) (now (input .entry)) (length (now (replies .entry))))
-        r (now (input .entry)) (now (replies .entry)) (now (replies .exit)) ⌝ }
+        (record {
+          place = atStart (length (now (input .entry))) (length (now (replies .entry)));
+          card = start;
+          room = now (replies .entry);
+          pass = r;
+          left = now (replies .exit);
+        }) ⌝ }
 {
     let mut card = start;
     let mut place = begin(input.len(), replies.len());
@@ -60,7 +64,7 @@ pub fn run_all(start: Card, mode: Mode, rule: Rule, input: &[u8], replies: &mut 
         let stack = t.card.chip.stack;
         let memory = t.card.memory;
         card = Card {
-            chip: State {
+            chip: chip::State {
                 stack,
                 pending: t.card.chip.pending,
                 status: t.card.chip.status,

@@ -98,8 +98,8 @@ fn ready(right: bool, place: Place, m: u32) -> Refusal
 fn pass_push(card: Card, payload: &[u8], room: &mut [u8], place: Place) -> Pass
     requires { ⌜ (card .chip .status < 128) × (length (now payload) ≤ mostPayload) ×
         Stands place (length (now room)) ⌝ }
-    ensures { λ r. ⌜ PassesAll place card EventKind.Push (now (payload .entry)) r (now (room .entry))
-        (now (room .exit)) ⌝ }
+    ensures { λ r. ⌜ PassesAll EventKind.Push (now (payload .entry))
+        (record { place = place; card = card; room = now (room .entry); pass = r; left = now (room .exit) }) ⌝ }
 {
     let why = ready(1 <= payload.len(), place, 5);
     if number(why) != 0 {
@@ -115,8 +115,8 @@ fn pass_push(card: Card, payload: &[u8], room: &mut [u8], place: Place) -> Pass
 // As many bytes popped as the payload says, each to its place in the reply.
 fn pass_pop(card: Card, payload: &[u8], room: &mut [u8], place: Place) -> Pass
     requires { ⌜ (card .chip .status < 128) × Stands place (length (now room)) ⌝ }
-    ensures { λ r. ⌜ PassesAll place card EventKind.Pop (now (payload .entry)) r (now (room .entry))
-        (now (room .exit)) ⌝ }
+    ensures { λ r. ⌜ PassesAll EventKind.Pop (now (payload .entry))
+        (record { place = place; card = card; room = now (room .entry); pass = r; left = now (room .exit) }) ⌝ }
 {
     if payload.len() != 1 {
         return stop(Refusal::BadLength, card, place);
@@ -136,8 +136,8 @@ fn pass_pop(card: Card, payload: &[u8], room: &mut [u8], place: Place) -> Pass
 // A command, whose code is the payload.
 fn pass_command(card: Card, rule: Rule, payload: &[u8], room: &mut [u8], place: Place) -> Pass
     requires { ⌜ (card .chip .status < 128) × Stands place (length (now room)) ⌝ }
-    ensures { λ r. ⌜ PassesByRule rule place card EventKind.Command (now (payload .entry)) r (now (room .entry))
-        (now (room .exit)) ⌝ }
+    ensures { λ r. ⌜ PassesByRule rule EventKind.Command (now (payload .entry))
+        (record { place = place; card = card; room = now (room .entry); pass = r; left = now (room .exit) }) ⌝ }
 {
     let why = ready(payload.len() == 1, place, 5);
     if number(why) != 0 {
@@ -160,8 +160,8 @@ fn pass_command(card: Card, rule: Rule, payload: &[u8], room: &mut [u8], place: 
 // The status byte, to the reply.
 fn pass_status(card: Card, payload: &[u8], room: &mut [u8], place: Place) -> Pass
     requires { ⌜ (card .chip .status < 128) × Stands place (length (now room)) ⌝ }
-    ensures { λ r. ⌜ PassesAll place card EventKind.Status (now (payload .entry)) r (now (room .entry))
-        (now (room .exit)) ⌝ }
+    ensures { λ r. ⌜ PassesAll EventKind.Status (now (payload .entry))
+        (record { place = place; card = card; room = now (room .entry); pass = r; left = now (room .exit) }) ⌝ }
 {
     let why = ready(payload.len() == 0, place, 6);
     if number(why) != 0 {
@@ -177,8 +177,8 @@ fn pass_status(card: Card, payload: &[u8], room: &mut [u8], place: Place) -> Pas
 // The error memory, its bits and its code to the reply.
 fn pass_recall(card: Card, payload: &[u8], room: &mut [u8], place: Place) -> Pass
     requires { ⌜ (card .chip .status < 128) × Stands place (length (now room)) ⌝ }
-    ensures { λ r. ⌜ PassesAll place card EventKind.Recall (now (payload .entry)) r (now (room .entry))
-        (now (room .exit)) ⌝ }
+    ensures { λ r. ⌜ PassesAll EventKind.Recall (now (payload .entry))
+        (record { place = place; card = card; room = now (room .entry); pass = r; left = now (room .exit) }) ⌝ }
 {
     let why = ready(payload.len() == 0, place, 7);
     if number(why) != 0 {
@@ -202,8 +202,8 @@ fn pass_bare(
     place: Place,
 ) -> Pass
     requires { ⌜ Stands place (length (now room)) ⌝ }
-    ensures { λ r. ⌜ PassesBare place card after kind (now (payload .entry)) r (now (room .entry))
-        (now (room .exit)) ⌝ }
+    ensures { λ r. ⌜ PassesBare after kind (length (now (payload .entry)))
+        (record { place = place; card = card; room = now (room .entry); pass = r; left = now (room .exit) }) ⌝ }
 {
     let why = ready(payload.len() == 0, place, 5);
     if number(why) != 0 {
@@ -227,8 +227,8 @@ fn pass_kind(
 ) -> Pass
     requires { ⌜ (card .chip .status < 128) × (length (now payload) ≤ mostPayload) ×
         Stands place (length (now room)) ⌝ }
-    ensures { λ r. ⌜ Passes (given mode rule) place card kind (now (payload .entry)) r (now (room .entry))
-        (now (room .exit)) ⌝ }
+    ensures { λ r. ⌜ Passes (given mode rule) kind (now (payload .entry))
+        (record { place = place; card = card; room = now (room .entry); pass = r; left = now (room .exit) }) ⌝ }
 {
     let chip = card.chip;
     let memory = card.memory;
@@ -265,9 +265,9 @@ pub fn pass_record(
     place: Place,
 ) -> Pass
     requires { ⌜ (card .chip .status < 128) × Begins place (length (now rest)) × Stands place (length (now room)) ⌝ }
-    ensures { λ r. ⌜ Passed (given mode rule) place
-        (turnOf (cardUnder (given mode rule) card) (now (rest .entry)) (length (now (room .entry)))) r
-        (now (rest .entry)) (now (room .entry)) (now (room .exit)) ⌝ }
+    ensures { λ r. ⌜ Passed (cardUnder (given mode rule))
+        (turnOf (cardUnder (given mode rule) card) (now (rest .entry)) (length (now (room .entry))))
+        (record { place = place; card = card; room = now (room .entry); pass = r; left = now (room .exit) }) ⌝ }
 {
     match crate::head::read_frame(rest, place.taken, place.size) {
         Frame::Framed(n) => {

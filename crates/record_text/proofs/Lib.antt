@@ -1,4 +1,4 @@
--- Laws of records in words: how they are told, how lines are read, and that both fit.
+-- Laws of records in words: how they are told, how lines are read, and that both fit; the trace.
 pub mod Tests
 pub mod Same
 pub mod Tables
@@ -8,3 +8,4 @@ pub mod Naming
 pub mod Valuing
 pub mod Taking
 pub mod ReadBack
+pub mod Tracing

@@ -1,5 +1,5 @@
 -- What a line says by its words: values put behind one another, the record that they make, a command by its name. Assumes nothing.
-use mathlib.Core.Path.{_≡_, refl, sym, ap, ap₂, _∙_}
+use mathlib.Core.Path.{_≡_, refl, sym, ap, ap₂, _∙_, subst}
 use mathlib.Core.Bool.{Bool, true, false, cond}
 use mathlib.Core.List.{List, [], _∷_, _++_}
 use Prim.Native.Nat.{ℕ, _+_, _-_, _%_, _/_, _≤_, _<_}
@@ -22,7 +22,9 @@ use Rattle.record_text.specs.Values.{valueOf}
 use Rattle.record_text.specs.Line.{recordBytes, Said, Empty, Wrong, Added, Unfit}
 use Rattle.record_text.specs.Line.{put, Taken, Payload, Amiss, onPut, takeWords, needed, closed}
 use Rattle.record_text.specs.Line.{withSr, valuesIn, lineBy, lineAt, lineIn, saidOf}
-use Rattle.record_text.specs.Held.{NextWord, valuesLine, kindLine}
+use Rattle.record_text.specs.Held.{NextWord, LineFits, valuesLine, kindLine}
+use Rattle.record_text.specs.declared.line.Line.{Line}
+use Rattle.record_text.specs.declared.line.Line.the-variants.{Record as Recorded}
 use Rattle.record_text.specs.declared.values.Fault.{Fault}
 use Rattle.record_text.specs.declared.values.Fault.the-variants.{Missing, ManyBytes}
 use Rattle.record_text.specs.declared.values.Value.the-variants.{Number}
@@ -105,6 +107,11 @@ pub head-is : (kind : ℕ) (payload : List ℕ) → length payload ≤ 240
     → (2 + length payload) ∷ 0 ∷ (kind % 256) ∷ (kind / 256) ∷ payload ≡ recordBytes kind payload
 head-is kind payload h = ap (λ (l : List ℕ). l ++ (le2 kind ++ payload)) (le2-small (2 + length payload) (omega arith))
 
+-- the bytes of a record that was read fit, and are so many
+pub record-fits : {r : Line} {count : ℕ} (out : List ℕ) → r ≡ Recorded count → LineFits r → length out ≡ 244
+    → (count ≤ 244) × (count ≡ length (take count out)) × (length out ≡ 244)
+record-fits {r} {count} out e f h = let n : count ≤ 244 = subst LineFits e f in (n, sym (length-take-le count out (omega arith)), h)
+
 module _ (kind place : ℕ) (t : Taken) where
   pub is-missing : (payload : List ℕ) (count : ℕ) (ws : List Word) → count ≡ 0 → Payload (take count payload) ws ≡ t → Wrong Missing place ≡ closed kind
       (needed place t)
@@ -120,25 +127,22 @@ module _ (kind place : ℕ) (t : Taken) where
 
 -- ---- a command by its name
 module _ (line : List ℕ) (at code : ℕ) (s : Span) (w : NextWord line at s) where
-  pub sr-set : same srWord (between (s .from) (s .to) line) ≡ true → Payload ((code + 128) ∷ []) (wordsAt (s .to) line) ≡ withSr code (wordsAt at line)
-  sr-set e = go (eqb (s .from) (s .to)) refl
+  pub sr-by : (t : Bool) → same srWord (between (s .from) (s .to) line) ≡ t
+      → Payload (cond t (code + 128) code ∷ []) (wordsAt (cond t (s .to) at) line) ≡ withSr code (wordsAt at line)
+  sr-by t e = go t (eqb (s .from) (s .to)) e refl
     where
       empty : s .from ≡ s .to → between (s .from) (s .to) line ≡ []
       empty z = let n : s .to - s .from ≡ 0 = omega arith in ap (λ (k : ℕ). take k (drop (s .from) line)) n
 
-      go : (t : Bool) → eqb (s .from) (s .to) ≡ t → Payload ((code + 128) ∷ []) (wordsAt (s .to) line) ≡ withSr code (wordsAt at line)
-      go true z = clash (ap (same srWord) (sym (empty (eqb-true (s .from) (s .to) z))) ∙ e)
-      go false z =
+      go : (t u : Bool) → same srWord (between (s .from) (s .to) line) ≡ t → eqb (s .from) (s .to) ≡ u
+          → Payload (cond t (code + 128) code ∷ []) (wordsAt (cond t (s .to) at) line) ≡ withSr code (wordsAt at line)
+      go true true e z = clash (ap (same srWord) (sym (empty (eqb-true (s .from) (s .to) z))) ∙ e)
+      go false true e z = rw (no-word line at s w (eqb-true (s .from) (s .to) z))
+      go true false e z =
           ap (λ (t : Bool). cond t (Payload ((code + 128) ∷ []) (wordsAt (s .to) line))
           (Payload (code ∷ []) (word (s .from) (between (s .from) (s .to) line) ∷ wordsAt (s .to) line))) (sym e)
           ∙ ap (withSr code) (sym (a-word line at s w (eqb-false (s .from) (s .to) z)))
-
-  pub sr-plain : same srWord (between (s .from) (s .to) line) ≡ false → Payload (code ∷ []) (wordsAt at line) ≡ withSr code (wordsAt at line)
-  sr-plain e = go (eqb (s .from) (s .to)) refl
-    where
-      go : (t : Bool) → eqb (s .from) (s .to) ≡ t → Payload (code ∷ []) (wordsAt at line) ≡ withSr code (wordsAt at line)
-      go true z = rw (no-word line at s w (eqb-true (s .from) (s .to) z))
-      go false z = rw (a-word line at s w (eqb-false (s .from) (s .to) z), e)
+      go false false e z = rw (a-word line at s w (eqb-false (s .from) (s .to) z), e)
 
 -- ---- the line
 module _ (rule : Rule) (line : List ℕ) where

@@ -1,12 +1,14 @@
 // The program behind ./records: `records RULE text` reads lines of text from standard input and writes the records that
-// they say; `records RULE read` reads a record file and writes a line for each record. The last line is `end`; or
-// `wrong`, the number of the line, the place in it and the number of the fault; or `stopped`, the bytes before the
-// record that has no words and the refusal. What stands before a last line that is not `end` is no answer.
+// they say; `records RULE read` reads a record file and writes a line for each record; `records trace` reads one and
+// writes the state after each record, from reset, with `--am9511` and `--nearest` as the listing program has them.
+// The last line is `end`; or `wrong`, the number of the line, the place in it and the number of the fault; or
+// `stopped`, the bytes before the record that has no words and the refusal. What stands before a last line that is not
+// `end` is no answer.
+use decimals::ends::line_end;
+use decimals::ends::trimmed;
+use decimals::read::rule_named;
 use libc::STDIN_FILENO;
 use libc::STDOUT_FILENO;
-use listing::ends::line_end;
-use listing::ends::trimmed;
-use listing::options::rule_named;
 use numbers::two;
 use record_runs::head::Frame;
 use record_runs::head::read_frame;
@@ -18,6 +20,8 @@ use record_text::line::RECORD_ROOM;
 use record_text::line::read_line;
 use record_text::record::TEXT_ROOM;
 use record_text::record::tell_record;
+use record_text::trace::TRACE_ROOM;
+use record_text::trace::trace;
 use record_text::values::fault_number;
 use terms::Refusal;
 use terms::Rule;
@@ -158,21 +162,38 @@ fn write_texts(input: &[u8])
     io::write_all(STDOUT_FILENO, b"\nend\n");
 }
 
+// Writes the trace of a file, by the two words behind `trace` of a call of so many.
+fn write_trace(words: usize, first: &[u8], second: &[u8], input: &[u8]) {
+    if words == 0 {
+        return;
+    }
+    let mut text = [0u8; TRACE_ROOM];
+    let n = trace(words - 1, first, second, input, &mut text);
+    io::write_all(STDOUT_FILENO, &text[..n]);
+}
+
+// Writes the line of each record, or that the file is too long.
+fn write_lines(input: &[u8]) {
+    if MOST_INPUT < input.len() {
+        return write_stopped(0, terms::number(Refusal::InputTooLong));
+    }
+    write_texts(input);
+}
+
 fn main() {
     let mut name = [0u8; 16];
     let n = os::arg(1, &mut name);
-    let rule = rule_named(&name[..n]);
     let mut what = [0u8; 16];
     let m = os::arg(2, &mut what);
+    let mut third = [0u8; 16];
+    let k = os::arg(3, &mut third);
     let mut input = [0u8; 262144];
     let size = io::read_full(STDIN_FILENO, &mut input);
-    if check::same(&what[..m], b"read") {
-        if MOST_INPUT < size {
-            write_stopped(0, terms::number(Refusal::InputTooLong));
-        } else {
-            write_texts(&input[..size]);
-        }
+    if check::same(&name[..n], b"trace") {
+        write_trace(os::arg_count(), &what[..m], &third[..k], &input[..size]);
+    } else if check::same(&what[..m], b"read") {
+        write_lines(&input[..size]);
     } else {
-        write_records(rule, &input[..size]);
+        write_records(rule_named(&name[..n]), &input[..size]);
     }
 }

@@ -11,13 +11,7 @@ use Rattle.sheet_bytes.specs.Ledger.{mostSheets, closedIn, isOpen, keptB
 
 -- the number that 02 gives a refusal inside a reply
 abbrev pub numberOf : Refusal → ℕ
-numberOf Done = 0
-numberOf StillOpen = 20
-numberOf NoneOpen = 21
-numberOf NoSuchSlot = 22
-numberOf HalfPending = 23
-numberOf SlotEmpty = 24
-numberOf ListFull = 25
+numberOf = elim [ Done ↦ 0 | StillOpen ↦ 20 | NoneOpen ↦ 21 | NoSuchSlot ↦ 22 | HalfPending ↦ 23 | SlotEmpty ↦ 24 | ListFull ↦ 25 ]
 
 -- ---- the kinds
 

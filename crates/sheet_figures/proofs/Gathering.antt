@@ -11,7 +11,7 @@ use Rattle.numbers.proofs.Differences.{either, sub-lt, sub-ge}
 use Rattle.sheet_bytes.specs.Ledger.{linesOf, closedIn}
 use Rattle.sheet_figures.specs.Limbs.{up, down, ups, downs, sumLimit}
 use Rattle.sheet_figures.specs.Figures.{wordOn, words, sum88}
-use Rattle.sheet_figures.specs.Digits.{signOf, plus, minus}
+use Rattle.sheet_figures.specs.Digits.{signOf}
 use Rattle.sheet_figures.proofs.Lines.{length-lines}
 use Rattle.sheet_figures.proofs.Running.{ahead-is, counted-all}
 use Rattle.sheet_figures.proofs.Sums.{ups-fit, sum-is, length-words}
@@ -70,7 +70,7 @@ module _ (l : List (List ℕ)) (a b d top : ℕ) (is-a : a ≡ ups (words l)) (i
   difference = sum-is l ∙ ap (λ (n : ℕ). subℕ n (downs (words l))) (sym is-a) ∙ ap (λ (n : ℕ). subℕ a n) (sym is-b)
 
   -- nothing borrowed: not below zero
-  pub sum-above : (x : ℕ) → x ≡ 0 → d + b ≡ a + x * top → (plus ≡ signOf (sum88 l)) × (d ≡ natAbs (sum88 l))
+  pub sum-above : (x : ℕ) → x ≡ 0 → d + b ≡ a + x * top → (43 ≡ signOf (sum88 l)) × (d ≡ natAbs (sum88 l))
   sum-above x z e =
       let o : d + b ≡ a = left x z e in
       let i : sum88 l ≡ _ = difference ∙ sub-ge a b (omega arith) in
@@ -80,7 +80,7 @@ module _ (l : List (List ℕ)) (a b d top : ℕ) (is-a : a ≡ ups (words l)) (i
       left x z e = let f : d + b ≡ a + 0 * top = subst (λ (n : ℕ). d + b ≡ a + n * top) z e in omega arith
 
   -- borrowed: below zero, and the other difference is the magnitude
-  pub sum-below : (c x y : ℕ) → (x ≡ 0 → ⊥) → x ≤ 1 → y ≤ 1 → c < top → d < top → c + b ≡ a + x * top → d + a ≡ b + y * top → (minus ≡ signOf (sum88 l))
+  pub sum-below : (c x y : ℕ) → (x ≡ 0 → ⊥) → x ≤ 1 → y ≤ 1 → c < top → d < top → c + b ≡ a + x * top → d + a ≡ b + y * top → (45 ≡ signOf (sum88 l))
       × (d ≡ natAbs (sum88 l))
   sum-below c x y z hx hy hc hd e f =
       let o : x ≡ 1 = omega arith in

@@ -11,7 +11,6 @@ use lib.ListN.{length, getD, take, drop}
 use lib.Seq.{getD-take, getD-drop, drop-drop}
 use Rattle.numbers.specs.Little.{fourAt}
 use Rattle.sheet_bytes.specs.Ledger.{sheetsBytes, mostSheets, openAt, keptAt, isSheets, lines, linesOf, closedIn}
-use Rattle.sheet_figures.specs.Figures.{serialOn, wordOn}
 
 -- what the test says of the bytes
 pub sheets-are : (l : List ℕ) → isSheets l ≡ true → (length l ≡ sheetsBytes) × (closedIn l ≤ mostSheets)
@@ -50,7 +49,7 @@ byte-at l i j at h k e =
     ∙ getD-drop (1 + 20 * i) l j 0
     ∙ ap (λ (n : ℕ). getD l n 0) (sym e)
 
-four-at : (l : List ℕ) (i j at : ℕ) → i < closedIn l → j + 3 < 20 → at ≡ 1 + 20 * i + j → fourAt (getD (linesOf l) i []) j ≡ fourAt l at
+pub four-at : (l : List ℕ) (i j at : ℕ) → i < closedIn l → j + 3 < 20 → at ≡ 1 + 20 * i + j → fourAt (getD (linesOf l) i []) j ≡ fourAt l at
 four-at l i j at h k e =
     rw (
       byte-at l i j at h (omega arith) e,
@@ -59,9 +58,3 @@ four-at l i j at h k e =
           (omega arith),
       byte-at l i (j + 3) (at + 3) h (omega arith) (omega arith),
     )
-
-pub serial-at : (l : List ℕ) (i at : ℕ) → i < closedIn l → at ≡ 1 + 20 * i → serialOn (getD (linesOf l) i []) ≡ fourAt l at
-serial-at l i at h e = four-at l i 0 at h (omega arith) (omega arith)
-
-pub word-at : (l : List ℕ) (i at : ℕ) → i < closedIn l → at ≡ 5 + 20 * i → wordOn (getD (linesOf l) i []) ≡ fourAt l at
-word-at l i at h e = four-at l i 4 at h (omega arith) (omega arith)

@@ -13,7 +13,7 @@ use Rattle.float.specs.Word.{negative, biased, mantissa, proper, size88, value}
 use Rattle.numbers.specs.Signed.{withSign}
 use Rattle.numbers.proofs.Differences.{sum-differences, neg-pos, pos-is, size-difference}
 use Rattle.sheet_figures.specs.Limbs.{up, down, ups, downs, sumLimit}
-use Rattle.sheet_figures.specs.Figures.{total, words, worth, worths, sum88, AlwaysFits}
+use Rattle.sheet_figures.specs.Figures.{total, words, worth, worths, sum88}
 
 -- one word
 worth-is : (w : ℕ) → worth w ≡ subℕ (up w) (down w)
@@ -73,7 +73,8 @@ pub sum-is : (l : List (List ℕ)) → sum88 l ≡ subℕ (ups (words l)) (downs
 unfolding sum88
 sum-is l = total-is (words l)
 
-pub always-fits : AlwaysFits
+-- 64 sheets always fit
+pub always-fits : (l : List (List ℕ)) → length l ≤ 64 → (natAbs (sum88 l) ≤ 64 * 2 ^ 151) × (natAbs (sum88 l) < 16 ^ 48)
 always-fits l h =
     let w : List ℕ = words l in
     let n : length w ≤ 64 = subst (λ (k : ℕ). k ≤ 64) (sym (length-words l)) h in
@@ -81,7 +82,7 @@ always-fits l h =
     subst (λ (z : ℤ). natAbs z ≤ 64 * 2 ^ 151) (sym (sum-is l))
     (le-trans (difference-most (ups w) (downs w)) (le-trans (sums-most (2 ^ 151) size-most w) (mul-le-mul-right (2 ^ 151) n)))
     in
-    record { at-most = m; has-room = lt-of-le-of-lt m (lit< tt) }
+    (m, lt-of-le-of-lt m (lit< tt))
 
 -- and so does either sum of magnitudes
 limit-is : 64 * 2 ^ 151 < sumLimit

@@ -1,12 +1,11 @@
--- 02, ask 14: the shift's figures, each from the list of sheets. Definitions and statements. Assumes nothing.
-use Prim.Native.Nat.{ℕ, suc, _*_, _^_, _≤_, _<_}
-use mathlib.Core.Path.{_≡_}
+-- 02, ask 14: the shift's figures, each from the list of sheets. Definitions only. Assumes nothing.
+use Prim.Native.Nat.{ℕ, suc}
 use mathlib.Core.Bool.{Bool, not, cond}
-use mathlib.Core.List.{List, [], _∷_, _++_, List·Permᴰ}
+use mathlib.Core.List.{List, [], _∷_}
 use lib.Dec.{eqb, leb}
-use lib.ListN.{length, replicate}
-use lib.IntN.{ℤ, pos, _+ℤ_, natAbs}
-use Rattle.numbers.specs.Little.{fourAt, le4}
+use lib.ListN.{length}
+use lib.IntN.{ℤ, pos, _+ℤ_}
+use Rattle.numbers.specs.Little.{fourAt}
 use Rattle.float.specs.Word.{proper, value}
 
 -- ---- a sheet is a line of 20 bytes
@@ -74,59 +73,3 @@ worths (w ∷ l) = worth w ∷ worths l
 -- the sum of the values of the proper words, times 2 ^ 88
 unfoldable pub sum88 : List (List ℕ) → ℤ
 sum88 l = total (worths (words l))
-
--- ---- statements
-
--- "the order of the sheets makes no difference to any figure"
-pub record Same (l m : List (List ℕ)) : Type 0 where
-  pub lines-same : length l ≡ length m
-  pub different-same : different l ≡ different m
-  pub repeated-same : repeated l ≡ repeated m
-  pub improper-same : improper l ≡ improper m
-  pub sum-same : sum88 l ≡ sum88 m
-
-abbrev pub AnyOrder : Type 0
-AnyOrder = (l m : List (List ℕ)) → List·Permᴰ l m → Same l m
-
--- "64 sheets always fit": a magnitude is at most 2 ^ 24 * 2 ^ 127, 64 of them at most 2 ^ 157, and 48 hex digits hold less than 16 ^ 48
-pub record Fits (z : ℤ) : Type 0 where
-  pub at-most : natAbs z ≤ 64 * (2 ^ 24 * 2 ^ 127)
-  pub has-room : natAbs z < 16 ^ 48
-
-abbrev pub AlwaysFits : Type 0
-AlwaysFits = (l : List (List ℕ)) → length l ≤ 64 → Fits (sum88 l)
-
--- each number of a list stands once among its different ones, and no other does
-abbrev pub EachOnce : Type 0
-EachOnce = (x : ℕ) (l : List ℕ) → count x (once l) ≡ cond (eqb (count x l) 0) 0 1
-
--- the serials counted from the front: one is new where it does not stand before, repeated where it stands once before
-abbrev pub newFrom : List ℕ → List ℕ → ℕ
-newFrom before [] = 0
-newFrom before (x ∷ l) = cond (eqb (count x before) 0) (suc (newFrom (x ∷ before) l)) (newFrom (x ∷ before) l)
-
-abbrev pub repeatedFrom : List ℕ → List ℕ → ℕ
-repeatedFrom before [] = 0
-repeatedFrom before (x ∷ l) = cond (eqb (count x before) 1) (suc (repeatedFrom (x ∷ before) l)) (repeatedFrom (x ∷ before) l)
-
-pub record Counted (l : List (List ℕ)) : Type 0 where
-  pub different-is : different l ≡ newFrom [] (serials l)
-  pub repeated-is : repeated l ≡ repeatedFrom [] (serials l)
-
-abbrev pub CountedFromTheFront : Type 0
-CountedFromTheFront = (l : List (List ℕ)) → Counted l
-
--- ---- an example
-
--- a line of a serial and a word in slot 0, the other slots zero
-abbrev pub lineWith : ℕ → ℕ → List ℕ
-lineWith serial word = le4 serial ++ (le4 word ++ replicate 12 0)
-
--- lines with the serials 5, 5, 5, 7: four lines, two serials, one of them repeated
-abbrev pub fourLines : List (List ℕ)
-fourLines = lineWith 5 0 ∷ lineWith 5 0 ∷ lineWith 5 0 ∷ lineWith 7 0 ∷ []
-
-pub record FourLines : Type 0 where
-  pub four : length fourLines ≡ 4
-  pub two : different fourLines ≡ 2
-  pub one : repeated fourLines ≡ 1

@@ -1,6 +1,7 @@
 // The counts: different serials, serials on more than one line, words that are not proper.
-use crate::sheet::serial_at;
-use crate::sheet::word_at;
+use crate::sheet::SERIAL;
+use crate::sheet::WORD;
+use crate::sheet::number_at;
 use float::word::is_proper;
 ghost use mathlib.Core.Path.{_≡_};
 ghost use mathlib.Core.Bool.{cond};
@@ -29,7 +30,7 @@ fn count_from(sheets: &[u8], from: usize, serial: u32) -> u8
     let mut found = 0;
     let mut at = from;
     while at < n {
-        found += one(serial == serial_at(sheets, at));
+        found += one(serial == number_at(sheets, at, SERIAL));
         at += 1;
     }
     found
@@ -52,7 +53,7 @@ pub fn count_serials(sheets: &[u8]) -> Serials
     let mut repeated = 0;
     let mut i = 0;
     while i < n {
-        let serial = serial_at(sheets, i);
+        let serial = number_at(sheets, i, SERIAL);
         let last = one(count_from(sheets, i + 1, serial) == 0);
         let again = one(2 <= count_from(sheets, 0, serial));
         different += last;
@@ -74,7 +75,7 @@ pub fn count_improper(sheets: &[u8]) -> u8
     let mut found = 0;
     let mut i = 0;
     while i < n {
-        found += one(!is_proper(word_at(sheets, i)));
+        found += one(!is_proper(number_at(sheets, i, WORD)));
         i += 1;
     }
     found

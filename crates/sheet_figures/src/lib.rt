@@ -17,7 +17,7 @@ ghost use mathlib.Core.List.{_∷_};
 ghost use Prim.Native.Nat.{_≤_};
 ghost use lib.ListN.{length, drop};
 ghost use Rattle.sheet_bytes.specs.Ledger.{sheetsBytes, mostSheets, closedIn, linesOf};
-ghost use Rattle.sheet_figures.specs.Telling.{figuresBytes, written, figuresOf, Tells};
+ghost use Rattle.sheet_figures.specs.Telling.{figuresBytes, written, figuresOf, FiguresCalls};
 
 // The bytes of the figures: four counts, the sign, 48 digits.
 pub const FIGURES_BYTES: usize = 53;
@@ -57,7 +57,7 @@ fn write(sheets: &[u8], out: &mut [u8])
 
 // The figures of a `sheets` slice: 8 where `out` has another length, then 13; on 0 alone is `out` written.
 pub fn put_figures(sheets: &[u8], out: &mut [u8]) -> u32
-    ensures { λ r. ⌜ Tells (figuresOf (now (sheets .entry)) (now (out .entry))) r (now (out .exit)) ⌝ }
+    ensures { λ r. ⌜ FiguresCalls (figuresOf (now (sheets .entry)) (now (out .entry))) r (now (out .exit)) ⌝ }
 {
     if out.len() != FIGURES_BYTES {
         return number(Refusal::NoRoom) as u32;

@@ -1,5 +1,6 @@
 // The exact sum of float values, as two sums of magnitudes of 24 bytes each, the lowest byte first.
-use crate::sheet::word_at;
+use crate::sheet::WORD;
+use crate::sheet::number_at;
 use float::word::is_proper;
 ghost use mathlib.Core.Path.{_≡_};
 ghost use Prim.Native.Nat.{_+_, _*_, _^_, _≤_, _<_};
@@ -109,7 +110,7 @@ fn gather_all(sheets: &[u8]) -> Sums
     };
     let mut i = 0;
     while i < n {
-        s = gather(s, word_at(sheets, i));
+        s = gather(s, number_at(sheets, i, WORD));
         i += 1;
     }
     s

@@ -21,7 +21,7 @@ use Rattle.record_runs.proofs.Prefix.{lawful as core-lawful}
 use Rattle.state_bytes.specs.Bytes.{isState as storedState, cardIn, laidOut, reportOf as storedReport}
 use Rattle.state_bytes.proofs.Calling.{good as core-good}
 use Rattle.sheet_bytes.specs.Ledger as ledger
-use Rattle.sheets.specs.Step.{Held, held, runOf}
+use Rattle.sheets.specs.Step.{Held, holding, runOf}
 use Rattle.sheets.specs.Calls.{Called, callOf, ranOf}
 use Rattle.sheets.specs.Growth.{Grown as Grows}
 use Rattle.sheets.proofs.Lines.{lawful}
@@ -103,7 +103,7 @@ pub calls : (P : Called → Type 0) (mode rule : ℕ) (state sheets input replie
     → ((length report ≡ 9 → ⊥) → P (record { result = 14; state = state; sheets = sheets; replies = replies; report = report }))
     → ((r : ℕ) → (r ≡ 0 → ⊥) → P (record { result = r; state = state; sheets = sheets; replies = replies; report = storedReport r 0 0 }))
     → (Passed mode rule state sheets input report → P (ranOf (length state)
-    (runOf (held (cardIn (given (modeOf mode) (ruleOf rule)) state) sheets) input (length replies)) replies))
+    (runOf (holding (cardIn (given (modeOf mode) (ruleOf rule)) state) sheets) input (length replies)) replies))
     → P (callOf mode rule state sheets input replies report)
 unfolding callOf
 calls P mode rule state sheets input replies report unwritten away runs =
@@ -152,7 +152,7 @@ sheets-kept mode rule state sheets input replies report g =
     let s = stands sheets e in
     let stays = grows sheets sheets (s .long) (same sheets s) in
     calls (λ c. Grown sheets (c .sheets)) mode rule state sheets input replies report (λ w. stays) (λ r n. stays)
-    (λ p. grows sheets _ (s .long) (run-grows (held (cardIn (given (modeOf mode) (ruleOf rule)) state) sheets) input (length replies) e))
+    (λ p. grows sheets _ (s .long) (run-grows (holding (cardIn (given (modeOf mode) (ruleOf rule)) state) sheets) input (length replies) e))
 
 -- ---- what a run wrote, read back through the report
 
@@ -193,7 +193,7 @@ sheets-replies-stay mode rule state sheets input replies report =
     ≡ getD replies i 0)) mode rule state sheets input replies report
     (λ w. (refl, λ i h. refl)) (λ r n. (refl, λ i h. refl))
     (λ p.
-    let h = held (cardIn (given (modeOf mode) (ruleOf rule)) state) sheets in
+    let h = holding (cardIn (given (modeOf mode) (ruleOf rule)) state) sheets in
     let o = runOf h input (length replies) in
     let t = tally lawful h input (length replies) in
     let fits = t .in-room in
@@ -206,7 +206,7 @@ pub power-cut : PowerCut
 power-cut mode rule state sheets input replies report B I n o z k most =
     let p = passed mode rule state sheets input replies report z in
     let c = cardIn (given (modeOf mode) (ruleOf rule)) state in
-    let h = held c sheets in
+    let h = holding c sheets in
     let g = length-take-le k input most in
     let i : length (take k input) ≤ 12288 = let f = p .input-fits in omega arith in
     let whole = good mode rule state sheets input replies report (p .report-long) (p .mode-good) (p .rule-good) (p .state-good) (p .sheets-good)
@@ -251,7 +251,7 @@ pub struck-out : StruckOut
 struck-out mode rule state sheets input replies report z =
     let p = passed mode rule state sheets input replies report z in
     let c = cardIn (given (modeOf mode) (ruleOf rule)) state in
-    let h = held c sheets in
+    let h = holding c sheets in
     let file : List ℕ = joined (struck (recordsOf input)) in
     let i : length file ≤ 12288 = let x = p .input-fits in let y = shorter input in omega arith in
     let whole = good mode rule state sheets input replies report (p .report-long) (p .mode-good) (p .rule-good) (p .state-good) (p .sheets-good)
@@ -299,7 +299,7 @@ module _ (j : Job) (t : JobLent j) (sheets : List ℕ) (es : List Entry) (ag : A
       (λ r n. rw (none (recordsOf (j .input))) (ag, q))
       (λ p.
       let c = cardIn (given (modeOf (j .mode)) (ruleOf (j .rule))) (j .state) in
-      let h = held c sheets in
+      let h = holding c sheets in
       let room = length (j .replies) in
       let u = runOf h (j .input) room in
       let I = bytes-are (j .input) (t .input) in

@@ -1,9 +1,10 @@
 -- The book's figures are those of the call: each measure is the crate's own, list by list. Assumes nothing.
 use mathlib.Core.Path.{_≡_, refl, sym, ap, ap₂, subst, _∙_}
 use mathlib.Core.Bool.{Bool, true, false, not, cond}
-use mathlib.Core.List.{List, [], _∷_, _++_, map, List·Permᴰ}
-use Prim.Native.Nat.{ℕ, zero, suc, _+_, _*_, _/_, _%_}
-use lib.Dec.{eqb, leb}
+use mathlib.Core.List.{List, [], _∷_, _++_, map, List·Permᴰ, Permᴰ·map}
+use Prim.Native.Nat.{ℕ, zero, suc, _/_, _%_, _^_, _≤_, _<_}
+use borrow.Author.Tests.{eqb-true}
+use lib.Dec.{eqb, leb, eqb·suc-zero}
 use lib.ListN.{length, drop, replicate}
 use lib.IntN.{ℤ, pos, negsuc, negℤ, _+ℤ_, natAbs}
 use Rattle.numbers.specs.Signed.{withSign}
@@ -12,15 +13,16 @@ use Rattle.sheet_bytes.specs.Ledger as ledger
 use Rattle.sheet_figures.specs.Figures as crate-figures
 use Rattle.sheet_figures.specs.Digits as digits
 use Rattle.sheet_figures.specs.Telling as telling
-use Rattle.sheet_figures.proofs.Orders.{any-order as any-order-there}
 use Rattle.sheet_figures.proofs.Sums.{always-fits as fits-there}
-use Rattle.sheet_figures.proofs.Counting.{each-once as each-once-there}
-use Rattle.sheet_figures.proofs.Told as there
-use Rattle.sheet_promises.specs.Sheets.{isSheets, closedSheets}
+use Rattle.sheet_figures.proofs.Lines.{sheets-are, length-lines}
+use Rattle.sheet_promises.specs.Sheets.{isSheets, places, closedSheets}
+use Rattle.sheet_promises.specs.Subjects.{figuresCall}
 use Rattle.sheet_promises.specs.Figures.{serialOn, wordOn, proper, value88, size88, count, once, many, total, different, repeated, improper, worth, sum88}
 use Rattle.sheet_promises.specs.Figures.{hexDigits, sumText, signOf, figuresOf, FiguresCall, FiguresAllowed, FiguresDetermined, AnyOrder, AnyOrderTold}
-use Rattle.sheet_promises.specs.Figures.{Fits, AlwaysFits, allHex, readFrom, Reads, SumIsTold, EachOnce, NoSheets}
+use Rattle.sheet_promises.specs.Figures.{Fits, AlwaysFits, SumIsTold, EachOnce, NoSheets}
 use Rattle.sheet_promises.proofs.Measures.{sheets-is, closed-sheets}
+use Rattle.sheet_promises.proofs.Orders.{length-perm, many-perm, once-perm, more-perm, total-perm}
+use Rattle.sheet_promises.proofs.Reading.{text-is-the-sum}
 
 -- ---- of lists of numbers
 
@@ -122,54 +124,74 @@ figures-determined sheets out r q o p a b = (a .result-is ∙ sym (b .result-is)
 -- ---- what 02 asks
 
 pub any-order : AnyOrder
+unfolding sum88
 any-order l m d =
-    let s = any-order-there l m d in
+    let s = Permᴰ·map serialOn d in
+    let w = Permᴰ·map wordOn d in
     record {
-      lines-same = s .lines-same;
-      different-same = sym (different-is l) ∙ s .different-same ∙ different-is m;
-      repeated-same = sym (repeated-is l) ∙ s .repeated-same ∙ repeated-is m;
-      improper-same = sym (improper-is l) ∙ s .improper-same ∙ improper-is m;
-      sum-same = sym (sum-is l) ∙ s .sum-same ∙ sum-is m;
+      lines-same = length-perm d;
+      different-same = length-perm (once-perm s);
+      repeated-same = more-perm s;
+      improper-same = many-perm _ w;
+      sum-same = total-perm (Permᴰ·map worth w);
     }
+
+-- nor does an order change what is written
+figures-same : (l m : List (List ℕ)) → List·Permᴰ l m → figuresOf l ≡ figuresOf m
+unfolding sum88
+figures-same l m d =
+    let s = Permᴰ·map serialOn d in
+    let w = Permᴰ·map wordOn d in
+    ap₂ (λ (n k : ℕ). n ∷ k ∷ repeated l ∷ improper l ∷ sumText (sum88 l)) (length-perm d) (length-perm (once-perm s))
+    ∙ ap₂ (λ (n k : ℕ). length m ∷ different m ∷ n ∷ k ∷ sumText (sum88 l)) (more-perm s) (many-perm _ w)
+    ∙ ap (λ (z : ℤ). length m ∷ different m ∷ repeated m ∷ improper m ∷ sumText z) (total-perm (Permᴰ·map worth w))
+
+-- a slice that is a list of sheets
+told : (sheets out : List ℕ) → isSheets sheets ≡ true
+    → figuresCall sheets out ≡ cond (eqb (length out) 53) (record { result = 0; out = figuresOf (closedSheets sheets) }) (record { result = 8; out = out })
+unfolding telling.figuresOf
+told sheets out h =
+    rw (sym (sheets-is sheets) ∙ h)
+    (ap (λ (w : List ℕ). cond (eqb (length out) 53) (record { result = 0; out = w }) (record { result = 8; out = out }))
+    (figures-are (ledger.linesOf sheets) ∙ ap figuresOf (closed-sheets sheets)))
 
 pub any-order-told : AnyOrderTold
 any-order-told s t out h k d =
-    there.any-order-told s t out (sym (sheets-is s) ∙ h) (sym (sheets-is t) ∙ k)
-    (subst (λ (x : List (List ℕ)). List·Permᴰ x (ledger.linesOf t)) (sym (closed-sheets s))
-    (subst (λ (y : List (List ℕ)). List·Permᴰ (closedSheets s) y) (sym (closed-sheets t)) d))
+    told s out h
+    ∙ ap (λ (w : List ℕ). cond (eqb (length out) 53) (record { result = 0; out = w }) (record { result = 8; out = out })) (figures-same _ _ d)
+    ∙ sym (told t out k)
 
 pub always-fits : AlwaysFits
-always-fits l n = let f = fits-there l n in subst Fits (sum-is l) (record { at-most = f .at-most; has-room = f .has-room })
-
-read-is : (l : List ℕ) (n : ℕ) → digits.readFrom n l ≡ readFrom n l
-read-is [] n = refl
-read-is (c ∷ l) n = read-is l (16 * n + digits.digitValue c)
-
-hex-too : (l : List ℕ) → digits.allHex l ≡ allHex l
-hex-too [] = refl
-hex-too (c ∷ l) = ap (λ (b : Bool). cond (digits.isHex c) b false) (hex-too l)
+always-fits l n = let f = fits-there l n in subst Fits (sum-is l) (record { at-most = f .0; has-room = f .1 })
 
 pub sum-is-told : SumIsTold
 sum-is-told sheets h =
-    let r = there.sum-is-told sheets (sym (sheets-is sheets) ∙ h) .sum-read in
-    let l = ledger.linesOf sheets in
-    subst (λ (k : List (List ℕ)). Reads (sum88 k) (drop 4 (figuresOf k))) (closed-sheets sheets)
-    (subst (λ (t : List ℕ). Reads (sum88 l) (drop 4 t)) (figures-are l)
-    (subst (λ (z : ℤ). Reads z (drop 4 (telling.written l))) (sum-is l) (record {
-      size-is = r .size-is;
-      all-hex = sym (hex-too (drop 5 (telling.written l))) ∙ r .all-hex;
-      number-is = sym (read-is (drop 5 (telling.written l)) 0) ∙ r .number-is;
-      plus-where = r .plus-where;
-      plus-only = r .plus-only;
-      else-minus = r .else-minus;
-    })))
+    let l = closedSheets sheets in
+    let e = ap length (sym (closed-sheets sheets)) ∙ length-lines sheets in
+    let n : length l ≤ 64 = subst (λ (k : ℕ). k ≤ 64) (sym e) (sheets-are sheets (sym (sheets-is sheets) ∙ h) .1) in
+    text-is-the-sum (sum88 l) (subst (λ (z : ℤ). natAbs z < 16 ^ 48) (sum-is l) (fits-there l n .1))
+
+-- one number more before a list
+once-step : (x y : ℕ) (l : List ℕ) → count x (once l) ≡ cond (eqb (count x l) 0) 0 1 → (q : Bool) → eqb x y ≡ q → (p : Bool) → eqb (count y l) 0 ≡ p
+    → count x (once (y ∷ l)) ≡ cond (eqb (count x (y ∷ l)) 0) 0 1
+once-step x y l is false e true f = rw (f, e) is
+once-step x y l is false e false f = rw (f, e) is
+once-step x y l is true e true f =
+    let g : eqb (count x l) 0 ≡ true = subst (λ (z : ℕ). eqb (count z l) 0 ≡ true) (sym (eqb-true x y e)) f in
+    rw (f, e) (ap suc (is ∙ ap (λ (b : Bool). cond b 0 1) g) ∙ ap (λ (b : Bool). cond b 0 1) (sym (eqb·suc-zero (count x l))))
+once-step x y l is true e false f =
+    let g : eqb (count x l) 0 ≡ false = subst (λ (z : ℕ). eqb (count z l) 0 ≡ false) (sym (eqb-true x y e)) f in
+    rw (f, e) (is ∙ ap (λ (b : Bool). cond b 0 1) g ∙ ap (λ (b : Bool). cond b 0 1) (sym (eqb·suc-zero (count x l))))
 
 pub each-once : EachOnce
-each-once x l = sym (count-is x (once l)) ∙ ap (crate-figures.count x) (sym (once-is l)) ∙ each-once-there x l
-    ∙ ap (λ (n : ℕ). cond (eqb n 0) 0 1) (count-is x l)
+each-once x [] = refl
+each-once x (y ∷ l) = once-step x y l (each-once x l) (eqb x y) refl (eqb (count y l) 0) refl
+
+none : figuresOf [] ≡ 0 ∷ 0 ∷ 0 ∷ 0 ∷ 43 ∷ replicate 48 48
+unfolding sum88
+none = refl
 
 pub no-sheets : NoSheets
 no-sheets sheets h e =
-    figures-call sheets (replicate 53 0) ∙ rw h
-    (ap (λ (w : List ℕ). record { result = 0; out = w }) (sym (figures-are (closedSheets sheets)) ∙ ap telling.written (sym (closed-sheets sheets))
-    ∙ there.no-sheets sheets e))
+    told sheets (replicate 53 0) h
+    ∙ ap (λ (w : List ℕ). record { result = 0; out = w }) (ap (λ (n : ℕ). figuresOf (places n (drop 1 sheets))) e ∙ none)

@@ -18,7 +18,7 @@ use Rattle.state_bytes.proofs.Cards.{card-ready, card-returns}
 use Rattle.state_bytes.specs.Calls.{settingsOf}
 use Rattle.sheet_bytes.specs.Ledger as ledger
 use Rattle.sheet_bytes.proofs.Ledgers.{is-long}
-use Rattle.sheets.specs.Step.{Held, held, lineOf, runOf}
+use Rattle.sheets.specs.Step.{Held, holding, sheetStep, runOf}
 use Rattle.sheets.proofs.Lines.{lawful}
 use Rattle.sheet_promises.specs.Records.{recordsOf, joined}
 use Rattle.sheet_promises.specs.Runs.{Ran, onward, turn, ran}
@@ -27,12 +27,12 @@ use Rattle.sheet_promises.proofs.Measures.{bytes-are, state-is, sheets-
 use Rattle.sheet_promises.proofs.Turns.{seen, turn-is}
 use Rattle.sheet_promises.proofs.Split.{no-bytes}
 use Rattle.sheet_promises.proofs.Telling.{its-records, its-replies}
-use Rattle.sheet_promises.proofs.Runs.{seenRun, run-is, run-card, run-on, run-sheets}
+use Rattle.sheet_promises.proofs.Runs.{run-is, run-card, run-on, run-sheets}
 
 module _ (mode rule : ℕ) (state sheets : List ℕ) (s : Start mode rule state sheets) where
   -- what the bytes stand for
   abbrev stood : Held
-  stood = held (cardIn (settingsOf mode rule) state) sheets
+  stood = holding (cardIn (settingsOf mode rule) state) sheets
 
   ready : ReadyCard (stood .card)
   ready = card-ready (settingsOf mode rule) state (bytes-are state (s .bytes)) (sym (state-is state) ∙ s .state-taken)
@@ -44,21 +44,21 @@ module _ (mode rule : ℕ) (state sheets : List ℕ) (s : Start mode rule state 
   good = sym (sheets-is sheets) ∙ s .sheets-taken
 
   -- the book's run of any file
-  ran-is : (l : List ℕ) (room : ℕ) → StackBytes l → ran mode rule state sheets l room ≡ seenRun (runOf stood l room)
+  ran-is : (l : List ℕ) (room : ℕ) → StackBytes l → ran mode rule state sheets l room ≡ seen (runOf stood l room)
   ran-is l room b =
       ap (λ (k : List ℕ). ran mode rule k sheets l room) (sym laid) ∙ run-is mode rule (s .mode-taken) (s .rule-taken) stood l room ready refl good b
 
   -- and of one on what a run left
   ran-on : (l rest : List ℕ) (room more : ℕ) → StackBytes l → StackBytes rest
       → ran mode rule (laidOut 21 (runOf stood l room .state .card)) (runOf stood l room .state .sheets) rest more
-      ≡ seenRun (runOf (runOf stood l room .state) rest more)
+      ≡ seen (runOf (runOf stood l room .state) rest more)
   ran-on l rest room more b c =
       run-is mode rule (s .mode-taken) (s .rule-taken) (runOf stood l room .state) rest more (run-card stood l room ready b) (run-on stood l room)
       (run-sheets stood l room good) c
 
   turned : (l rest : List ℕ) (room more : ℕ) → StackBytes l
       → turn mode rule (laidOut 21 (runOf stood l room .state .card)) (runOf stood l room .state .sheets) rest more
-      ≡ seen (lineOf (runOf stood l room .state) rest more)
+      ≡ seen (sheetStep (runOf stood l room .state) rest more)
   turned l rest room more b =
       let h = runOf stood l room .state in
       turn-is mode rule (s .mode-taken) (s .rule-taken) (h .card) (run-card stood l room ready b) (run-on stood l room) (h .sheets) rest more
@@ -74,8 +74,8 @@ appended mode rule state sheets l rest room s B R e =
     let z : o .refusal ≡ 0 = rw is at e in
     let p = runOf (o .state) rest (room - length (o .written)) in
     ran-is mode rule state sheets s (l ++ rest) room (bytes-append l rest b c)
-    ∙ ap seenRun (run-appended lawful h l rest room z)
-    ∙ ap (onward (seenRun o)) (sym (ran-on mode rule state sheets s l rest room (room - length (o .written)) b c))
+    ∙ ap seen (run-appended lawful h l rest room z)
+    ∙ ap (onward (seen o)) (sym (ran-on mode rule state sheets s l rest room (room - length (o .written)) b c))
     ∙ ap (λ (u : Ran). onward u (ran mode rule (u .state) (u .sheets) rest (room - length (u .written)))) (sym is)
 
 pub bad-lines : BadLines
@@ -84,7 +84,7 @@ bad-lines mode rule state sheets l room s B =
     let h = stood mode rule state sheets s in
     let o = runOf h l room in
     rw (ran-is mode rule state sheets s l room b) record {
-      done-before = ran-is mode rule state sheets s (take (o .taken) l) room (bytes-take (o .taken) l b) ∙ ap seenRun (up-to-stop lawful h l room);
+      done-before = ran-is mode rule state sheets s (take (o .taken) l) room (bytes-take (o .taken) l b) ∙ ap seen (up-to-stop lawful h l room);
       range = λ z. tally lawful h l room .range z;
       stops-there = λ z. ap (λ (u : Ran). u .refusal) (turned mode rule state sheets s l (drop (o .taken) l) room (room - length (o .written)) b)
           ∙ run-stops-there lawful h l room z;
@@ -128,11 +128,11 @@ sums : (h : Held) (l : List ℕ) (room : ℕ) → SumsOf l (runOf h l room)
 sums =
     through lawful (λ h l room o. SumsOf l o) (λ h room. none []) (λ h l room p z. none l)
     (λ h l room p z more.
-    let t = lineOf h l room in
-    let w = runOf (t .state) (drop (t .size) l) (room - length (t .reply)) .written in
-    let n = length-take-le (t .size) l (lawful .within h l room z) in
-    let k = length-append (take (t .size) l) (joined (take (length (recordsOf w)) (recordsOf (drop (t .size) l)))) in
-    rw (its-records h l room z w, its-replies h l room z w) (omega (arith, more .0), ap (λ (v : List ℕ). t .reply ++ v) (more .1)))
+    let t = sheetStep h l room in
+    let w = runOf (t .state) (drop (t .taken) l) (room - length (t .written)) .written in
+    let n = length-take-le (t .taken) l (lawful .within h l room z) in
+    let k = length-append (take (t .taken) l) (joined (take (length (recordsOf w)) (recordsOf (drop (t .taken) l)))) in
+    rw (its-records h l room z w, its-replies h l room z w) (omega (arith, more .0), ap (λ (v : List ℕ). t .written ++ v) (more .1)))
   where
     none : (l : List ℕ) → (0 ≡ length (joined (take (length (recordsOf [])) (recordsOf l)))) × ([] ≡ joined (recordsOf []))
     none l = rw no-bytes (refl, refl)

@@ -14,6 +14,8 @@ pub mod OwnWords
 pub mod Histories
 pub mod Calls
 pub mod Files
+pub mod Orders
+pub mod Reading
 pub mod Figures
 pub mod Rows
 pub mod FigureRows

@@ -9,7 +9,7 @@ use lib.ListN.{getD, take, drop}
 use lib.Seq.{getD-take, getD-drop}
 use borrow.Author.Tests.{lt-ltb, le-ltb, ne-eqb, eqb-true}
 use Rattle.numbers.specs.Little.{wordAt}
-use Rattle.record_files.specs.Run.{Turned}
+use Rattle.record_files.specs.Run.{Outcome}
 use Rattle.record_files.proofs.Tests.{either-lt, either-eq}
 use Rattle.error_memory.specs.Memory.{Card}
 use Rattle.record_runs.specs.Record.{turnOf}
@@ -62,8 +62,8 @@ module _ (c : Card) (bytes sheets : List ℕ) (k : wordAt bytes 2 ≡ 257) where
           (λ h. kept-so o h (c .chip .pending) refl)
 
 -- of every record that is taken
-abbrev TakenWhole : Held → List ℕ → Turned Held → Type 0
-TakenWhole h l t = Whole (entryOn (h .card) (take (t .size) l) (getD (t .reply) 4 0))
+abbrev TakenWhole : Held → List ℕ → Outcome Held → Type 0
+TakenWhole h l t = Whole (entryOn (h .card) (take (t .taken) l) (getD (t .written) 4 0))
 
 own-whole : (h : Held) (l : List ℕ) → Owns l → TakenWhole h l (done h l)
 own-whole h l o =
@@ -83,8 +83,8 @@ core-whole h l room z =
     let t = turnOf (h .card) l room in
     let c = core-took (h .card) l room z in
     let k8 = c .kind-is in
-    let k : wordAt (take (t .size) l) 2 ≡ wordAt l 2 = word-front (t .size) l 2 (omega (arith, c .four)) in
-    not-keep (entryOn (h .card) (take (t .size) l) (getD (t .reply) 4 0)) (λ y. omega arith)
+    let k : wordAt (take (t .taken) l) 2 ≡ wordAt l 2 = word-front (t .taken) l 2 (omega (arith, c .four)) in
+    not-keep (entryOn (h .card) (take (t .taken) l) (getD (t .written) 4 0)) (λ y. omega arith)
 
 -- ---- and so of a run
 

@@ -9,7 +9,7 @@ use lib.ListN.{length, getD, take, drop}
 use Rattle.numbers.specs.Little.{wordAt}
 use Rattle.terms.specs.declared.Refusal.the-variants.{BadLength}
 use Rattle.terms.specs.Limits.{mostPayload}
-use Rattle.record_files.specs.Run.{Turned, Outcome}
+use Rattle.record_files.specs.Run.{Outcome}
 use Rattle.record_files.proofs.Tests.{either-lt, either-eq}
 use Rattle.record_files.proofs.Through.{through}
 use Rattle.record_files.proofs.Cut.{cut-anywhere}
@@ -27,7 +27,7 @@ use Rattle.terms.specs.Kind.{kindNamed}
 use Rattle.record_runs.specs.Record.{exactly, rowBy, rowUnder, headIn, headUnder, headNumber, frameUnder, answeredOf, turnBy, turnUnder, turnOf}
 use Rattle.sheet_bytes.specs.Ledger.{isSheets, closedIn, isOpen}
 use Rattle.sheet_bytes.proofs.Ledgers.{is-long}
-use Rattle.sheets.specs.Step.{Held, held, lineOf, runOf}
+use Rattle.sheets.specs.Step.{Held, holding, sheetStep, runOf}
 use Rattle.sheets.proofs.Lines.{ways, lawful}
 use Rattle.sheet_promises.specs.Records.{recordsOf}
 use Rattle.sheet_promises.proofs.CardHistory.{AnsweredAndListed}
@@ -83,14 +83,14 @@ six-head l =
 six-turn : (c : Card) (l : List ℕ) (room : ℕ) (h : Head) → turnBy c l room h .refusal ≡ 6 → headNumber h ≡ 6
 six-turn c l room (Stop r) = λ z. z
 six-turn c l room (Whole e) =
-    either-lt (λ (t : Turned Card). t .refusal ≡ 6 → headNumber (Whole e) ≡ 6) room (5 + answeredOf e) _ _ (λ g z. let y : ⊥ = omega arith in absurd y)
+    either-lt (λ (t : Outcome Card). t .refusal ≡ 6 → headNumber (Whole e) ≡ 6) room (5 + answeredOf e) _ _ (λ g z. let y : ⊥ = omega arith in absurd y)
     (λ g z. z)
 
 six-core : (c : Card) (l : List ℕ) (room : ℕ) → turnOf c l room .refusal ≡ 6 → length l < 2 + wordAt l 0
 unfolding turnUnder
 six-core c l room z = six-head l (six-turn c l room (headUnder mostPayload l) z)
 
-six-line : (h : Held) (l : List ℕ) (room : ℕ) → lineOf h l room .refusal ≡ 6 → length l < 2 + wordAt l 0
+six-line : (h : Held) (l : List ℕ) (room : ℕ) → sheetStep h l room .refusal ≡ 6 → length l < 2 + wordAt l 0
 six-line h l room =
     ways (λ t. t .refusal ≡ 6 → length l < 2 + wordAt l 0) h l room (λ o q z. let y : ⊥ = omega arith in absurd y)
     (λ o q g z. let y : ⊥ = omega arith in absurd y)
@@ -107,8 +107,8 @@ answers =
     (λ h room e. refl)
     (λ h l room p z e. sym (ap length (none-of l (six-line h l room (e z))) ∙ rw no-bytes))
     (λ h l room p z ih e.
-    let t = lineOf h l room in
-    let o = runOf (t .state) (drop (t .size) l) (room - length (t .reply)) in
+    let t = sheetStep h l room in
+    let o = runOf (t .state) (drop (t .taken) l) (room - length (t .written)) in
     ap length (its-replies h l room z (o .written)) ∙ ap suc (ih e) ∙ sym (ap length (its-records h l room z (o .written))))
 
 -- ---- the statement
@@ -124,15 +124,15 @@ empty sheets g n o = record {
 
 -- a file that would have ended with 0, cut after any byte and run from the same card in the same room, on an empty list with no sheet open
 pub power-cut : (c : Card) (sheets l : List ℕ) (room : ℕ) → isSheets sheets ≡ true → closedIn sheets ≡ 0 → isOpen sheets ≡ false
-    → runOf (held c sheets) l room .refusal ≡ 0 → (k : ℕ) → k ≤ length l
-    → AnsweredAndListed c room (take k l) (runOf (held c sheets) (take k l) room .written) (runOf (held c sheets) (take k l) room .state .sheets)
+    → runOf (holding c sheets) l room .refusal ≡ 0 → (k : ℕ) → k ≤ length l
+    → AnsweredAndListed c room (take k l) (runOf (holding c sheets) (take k l) room .written) (runOf (holding c sheets) (take k l) room .state .sheets)
 power-cut c sheets l room g n o e k most =
-    let d = cut-anywhere lawful (held c sheets) l room e k most in
+    let d = cut-anywhere lawful (holding c sheets) l room e k most in
     let i = d .1 in
     record {
       all-answered =
-          answers (held c sheets) (take k l) room (λ z.
-          either-lt (λ (x : ℕ). runOf (held c sheets) (take k l) room .refusal ≡ 6) (d .0) k 0 0 (λ j. i .in-one j)
+          answers (holding c sheets) (take k l) room (λ z.
+          either-lt (λ (x : ℕ). runOf (holding c sheets) (take k l) room .refusal ≡ 6) (d .0) k 0 0 (λ j. i .in-one j)
           (λ j. absurd (z (i .at-end (let u = i .upto in omega arith)))));
-      list-is = follows (held c sheets) (take k l) room c room [] [] (at-start c room) (empty sheets g n o) .list-is;
+      list-is = follows (holding c sheets) (take k l) room c room [] [] (at-start c room) (empty sheets g n o) .list-is;
     }

@@ -10,10 +10,10 @@ use Rattle.record_files.specs.Run.{run, runBy}
 use Rattle.record_runs.specs.Record.{frameUnder, turnUnder}
 use Rattle.state_bytes.specs.Bytes.{isState}
 use Rattle.sheet_bytes.specs.Ledger.{isSheets}
-use Rattle.sheets.specs.Step.{isOwn, lineOf}
+use Rattle.sheets.specs.Step.{isOwn, sheetStep}
 use Rattle.sheets.specs.Calls.{callOf}
 use Rattle.sheet_promises.specs.Rows.{SheetsRows}
 
 pub sheets-rows : SheetsRows
-unfolding callOf isState isSheets runBy run lineOf isOwn turnUnder frameUnder pushOf resetOf readOf commandUnder carried floats statusOf decoded add div size
+unfolding callOf isState isSheets runBy run sheetStep isOwn turnUnder frameUnder pushOf resetOf readOf commandUnder carried floats statusOf decoded add div size
 sheets-rows = refl

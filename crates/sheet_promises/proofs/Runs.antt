@@ -18,7 +18,7 @@ use Rattle.error_memory.specs.Event.{Chip, Recall as RecallEvent, Forget as For
 use Rattle.error_memory.specs.Memory.{Card}
 use Rattle.error_memory.proofs.Good.{ReadyCard}
 use Rattle.error_memory.proofs.Kept.{settings-stay}
-use Rattle.record_files.specs.Run.{Turned, Outcome, run, runBy, next as nextRun}
+use Rattle.record_files.specs.Run.{Outcome, run, runBy, next as nextRun}
 use Rattle.record_files.proofs.Append.{alone}
 use Rattle.record_files.proofs.Tests.{either-eq}
 use Rattle.record_files.proofs.Through.{through}
@@ -34,7 +34,7 @@ use Rattle.state_bytes.proofs.Cards.{laid-is, laid-length, card-returns, behind
 use Rattle.state_bytes.specs.Calls.{settingsOf}
 use Rattle.sheet_bytes.specs.Ledger as ledger
 use Rattle.sheet_bytes.proofs.Ledgers.{good as good-sheets, is-long}
-use Rattle.sheets.specs.Step.{Held, lineOf, runOf}
+use Rattle.sheets.specs.Step.{Held, sheetStep, runOf}
 use Rattle.sheets.proofs.Lines.{ways, lawful}
 use Rattle.sheets.proofs.Growth.{run-grows}
 use Rattle.sheet_promises.specs.Bytes.{zeros}
@@ -57,7 +57,7 @@ answer-on c p Forget = settings-stay c ForgetEvent
 core-on : (c : Card) (l : List ℕ) (room : ℕ) → turnOf c l room .state .on ≡ c .on
 core-on c l room = steps (λ t. t .state .on ≡ c .on) c l room (λ r a b. refl) (λ e h g. answer-on c (take (payloadIn e) (drop 4 l)) e)
 
-pub line-on : (h : Held) (l : List ℕ) (room : ℕ) → lineOf h l room .state .card .on ≡ h .card .on
+pub line-on : (h : Held) (l : List ℕ) (room : ℕ) → sheetStep h l room .state .card .on ≡ h .card .on
 line-on h l room =
     ways (λ t. t .state .card .on ≡ h .card .on) h l room (λ o q. refl) (λ o q g. refl) (λ o q g. refl) (λ n. core-on (h .card) l room)
 
@@ -66,10 +66,10 @@ core-ready : (c : Card) (l : List ℕ) (room : ℕ) → 0 < length l → ReadyCa
 core-ready c l room p r b =
     either-eq (λ (x : ℕ). ReadyCard (turnOf c l room .state)) (turnOf c l room .refusal) 0 0 0
     (λ z. subst ReadyCard (ap (λ (o : Outcome Card). o .state) (alone core-lawful c l room p z))
-    (run-ready c (take (turnOf c l room .size) l) room r (bytes-take (turnOf c l room .size) l b)))
-    (λ z. subst ReadyCard (sym (ap (λ (t : Turned Card). t .state) (core-lawful .stops c l room z .1))) r)
+    (run-ready c (take (turnOf c l room .taken) l) room r (bytes-take (turnOf c l room .taken) l b)))
+    (λ z. subst ReadyCard (sym (ap (λ (t : Outcome Card). t .state) (core-lawful .stops c l room z .1))) r)
 
-pub line-ready : (h : Held) (l : List ℕ) (room : ℕ) → 0 < length l → ReadyCard (h .card) → StackBytes l → ReadyCard (lineOf h l room .state .card)
+pub line-ready : (h : Held) (l : List ℕ) (room : ℕ) → 0 < length l → ReadyCard (h .card) → StackBytes l → ReadyCard (sheetStep h l room .state .card)
 line-ready h l room p r b =
     ways (λ t. ReadyCard (t .state .card)) h l room (λ o q. r) (λ o q g. r) (λ o q g. r) (λ n. core-ready (h .card) l room p r b)
 
@@ -79,20 +79,18 @@ run-sheets h l room g =
     let w = run-grows h l room g in
     sym (good-sheets (runOf h l room .state .sheets) (w .same-length ∙ is-long (h .sheets) g) (w .no-more) (w .flag-is) (w .bits-are))
 
-pub line-sheets : (h : Held) (l : List ℕ) (room : ℕ) → 0 < length l → ledger.isSheets (h .sheets) ≡ true → ledger.isSheets (lineOf h l room .state .sheets)
+pub line-sheets : (h : Held) (l : List ℕ) (room : ℕ) → 0 < length l → ledger.isSheets (h .sheets) ≡ true → ledger.isSheets (sheetStep h l room .state .sheets)
     ≡ true
 line-sheets h l room p g =
-    either-eq (λ (x : ℕ). ledger.isSheets (lineOf h l room .state .sheets) ≡ true) (lineOf h l room .refusal) 0 0 0
+    either-eq (λ (x : ℕ). ledger.isSheets (sheetStep h l room .state .sheets) ≡ true) (sheetStep h l room .refusal) 0 0 0
     (λ z.
-    subst (λ (o : Outcome Held). ledger.isSheets (o .state .sheets) ≡ true) (alone lawful h l room p z) (run-sheets h (take (lineOf h l room .size) l) room g))
-    (λ z. subst (λ (t : Turned Held). ledger.isSheets (t .state .sheets) ≡ true) (sym (lawful .stops h l room z .1)) g)
+    subst (λ (o : Outcome Held). ledger.isSheets (o .state .sheets) ≡ true) (alone lawful h l room p z)
+    (run-sheets h (take (sheetStep h l room .taken) l) room g))
+    (λ z. subst (λ (t : Outcome Held). ledger.isSheets (t .state .sheets) ≡ true) (sym (lawful .stops h l room z .1)) g)
 
 -- ---- the run
 
-abbrev pub seenRun : Outcome Held → Ran
-seenRun o = record { refusal = o .refusal; state = laidOut 21 (o .state .card); sheets = o .state .sheets; taken = o .taken; written = o .written }
-
-next-is : (t : Turned Held) (o : Outcome Held) → next (seen t) (seenRun o) ≡ seenRun (nextRun t o)
+next-is : (t : Outcome Held) (o : Outcome Held) → next (seen t) (seen o) ≡ seen (nextRun t o)
 next-is t o = by (eqb (t .refusal) 0)
   where
     by : (b : Bool)
@@ -100,12 +98,12 @@ next-is t o = by (eqb (t .refusal) 0)
           refusal = o .refusal;
           state = laidOut 21 (o .state .card);
           sheets = o .state .sheets;
-          taken = t .size + o .taken;
-          written = t .reply
+          taken = t .taken + o .taken;
+          written = t .written
               ++ o .written;
         })
         (record { refusal = t .refusal; state = laidOut 21 (t .state .card); sheets = t .state .sheets; taken = 0; written = [] })
-        ≡ seenRun (cond b (record { refusal = o .refusal; state = o .state; taken = t .size + o .taken; written = t .reply ++ o .written })
+        ≡ seen (cond b (record { refusal = o .refusal; state = o .state; taken = t .taken + o .taken; written = t .written ++ o .written })
         (record { refusal = t .refusal; state = t .state; taken = 0; written = [] }))
     by true = refl
     by false = refl
@@ -113,22 +111,22 @@ next-is t o = by (eqb (t .refusal) 0)
 module _ (mode rule : ℕ) (m : mode ≤ 1) (q : rule ≤ 1) where
   runs-so : (n : ℕ) (h : Held) (l : List ℕ) (room : ℕ) → ReadyCard (h .card) → h .card .on ≡ settingsOf mode rule → ledger.isSheets (h .sheets) ≡ true
       → StackBytes l
-      → runFor mode rule n (laidOut 21 (h .card)) (h .sheets) l room ≡ seenRun (run lineOf n h l room)
+      → runFor mode rule n (laidOut 21 (h .card)) (h .sheets) l room ≡ seen (run sheetStep n h l room)
   unfolding runFor run
   runs-so zero h l room r on g b = refl
   runs-so (suc n) h [] room r on g b = refl
   runs-so (suc n) h (x ∷ l) room r on g b =
-      let t = lineOf h (x ∷ l) room in
+      let t = sheetStep h (x ∷ l) room in
       let e : turn mode rule (laidOut 21 (h .card)) (h .sheets) (x ∷ l) room
       ≡ seen t = turn-is mode rule m q (h .card) r on (h .sheets) (x ∷ l) room (is-long (h .sheets) g) in
       let p : 0 < length (x ∷ l) = omega arith in
       ap (λ (u : Ran). next u (runFor mode rule n (u .state) (u .sheets) (drop (u .taken) (x ∷ l)) (room - length (u .written)))) e
-      ∙ ap (next (seen t)) (runs-so n (t .state) (drop (t .size) (x ∷ l)) (room - length (t .reply)) (line-ready h (x ∷ l) room p r b)
-      (line-on h (x ∷ l) room ∙ on) (line-sheets h (x ∷ l) room p g) (bytes-drop (t .size) (x ∷ l) b))
-      ∙ next-is t (run lineOf n (t .state) (drop (t .size) (x ∷ l)) (room - length (t .reply)))
+      ∙ ap (next (seen t)) (runs-so n (t .state) (drop (t .taken) (x ∷ l)) (room - length (t .written)) (line-ready h (x ∷ l) room p r b)
+      (line-on h (x ∷ l) room ∙ on) (line-sheets h (x ∷ l) room p g) (bytes-drop (t .taken) (x ∷ l) b))
+      ∙ next-is t (run sheetStep n (t .state) (drop (t .taken) (x ∷ l)) (room - length (t .written)))
 
   pub run-is : (h : Held) (l : List ℕ) (room : ℕ) → ReadyCard (h .card) → h .card .on ≡ settingsOf mode rule → ledger.isSheets (h .sheets) ≡ true → StackBytes l
-      → ran mode rule (laidOut 21 (h .card)) (h .sheets) l room ≡ seenRun (runOf h l room)
+      → ran mode rule (laidOut 21 (h .card)) (h .sheets) l room ≡ seen (runOf h l room)
   unfolding ran runBy
   run-is h l room r on g b = runs-so (length l) h l room r on g b
 
@@ -173,7 +171,7 @@ shortened-is c n s h =
 pub run-card : (h : Held) (l : List ℕ) (room : ℕ) → ReadyCard (h .card) → StackBytes l → ReadyCard (runOf h l room .state .card)
 run-card =
     through lawful (λ h l room o. ReadyCard (h .card) → StackBytes l → ReadyCard (o .state .card)) (λ h room r b. r) (λ h l room p z r b. r)
-    (λ h l room p z more r b. more (line-ready h l room p r b) (bytes-drop (lineOf h l room .size) l b))
+    (λ h l room p z more r b. more (line-ready h l room p r b) (bytes-drop (sheetStep h l room .taken) l b))
 
 pub run-on : (h : Held) (l : List ℕ) (room : ℕ) → runOf h l room .state .card .on ≡ h .card .on
 run-on =

@@ -12,24 +12,25 @@ use Rattle.state_bytes.proofs.States.{state-sized}
 use Rattle.state_bytes.proofs.Cards.{card-ready}
 use Rattle.state_bytes.specs.Calls.{settingsOf}
 use Rattle.sheet_bytes.specs.Ledger as ledger
-use Rattle.sheets.specs.Step.{held, runOf}
+use Rattle.sheets.specs.Step.{holding, runOf}
 use Rattle.sheets.specs.Calls.{callOf, ranOf}
 use Rattle.sheet_promises.specs.Runs.{Ran, lengthened, ran}
 use Rattle.sheet_promises.specs.SheetsCall.{away, answerOf, SheetsCall}
 use Rattle.sheet_promises.proofs.Measures.{bytes-are, state-is, sheets-is}
-use Rattle.sheet_promises.proofs.Runs.{seenRun, run-is, lengthened-is, shortened-is, run-card}
+use Rattle.sheet_promises.proofs.Turns.{seen}
+use Rattle.sheet_promises.proofs.Runs.{run-is, lengthened-is, shortened-is, run-card}
 
 -- a call that runs
 runs : (mode rule : ℕ) (state sheets input replies : List ℕ) → StackBytes state → StackBytes input → mode ≤ 1 → rule ≤ 1 → storedState state ≡ true
     → ledger.isSheets sheets ≡ true
-    → ranOf (length state) (runOf (held (cardIn (settingsOf mode rule) state) sheets) input (length replies)) replies
+    → ranOf (length state) (runOf (holding (cardIn (settingsOf mode rule) state) sheets) input (length replies)) replies
     ≡ answerOf (length state) (ran mode rule (lengthened state) sheets input (length replies)) replies
 runs mode rule state sheets input replies B I m q s g =
     let on = settingsOf mode rule in
-    let h = held (cardIn on state) sheets in
+    let h = holding (cardIn on state) sheets in
     let r = card-ready on state B s in
     let o = runOf h input (length replies) in
-    let book : ran mode rule (lengthened state) sheets input (length replies) ≡ seenRun o =
+    let book : ran mode rule (lengthened state) sheets input (length replies) ≡ seen o =
     ap (λ (k : List ℕ). ran mode rule k sheets input (length replies)) (lengthened-is on state s) ∙ run-is mode rule m q h input (length replies) r refl g I in
     ap (λ (k : List ℕ). record {
       result = o .refusal;
@@ -50,7 +51,7 @@ sheets-call mode rule state sheets input replies report B I =
   where
     by : (a k q s g n : Bool) → leb mode 1 ≡ k → leb rule 1 ≡ q → storedState state ≡ s → ledger.isSheets sheets ≡ g
         → cond a (cond k (cond q (cond s (cond g (cond n (away 9 state sheets replies)
-        (ranOf (length state) (runOf (held (cardIn (settingsOf mode rule) state) sheets) input (length replies)) replies)) (away 13 state sheets replies))
+        (ranOf (length state) (runOf (holding (cardIn (settingsOf mode rule) state) sheets) input (length replies)) replies)) (away 13 state sheets replies))
         (away 13 state sheets replies)) (away 17 state sheets replies)) (away 16 state sheets replies))
         (record { result = 14; state = state; sheets = sheets; replies = replies; report = report })
         ≡ cond a (cond k (cond q (cond s (cond g (cond n (away 9 state sheets replies)

@@ -7,7 +7,7 @@ use Prim.Native.Nat.{ℕ, _+_, _-_, _≤_, _<_}
 use native.Mathlib.Omega.{arith}
 use lib.ListN.{length, take, length-append}
 use Rattle.numbers.specs.Little.{wordAt}
-use Rattle.record_files.specs.Run.{Turned, Outcome, after, took}
+use Rattle.record_files.specs.Run.{Outcome, after, took}
 use Rattle.record_files.proofs.Append.{nothing, alone, appended}
 use Rattle.error_memory.specs.Memory.{Card}
 use Rattle.record_runs.specs.Record.{turnOf}
@@ -54,28 +54,28 @@ past-own c room before r card left less k f s =
 
 -- a record that the core takes alone, in the room that is left or more
 taken-alone : (card : Card) (l : List ℕ) (room more : ℕ) → turnOf card l room .refusal ≡ 0 → 0 < length l → room ≤ more
-    → coreRun card (take (turnOf card l room .size) l) more ≡ took (turnOf card l room .state) (turnOf card l room .size) (turnOf card l room .reply)
+    → coreRun card (take (turnOf card l room .taken) l) more ≡ took (turnOf card l room .state) (turnOf card l room .taken) (turnOf card l room .written)
 taken-alone card l room more z p f =
     let t = turnOf card l room in
     let g = core-lawful .fits card l room z in
     let e : turnOf card l more ≡ t = core-lawful .alike card l l room more z refl (core-lawful .within card l room z) (omega arith) in
-    subst (λ (u : Turned Card). u .refusal ≡ 0 → coreRun card (take (u .size) l) more ≡ took (u .state) (u .size) (u .reply)) e
+    subst (λ (u : Outcome Card). u .refusal ≡ 0 → coreRun card (take (u .taken) l) more ≡ took (u .state) (u .taken) (u .written)) e
     (alone core-lawful card l more p) z
 
 -- a record of the core
 pub past-core : (c : Card) (room : ℕ) (before : List (List ℕ)) (card : Card) (l : List ℕ) (left : ℕ) → turnOf card l left .refusal ≡ 0 → 0 < length l
-    → isOwnKind (wordAt (take (turnOf card l left .size) l) 2) ≡ false
-    → Stands c room before card left → Stands c room (before ++ (take (turnOf card l left .size) l ∷ [])) (turnOf card l left .state)
-    (left - length (turnOf card l left .reply))
+    → isOwnKind (wordAt (take (turnOf card l left .taken) l) 2) ≡ false
+    → Stands c room before card left → Stands c room (before ++ (take (turnOf card l left .taken) l ∷ [])) (turnOf card l left .state)
+    (left - length (turnOf card l left .written))
 past-core c room before card l left z p k s =
     let t = turnOf card l left in
-    let r : List ℕ = take (t .size) l in
+    let r : List ℕ = take (t .taken) l in
     let o = coreRun c (joined (struck before)) room in
     let f = s .left-is in
     let fits = core-lawful .fits card l left z in
-    let one : coreRun (o .state) r (room - length (o .written)) ≡ took (t .state) (t .size) (t .reply) =
+    let one : coreRun (o .state) r (room - length (o .written)) ≡ took (t .state) (t .taken) (t .written) =
     rw (s .card-is) (taken-alone card l left (room - length (o .written)) z p (omega arith)) in
-    let all : coreRun c (joined (struck before) ++ r) room ≡ after (o .taken) (o .written) (took (t .state) (t .size) (t .reply)) =
+    let all : coreRun c (joined (struck before) ++ r) room ≡ after (o .taken) (o .written) (took (t .state) (t .taken) (t .written)) =
     appended core-lawful c (joined (struck before)) r room (s .ended-is) ∙ ap (after (o .taken) (o .written)) one in
-    let g = length-append (o .written) (t .reply) in
+    let g = length-append (o .written) (t .written) in
     rw (struck-core before r k, all) record { ended-is = refl; card-is = refl; left-is = omega arith }

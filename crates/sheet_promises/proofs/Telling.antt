@@ -9,7 +9,7 @@ use lib.ListN.{length, getD, take, drop, length-drop}
 use lib.Seq.{getD-take, getD-drop, take-take, length-take-le}
 use borrow.Author.Tests.{lt-ltb, le-ltb, eq-eqb, ne-eqb}
 use Rattle.numbers.specs.Little.{wordAt}
-use Rattle.record_files.specs.Run.{Turned, Outcome}
+use Rattle.record_files.specs.Run.{Outcome}
 use Rattle.record_files.proofs.Tests.{either-lt, either-eq}
 use Rattle.record_files.proofs.Through.{through, drop-take}
 use Rattle.error_memory.specs.Memory.{Card}
@@ -18,7 +18,7 @@ use Rattle.sheet_bytes.specs.declared.Refusal.{Refusal}
 use Rattle.sheet_bytes.specs.declared.Refusal.the-variants.{Done, StillOpen, NoneOpen, NoSuchSlot, HalfPending, SlotEmpty, ListFull}
 use Rattle.sheet_bytes.specs.Ledger.{closedIn, isOpen, keptBits, dropped}
 use Rattle.sheet_bytes.specs.Entering.{Entered, numberOf, payloadFor, openOf, keepOf, closeOf}
-use Rattle.sheets.specs.Step.{Held, topOf, entryOf, coreBy, lineOf, runOf}
+use Rattle.sheets.specs.Step.{Held, topOf, entryOf, coreBy, sheetStep, runOf}
 use Rattle.sheets.proofs.Lines.{Owns, done, own-kind, low-kind, taken, core-took, lawful}
 use Rattle.sheet_promises.specs.Records.{recordsOf}
 use Rattle.sheet_promises.specs.History.{Entry}
@@ -83,10 +83,10 @@ module _ (c : Card) (bytes : List ℕ) (es : List Entry) (sheets : List ℕ) (ag
 -- ---- a record that is taken
 
 -- what it leaves: the core stands behind it, and the sheets agree with it
-pub record TakenRecord (h : Held) (l : List ℕ) (room : ℕ) (t : Turned Held) : Type 0 where
+pub record TakenRecord (h : Held) (l : List ℕ) (room : ℕ) (t : Outcome Held) : Type 0 where
   pub stands : (c : Card) (all : ℕ) (before : List (List ℕ)) → Stands c all before (h .card) room
-      → Stands c all (before ++ (take (t .size) l ∷ [])) (t .state .card) (room - length (t .reply))
-  pub agrees : (es : List Entry) → Agrees es (h .sheets) → Agrees (entryOn (h .card) (take (t .size) l) (getD (t .reply) 4 0) ∷ es) (t .state .sheets)
+      → Stands c all (before ++ (take (t .taken) l ∷ [])) (t .state .card) (room - length (t .written))
+  pub agrees : (es : List Entry) → Agrees es (h .sheets) → Agrees (entryOn (h .card) (take (t .taken) l) (getD (t .written) 4 0) ∷ es) (t .state .sheets)
 
 abbrev Goal : Held → List ℕ → List Entry → Type 0
 Goal h l es =
@@ -129,19 +129,19 @@ core-tells h l room z p =
     let c = core-took (h .card) l room z in
     let k4 = c .four in
     let k8 = c .kind-is in
-    let r : List ℕ = take (t .size) l in
-    let k : wordAt r 2 ≡ wordAt l 2 = word-front (t .size) l 2 (omega arith) in
+    let r : List ℕ = take (t .taken) l in
+    let k : wordAt r 2 ≡ wordAt l 2 = word-front (t .taken) l 2 (omega arith) in
     record {
       stands = λ c all before s. past-core c all before (h .card) l room z p (rw k (low-kind (wordAt l 2) (omega arith))) s;
       agrees = λ es ag.
-          let e : Entry = entryOn (h .card) r (getD (t .reply) 4 0) in
+          let e : Entry = entryOn (h .card) r (getD (t .written) 4 0) in
           let q : Quiet e = other-quiet e (rw k (omega arith)) in
           rw (eq-eqb (t .refusal) 0 z)
           (either-eq (λ (s : List ℕ). Agrees (e ∷ es) s) (wordAt l 2) 5 (dropped (h .sheets)) (h .sheets)
           (λ y. quiet-dropped e es (h .sheets) q ag) (λ y. quiet e es (h .sheets) q ag));
     }
 
-pub tells : (h : Held) (l : List ℕ) (room : ℕ) → 0 < length l → lineOf h l room .refusal ≡ 0 → TakenRecord h l room (lineOf h l room)
+pub tells : (h : Held) (l : List ℕ) (room : ℕ) → 0 < length l → sheetStep h l room .refusal ≡ 0 → TakenRecord h l room (sheetStep h l room)
 tells h l room p = taken (TakenRecord h l room) h l room (λ o q g. own-tells h l room o q) (λ z. core-tells h l room z p)
 
 -- ---- a run
@@ -151,23 +151,23 @@ no-replies c room before [] es = refl
 no-replies c room before (r ∷ rs) es = refl
 
 -- the records of a file whose first record is taken, and the replies
-module _ (h : Held) (l : List ℕ) (room : ℕ) (z : lineOf h l room .refusal ≡ 0) (w : List ℕ) where
-  pub its-records : recordsOf l ≡ take (lineOf h l room .size) l ∷ recordsOf (drop (lineOf h l room .size) l)
+module _ (h : Held) (l : List ℕ) (room : ℕ) (z : sheetStep h l room .refusal ≡ 0) (w : List ℕ) where
+  pub its-records : recordsOf l ≡ take (sheetStep h l room .taken) l ∷ recordsOf (drop (sheetStep h l room .taken) l)
   its-records =
-      let f : lineOf h l room .size ≡ 2 + wordAt l 0 = taken (λ t. t .size ≡ 2 + wordAt l 0) h l room (λ o q g. omega arith)
+      let f : sheetStep h l room .taken ≡ 2 + wordAt l 0 = taken (λ t. t .taken ≡ 2 + wordAt l 0) h l room (λ o q g. omega arith)
       (λ y. core-took (h .card) l room y .framed) z in
       let i = lawful .within h l room z in
       first-of l (omega arith) ∙ ap (λ (n : ℕ). take n l ∷ recordsOf (drop n l)) (sym f)
 
-  pub its-replies : recordsOf (lineOf h l room .reply ++ w) ≡ lineOf h l room .reply ∷ recordsOf w
+  pub its-replies : recordsOf (sheetStep h l room .written ++ w) ≡ sheetStep h l room .written ∷ recordsOf w
   its-replies =
-      record-then (lineOf h l room .reply) w
-      (taken (λ t. length (t .reply) ≡ 2 + wordAt (t .reply) 0) h l room (λ o q g. refl) (λ y. core-took (h .card) l room y .reply-framed) z)
+      record-then (sheetStep h l room .written) w
+      (taken (λ t. length (t .written) ≡ 2 + wordAt (t .written) 0) h l room (λ o q g. refl) (λ y. core-took (h .card) l room y .reply-framed) z)
 
 -- over any history that went before, of a file whose first records the core has behind it: what goes on over every record that is taken goes on over a run
 module _ (P : List Entry → List ℕ → Type 0)
-    (goes-on : (h : Held) (l : List ℕ) (room : ℕ) → 0 < length l → lineOf h l room .refusal ≡ 0 → (es : List Entry) → P es (h .sheets)
-    → P (entryOn (h .card) (take (lineOf h l room .size) l) (getD (lineOf h l room .reply) 4 0) ∷ es) (lineOf h l room .state .sheets)) where
+    (goes-on : (h : Held) (l : List ℕ) (room : ℕ) → 0 < length l → sheetStep h l room .refusal ≡ 0 → (es : List Entry) → P es (h .sheets)
+    → P (entryOn (h .card) (take (sheetStep h l room .taken) l) (getD (sheetStep h l room .written) 4 0) ∷ es) (sheetStep h l room .state .sheets)) where
   abbrev Along : Held → List ℕ → ℕ → Outcome Held → Type 0
   Along h l room o =
       (c : Card) (all : ℕ) (before : List (List ℕ)) (es : List Entry) → Stands c all before (h .card) room → P es (h .sheets)
@@ -179,13 +179,14 @@ module _ (P : List Entry → List ℕ → Type 0)
       (λ h room c all before es s q. rw no-bytes q)
       (λ h l room p z c all before es s q. rw (no-bytes, no-replies c all before (recordsOf l) es) q)
       (λ h l room p z ih c all before es s q.
-      let t = lineOf h l room in
-      let o = runOf (t .state) (drop (t .size) l) (room - length (t .reply)) in
-      let r : List ℕ = take (t .size) l in
+      let t = sheetStep h l room in
+      let o = runOf (t .state) (drop (t .taken) l) (room - length (t .written)) in
+      let r : List ℕ = take (t .taken) l in
       rw (its-records h l room z (o .written), its-replies h l room z (o .written))
-      (subst (λ (k : Card). P (cardHistory c all (before ++ (r ∷ [])) (recordsOf (drop (t .size) l)) (recordsOf (o .written))
-      (entryOn k r (getD (t .reply) 4 0) ∷ es)) (o .state .sheets)) (sym (s .card-is))
-      (ih c all (before ++ (r ∷ [])) (entryOn (h .card) r (getD (t .reply) 4 0) ∷ es) (tells h l room p z .stands c all before s) (goes-on h l room p z es q))))
+      (subst (λ (k : Card). P (cardHistory c all (before ++ (r ∷ [])) (recordsOf (drop (t .taken) l)) (recordsOf (o .written))
+      (entryOn k r (getD (t .written) 4 0) ∷ es)) (o .state .sheets)) (sym (s .card-is))
+      (ih c all (before ++ (r ∷ [])) (entryOn (h .card) r (getD (t .written) 4 0) ∷ es) (tells h l room p z .stands c all before s)
+      (goes-on h l room p z es q))))
 
 pub follows : (h : Held) (l : List ℕ) (room : ℕ) (c : Card) (all : ℕ) (before : List (List ℕ)) (es : List Entry) → Stands c all before (h .card) room
     → Agrees es (h .sheets) → Agrees (cardHistory c all before (recordsOf l) (recordsOf (runOf h l room .written)) es) (runOf h l room .state .sheets)

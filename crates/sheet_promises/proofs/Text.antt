@@ -24,7 +24,7 @@ use Rattle.listing.specs.Text as text
 use Rattle.listing.specs.Listing as listing
 use Rattle.listing.proofs.Listed.{one-more}
 use Rattle.sheet_text.specs.Printout as printout
-use Rattle.sheets.specs.Step.{Held, held, lineOf, runOf}
+use Rattle.sheets.specs.Step.{Held, holding, sheetStep, runOf}
 use Rattle.sheets.specs.Calls.{Called, callOf}
 use Rattle.sheets.proofs.Lines.{taken, lawful}
 use Rattle.sheet_promises.specs.Bytes.{zeros, fourAt}
@@ -60,14 +60,14 @@ record Reply (r : List ℕ) : Type 0 where
   marked : 128 ≤ wordAt r 2
 
 -- the reply of every record that is taken is one
-core-reply : (c : Card) (l : List ℕ) (room : ℕ) → turnOf c l room .refusal ≡ 0 → Reply (turnOf c l room .reply)
+core-reply : (c : Card) (l : List ℕ) (room : ℕ) → turnOf c l room .refusal ≡ 0 → Reply (turnOf c l room .written)
 core-reply c l room =
-    steps {most = mostPayload} (λ t. t .refusal ≡ 0 → Reply (t .reply)) c l room (λ r a b z. let y : ⊥ = omega arith in absurd y)
+    steps {most = mostPayload} (λ t. t .refusal ≡ 0 → Reply (t .written)) c l room (λ r a b z. let y : ⊥ = omega arith in absurd y)
     (λ e h g z. let d = length-dataOf c e in record { framed = omega arith; five = omega arith; marked = omega arith })
 
-line-reply : (h : Held) (l : List ℕ) (room : ℕ) → lineOf h l room .refusal ≡ 0 → Reply (lineOf h l room .reply)
+line-reply : (h : Held) (l : List ℕ) (room : ℕ) → sheetStep h l room .refusal ≡ 0 → Reply (sheetStep h l room .written)
 line-reply h l room =
-    taken (λ t. Reply (t .reply)) h l room
+    taken (λ t. Reply (t .written)) h l room
     (λ o q g. let a = o .least in record { framed = refl; five = omega arith; marked = omega arith }) (λ y. core-reply (h .card) l room y)
 
 -- and is listed as one, whatever follows
@@ -129,11 +129,11 @@ lines-are =
     through lawful (λ h l room o. (number : ℕ) → listing.linesOf number (o .written) ≡ replyLines number (recordsOf (o .written)))
     (λ h room number. none-listed number) (λ h l room p z number. none-listed number)
     (λ h l room p z more number.
-    let t = lineOf h l room in
+    let t = sheetStep h l room in
     let q = line-reply h l room z in
-    let w = runOf (t .state) (drop (t .size) l) (room - length (t .reply)) .written in
-    listed number (t .reply) w q ∙ ap (λ (k : List ℕ). replyLine number (t .reply) ++ k) (more (number + 1))
-    ∙ sym (ap (replyLines number) (record-then (t .reply) w (q .framed))))
+    let w = runOf (t .state) (drop (t .taken) l) (room - length (t .written)) .written in
+    listed number (t .written) w q ∙ ap (λ (k : List ℕ). replyLine number (t .written) ++ k) (more (number + 1))
+    ∙ sym (ap (replyLines number) (record-then (t .written) w (q .framed))))
 
 -- ---- the sheets and the figures
 
@@ -183,7 +183,7 @@ end-is refusal n = ap₂ (λ (x y : List ℕ). 101 ∷ 110 ∷ 100 ∷ (x ++ (y 
 
 -- the listing, of any answer whose replies are listed one by one
 listing-is : (a : Called) → listing.linesOf 1 (repliesIn (a .replies) (a .report)) ≡ replyLines 1 (recordsOf (repliesIn (a .replies) (a .report)))
-    → listing.printedOf (a .replies) (a .report) ++ Rest a ≡ textOf a
+    → printout.printedOf (a .replies) (a .report) ++ Rest a ≡ textOf a
 listing-is a e =
     ap₂ (λ (x y : List ℕ). (x ++ y) ++ Rest a) e (end-is (getD (a .report) 0 0) (fourAt (a .report) 1))
     ∙ append-assoc (replyLines 1 (recordsOf (repliesIn (a .replies) (a .report)))) (endLine (getD (a .report) 0 0) (fourAt (a .report) 1)) (Rest a)
@@ -197,7 +197,7 @@ call-listed mode rule state sheets input replies report n =
     calls (λ a. listing.linesOf 1 (repliesIn (a .replies) (a .report)) ≡ replyLines 1 (recordsOf (repliesIn (a .replies) (a .report))))
     mode rule state sheets input replies report (λ w. absurd (w n)) (λ r z. none-listed 1)
     (λ p.
-    let h = held (cardIn (given (modeOf mode) (ruleOf rule)) state) sheets in
+    let h = holding (cardIn (given (modeOf mode) (ruleOf rule)) state) sheets in
     let o = runOf h input (length replies) in
     subst (λ (w : List ℕ). listing.linesOf 1 w ≡ replyLines 1 (recordsOf w))
     (sym (read-back (o .written) replies (o .refusal) (o .taken) (few-bytes h input (length replies) (p .input-fits))))
@@ -206,5 +206,5 @@ call-listed mode rule state sheets input replies report n =
 pub sheets-text : SheetsText
 sheets-text mode rule input =
     let a = printout.callUnder mode rule input in
-    ap (λ (k : List ℕ). listing.printedOf (a .replies) (a .report) ++ k) (rest-is a)
+    ap (λ (k : List ℕ). printout.printedOf (a .replies) (a .report) ++ k) (rest-is a)
     ∙ listing-is a (call-listed mode rule (zeros 19) (zeros 1303) input (zeros 65536) (zeros 9) refl)

@@ -13,13 +13,13 @@ use Rattle.state_bytes.specs.Bytes.{isState}
 use Rattle.sheet_bytes.specs.Ledger.{isSheets}
 use Rattle.sheet_figures.specs.Figures.{sum88}
 use Rattle.sheet_figures.specs.Telling.{figuresOf}
-use Rattle.sheets.specs.Step.{isOwn, lineOf}
+use Rattle.sheets.specs.Step.{isOwn, sheetStep}
 use Rattle.sheets.specs.Calls.{callOf}
 use Rattle.listing.specs.Text.{spelled}
 use Rattle.listing.specs.Listing.{hasReply, linesUpTo}
 use Rattle.sheet_promises.specs.TextRows.{TextRows}
 
 pub text-rows : TextRows
-unfolding callOf isState isSheets runBy run lineOf isOwn turnUnder frameUnder pushOf
+unfolding callOf isState isSheets runBy run sheetStep isOwn turnUnder frameUnder pushOf
     popOf readOf commandUnder carried floats statusOf decoded add size figuresOf sum88 value size88 spelled hasReply linesUpTo
 text-rows = record { two-closed = refl; two-serials = refl; long-input = refl }

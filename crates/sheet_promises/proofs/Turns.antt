@@ -18,7 +18,7 @@ use Rattle.stack.specs.Stack.{tos}
 use Rattle.stack.proofs.Words.{byte-at}
 use Rattle.error_memory.specs.Memory.{Card}
 use Rattle.error_memory.proofs.Good.{ReadyCard}
-use Rattle.record_files.specs.Run.{Turned, Outcome, idle}
+use Rattle.record_files.specs.Run.{Outcome, ended}
 use Rattle.record_files.proofs.Append.{alone, first-stops}
 use Rattle.record_files.proofs.Tests.{either-lt, either-eq}
 use Rattle.record_files.proofs.Through.{Tally, tally}
@@ -42,7 +42,7 @@ use Rattle.sheet_bytes.specs.declared.Refusal.the-variants.{StillOpen, NoneOpen
 use Rattle.sheet_bytes.specs.Ledger as ledger
 use Rattle.sheet_bytes.specs.Entering as entering
 use Rattle.sheet_bytes.proofs.Laid.{four}
-use Rattle.sheets.specs.Step.{Held, held, coreBy, lineOf}
+use Rattle.sheets.specs.Step.{Held, holding, coreBy, sheetStep}
 use Rattle.sheets.proofs.Lines.{Owns, own-kind, kind-owned, ways, done, core-took}
 use Rattle.sheet_promises.specs.Bytes.{zeros}
 use Rattle.sheet_promises.specs.Sheets.{isOpen, numberIn, keptBits, opened, kept, closed}
@@ -52,8 +52,8 @@ use Rattle.sheet_promises.proofs.Measures.{dropped-is, opened-is, kept-
 
 -- ---- the book's view of a turn
 
-abbrev pub seen : Turned Held → Ran
-seen t = record { refusal = t .refusal; state = laidOut 21 (t .state .card); sheets = t .state .sheets; taken = t .size; written = t .reply }
+abbrev pub seen : Outcome Held → Ran
+seen t = record { refusal = t .refusal; state = laidOut 21 (t .state .card); sheets = t .state .sheets; taken = t .taken; written = t .written }
 
 -- ---- the frame
 
@@ -82,13 +82,13 @@ frames l f = rw (
 )
 
 -- else the core stops with its number
-pub frame-stops : (c : Card) (l : List ℕ) (room : ℕ) → (framing l ≡ 0 → ⊥) → turnOf c l room ≡ idle (framing l) c
+pub frame-stops : (c : Card) (l : List ℕ) (room : ℕ) → (framing l ≡ 0 → ⊥) → turnOf c l room ≡ ended (framing l) c
 unfolding turnUnder
 frame-stops c l room =
-    either-lt (λ (n : ℕ). (n ≡ 0 → ⊥) → turnOf c l room ≡ idle n c) (length l) 2 _ _ (λ a z. rw (short mostPayload l a)) (λ a.
-    either-lt (λ (n : ℕ). (n ≡ 0 → ⊥) → turnOf c l room ≡ idle n c) (wordAt l 0) 2 _ _ (λ b z. rw (low mostPayload l a b)) (λ b.
-    either-lt (λ (n : ℕ). (n ≡ 0 → ⊥) → turnOf c l room ≡ idle n c) 242 (wordAt l 0) _ _ (λ d z. rw (high mostPayload l a b d)) (λ d.
-    either-lt (λ (n : ℕ). (n ≡ 0 → ⊥) → turnOf c l room ≡ idle n c) (length l) (2 + wordAt l 0) _ _ (λ e z. rw (cut mostPayload l a b d (omega arith))) (λ e z.
+    either-lt (λ (n : ℕ). (n ≡ 0 → ⊥) → turnOf c l room ≡ ended n c) (length l) 2 _ _ (λ a z. rw (short mostPayload l a)) (λ a.
+    either-lt (λ (n : ℕ). (n ≡ 0 → ⊥) → turnOf c l room ≡ ended n c) (wordAt l 0) 2 _ _ (λ b z. rw (low mostPayload l a b)) (λ b.
+    either-lt (λ (n : ℕ). (n ≡ 0 → ⊥) → turnOf c l room ≡ ended n c) 242 (wordAt l 0) _ _ (λ d z. rw (high mostPayload l a b d)) (λ d.
+    either-lt (λ (n : ℕ). (n ≡ 0 → ⊥) → turnOf c l room ≡ ended n c) (length l) (2 + wordAt l 0) _ _ (λ e z. rw (cut mostPayload l a b d (omega arith))) (λ e z.
     absurd (z refl)))))
 
 -- ---- a record of the core, alone
@@ -133,41 +133,38 @@ module _ (l : List ℕ) (f : Framed l) where
       (row-alone mostPayload (wordAt l 2) (wordAt l 0 - 2) (getD (firstRecord l) 4 0) (getD l 4 0) (λ n. getD-take (2 + wordAt l 0) l 4 0 (omega arith)))
 
 -- what stops a record stops it whatever follows
-stop-alone : (c : Card) (l m : List ℕ) (room : ℕ) (h : Head) → (turnBy c l room h .refusal ≡ 0 → ⊥) → turnBy c m room h ≡ idle (turnBy c l room h .refusal) c
+stop-alone : (c : Card) (l m : List ℕ) (room : ℕ) (h : Head) → (turnBy c l room h .refusal ≡ 0 → ⊥) → turnBy c m room h ≡ ended (turnBy c l room h .refusal) c
 stop-alone c l m room (Stop r) z = refl
 stop-alone c l m room (Whole e) z = by (worked c e (answerOf c (take (payloadIn e) (drop 4 l)) e)) (worked c e (answerOf c (take (payloadIn e) (drop 4 m)) e))
     (ltb room (5 + answeredOf e)) refl z
   where
-    by : (p q : Turned Card) (x : Bool) → p .refusal ≡ 0 → (cond {A = Turned Card} x (stoppedAt NoRoom c) p .refusal ≡ 0 → ⊥) → cond x (stoppedAt NoRoom c) q
-        ≡ idle (cond x (stoppedAt NoRoom c) p .refusal) c
+    by : (p q : Outcome Card) (x : Bool) → p .refusal ≡ 0 → (cond {A = Outcome Card} x (stoppedAt NoRoom c) p .refusal ≡ 0 → ⊥) → cond x (stoppedAt NoRoom c) q
+        ≡ ended (cond x (stoppedAt NoRoom c) p .refusal) c
     by p q true w y = refl
     by p q false w y = absurd (y w)
 
 stops-alone : (c : Card) (l : List ℕ) (room : ℕ) → Framed l → (turnOf c l room .refusal ≡ 0 → ⊥) → turnOf c (firstRecord l) room
-    ≡ idle (turnOf c l room .refusal) c
+    ≡ ended (turnOf c l room .refusal) c
 unfolding turnUnder
 stops-alone c l room f z = rw (head-alone l f) (stop-alone c l (firstRecord l) room (headUnder mostPayload l) z)
 
 -- the core's run of the record alone is its turn
-abbrev outcomeOf : Turned Card → Outcome Card
-outcomeOf t = record { refusal = t .refusal; state = t .state; taken = t .size; written = t .reply }
-
-runs-alone : (c : Card) (l : List ℕ) (room : ℕ) → Framed l → coreRun c (firstRecord l) room ≡ outcomeOf (turnOf c l room)
+runs-alone : (c : Card) (l : List ℕ) (room : ℕ) → Framed l → coreRun c (firstRecord l) room ≡ turnOf c l room
 runs-alone c l room f =
-    either-eq (λ (x : ℕ). coreRun c (firstRecord l) room ≡ outcomeOf (turnOf c l room)) (turnOf c l room .refusal) 0 0 0 taken stops
+    either-eq (λ (x : ℕ). coreRun c (firstRecord l) room ≡ turnOf c l room) (turnOf c l room .refusal) 0 0 0 taken stops
   where
-    taken : turnOf c l room .refusal ≡ 0 → coreRun c (firstRecord l) room ≡ outcomeOf (turnOf c l room)
+    taken : turnOf c l room .refusal ≡ 0 → coreRun c (firstRecord l) room ≡ turnOf c l room
     taken z =
         let two = f .two in
-        subst (λ (n : ℕ). coreRun c (take n l) room ≡ outcomeOf (turnOf c l room)) (core-took c l room z .framed)
+        subst (λ (n : ℕ). coreRun c (take n l) room ≡ turnOf c l room) (core-took c l room z .framed)
         (alone core-lawful c l room (omega arith) z
-        ∙ ap (λ (r : ℕ). record { refusal = r; state = turnOf c l room .state; taken = turnOf c l room .size; written = turnOf c l room .reply }) (sym z))
+        ∙ ap (λ (r : ℕ). record { refusal = r; state = turnOf c l room .state; taken = turnOf c l room .taken; written = turnOf c l room .written }) (sym z))
 
-    stops : (turnOf c l room .refusal ≡ 0 → ⊥) → coreRun c (firstRecord l) room ≡ outcomeOf (turnOf c l room)
+    stops : (turnOf c l room .refusal ≡ 0 → ⊥) → coreRun c (firstRecord l) room ≡ turnOf c l room
     stops z =
         let m = first-long l f in
-        first-stops core-lawful c (firstRecord l) room (idle (turnOf c l room .refusal) c) (stops-alone c l room f z) (omega arith) z
-        ∙ ap outcomeOf (sym (core-lawful .stops c l room z .1))
+        first-stops core-lawful c (firstRecord l) room (ended (turnOf c l room .refusal) c) (stops-alone c l room f z) (omega arith) z
+        ∙ sym (core-lawful .stops c l room z .1)
 
 -- ---- what a report says
 
@@ -268,7 +265,7 @@ reply-is kind refusal a b =
 
 module _ (mode rule : ℕ) (m : mode ≤ 1) (q : rule ≤ 1) (c : Card) (r : ReadyCard c) (on : c .on ≡ settingsOf mode rule) where
   core-alone : (l : List ℕ) (room : ℕ) → Framed l
-      → coreCallOf mode rule (laidOut 21 c) (firstRecord l) (zeros room) (zeros 9) ≡ coreRan 21 (outcomeOf (turnOf c l room)) (zeros room)
+      → coreCallOf mode rule (laidOut 21 c) (firstRecord l) (zeros room) (zeros 9) ≡ coreRan 21 (turnOf c l room) (zeros room)
   core-alone l room f =
       let b = f .most in
       let n = first-long l f in
@@ -280,30 +277,30 @@ module _ (mode rule : ℕ) (m : mode ≤ 1) (q : rule ≤ 1) (c : Card) (r : Rea
       ∙ ap (λ (o : Outcome Card). coreRan 21 o (zeros room)) (runs-alone c l room f)
 
   core-seen : (sheets l : List ℕ) (room : ℕ) → length sheets ≡ 1303 → Framed l → coreTurn mode rule (laidOut 21 c) sheets l room
-      ≡ seen (coreBy (held c sheets) (wordAt l 2) (turnOf c l room))
+      ≡ seen (coreBy (holding c sheets) (wordAt l 2) (turnOf c l room))
   core-seen sheets l room long f =
       let t = turnOf c l room in
       ap (fromCore sheets (wordAt l 2)) (core-alone l room f)
       ∙ rw (
         dropped-is sheets long,
-        four-exact (t .size) size,
-        four-exact (length (t .reply)) reply,
-        take-append-seam (t .reply)
-            (drop (length (t .reply)) (zeros room)),
+        four-exact (t .taken) size,
+        four-exact (length (t .written)) reply,
+        take-append-seam (t .written)
+            (drop (length (t .written)) (zeros room)),
       )
     where
-      few : Tally 245 (firstRecord l) room (outcomeOf (turnOf c l room))
+      few : Tally 245 (firstRecord l) room (turnOf c l room)
       few = subst (Tally 245 (firstRecord l) room) (runs-alone c l room f) (tally core-lawful c (firstRecord l) room)
 
-      size : turnOf c l room .size < 4294967296
+      size : turnOf c l room .taken < 4294967296
       size = let a = few .in-file in let b = first-long l f in let d = f .most in omega arith
 
-      reply : length (turnOf c l room .reply) < 4294967296
+      reply : length (turnOf c l room .written) < 4294967296
       reply = let a = few .in-file in let b = first-long l f in let d = f .most in let e = few .few in omega arith
 
   -- every turn
-  pub turn-is : (sheets l : List ℕ) (room : ℕ) → length sheets ≡ 1303 → turn mode rule (laidOut 21 c) sheets l room ≡ seen (lineOf (held c sheets) l room)
-  turn-is sheets l room long = ways (λ t. turn mode rule (laidOut 21 c) sheets l room ≡ seen t) (held c sheets) l room bad full good core
+  pub turn-is : (sheets l : List ℕ) (room : ℕ) → length sheets ≡ 1303 → turn mode rule (laidOut 21 c) sheets l room ≡ seen (sheetStep (holding c sheets) l room)
+  turn-is sheets l room long = ways (λ t. turn mode rule (laidOut 21 c) sheets l room ≡ seen t) (holding c sheets) l room bad full good core
     where
       frame : Owns l → Framed l
       frame o = let a = o .in-range in let b = o .there in record { two = omega arith; least = a; most = o .short; there = b }
@@ -317,7 +314,7 @@ module _ (mode rule : ℕ) (m : mode ≤ 1) (q : rule ≤ 1) (c : Card) (r : Rea
       full : Owns l → wordAt l 0 ≡ 2 + payloadOf (wordAt l 2) → room < 5 → turn mode rule (laidOut 21 c) sheets l room ≡ stopped 8 (laidOut 21 c) sheets
       full o n g = rw (frames l (frame o), own o, eq-eqb _ _ n, lt-ltb room 5 g)
 
-      good : Owns l → wordAt l 0 ≡ 2 + payloadOf (wordAt l 2) → 5 ≤ room → turn mode rule (laidOut 21 c) sheets l room ≡ seen (done (held c sheets) l)
+      good : Owns l → wordAt l 0 ≡ 2 + payloadOf (wordAt l 2) → 5 ≤ room → turn mode rule (laidOut 21 c) sheets l room ≡ seen (done (holding c sheets) l)
       good o n g =
           let kind = wordAt l 2 in
           let d = length-drop 4 l in
@@ -338,9 +335,9 @@ module _ (mode rule : ℕ) (m : mode ≤ 1) (q : rule ≤ 1) (c : Card) (r : Rea
           }) (reply-is kind (entering.numberOf (entering.enteredOf sheets kind (take (payloadOf kind) (drop 4 l)) (c .chip .pending)
           (tos 4 (c .chip .stack)) .refusal)) (o .least) (o .most)))
 
-      core : (Owns l → ⊥) → turn mode rule (laidOut 21 c) sheets l room ≡ seen (coreBy (held c sheets) (wordAt l 2) (turnOf c l room))
+      core : (Owns l → ⊥) → turn mode rule (laidOut 21 c) sheets l room ≡ seen (coreBy (holding c sheets) (wordAt l 2) (turnOf c l room))
       core n =
-          either-eq (λ (x : ℕ). turn mode rule (laidOut 21 c) sheets l room ≡ seen (coreBy (held c sheets) (wordAt l 2) (turnOf c l room))) (framing l) 0 0 0
+          either-eq (λ (x : ℕ). turn mode rule (laidOut 21 c) sheets l room ≡ seen (coreBy (holding c sheets) (wordAt l 2) (turnOf c l room))) (framing l) 0 0 0
           (λ z. let f = framed l z in rw (z, other (isOwnKind (wordAt l 2)) refl f) (core-seen sheets l room long f))
           (λ z. rw (ne-eqb (framing l) 0 z, frame-stops c l room z, ne-eqb (framing l) 0 z))
         where

@@ -15,7 +15,7 @@ use Rattle.state_bytes.specs.Bytes.{isState}
 use Rattle.sheet_bytes.specs.Ledger.{isSheets}
 use Rattle.sheet_figures.specs.Figures.{sum88}
 use Rattle.sheet_figures.specs.Telling.{figuresOf}
-use Rattle.sheets.specs.Step.{isOwn, lineOf}
+use Rattle.sheets.specs.Step.{isOwn, sheetStep}
 use Rattle.sheets.specs.Calls.{callOf}
 use Rattle.sheet_promises.specs.Bytes.{Bytes, zeros, fourAt}
 use Rattle.sheet_promises.specs.Subjects.{SheetsAnswer, FiguresAnswer}
@@ -86,7 +86,7 @@ room = bytes-in (zeros 53) refl
 
 -- ---- what the definitions give
 told : (c : Library) → Meets c → LibraryAnswers c
-unfolding callOf isState isSheets runBy run lineOf isOwn turnUnder frameUnder pushOf figuresOf sum88
+unfolding callOf isState isSheets runBy run sheetStep isOwn turnUnder frameUnder pushOf figuresOf sum88
 told c M =
     let m = M .run 0 0 (zeros 19) (zeros 1303) in
     record {

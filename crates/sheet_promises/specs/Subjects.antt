@@ -4,7 +4,7 @@ use Prim.Native.Nat.{ℕ}
 use mathlib.Core.List.{List}
 use Rattle.state_bytes.specs.Calls.{Called as CoreCalled, callOf as coreCallOf}
 use Rattle.sheets.specs.Calls.{Called, Calls, callOf}
-use Rattle.sheet_figures.specs.Telling.{Told, Tells, figuresOf}
+use Rattle.sheet_figures.specs.Telling.{FiguresCalled, FiguresCalls, figuresOf}
 use Rattle.sheet_text.specs.Printout.{printoutUnder}
 
 -- ---- the core's run: mode, rule, state, input, replies, report
@@ -35,7 +35,7 @@ SheetsAllows = Calls
 
 -- the number returned, and what `out` holds after
 abbrev pub FiguresAnswer : Type 0
-FiguresAnswer = Told
+FiguresAnswer = FiguresCalled
 
 -- what the contract says of it
 abbrev pub figuresCall : List ℕ → List ℕ → FiguresAnswer
@@ -43,7 +43,7 @@ figuresCall = figuresOf
 
 -- what its contract allows beside that answer: a number, and `out` after
 abbrev pub FiguresAllows : FiguresAnswer → ℕ → List ℕ → Type 0
-FiguresAllows = Tells
+FiguresAllows = FiguresCalls
 
 -- ---- the text of `./sheets`: mode, rule, input
 

@@ -8,7 +8,7 @@ use Rattle.state_bytes.specs.Bytes.{isState}
 use Rattle.sheet_bytes.specs.Ledger.{isSheets}
 use Rattle.sheet_figures.specs.Figures.{sum88}
 use Rattle.sheet_figures.specs.Telling.{figuresOf}
-use Rattle.sheets.specs.Step.{isOwn, lineOf}
+use Rattle.sheets.specs.Step.{isOwn, sheetStep}
 use Rattle.sheets.specs.Calls.{callOf}
 use Rattle.listing.specs.Text.{spelled}
 use Rattle.listing.specs.Listing.{hasReply, linesUpTo}
@@ -31,5 +31,5 @@ pub open-printed : printoutOf (6 ∷ 0 ∷ 0 ∷ 1 ∷ 2 ∷ 1 ∷ 0 ∷ 0 ∷ [
     ∷ 114 ∷ 101 ∷ 112 ∷ 101 ∷ 97 ∷ 116 ∷ 101 ∷ 100 ∷ 32 ∷ 48 ∷ 10
     ∷ 105 ∷ 109 ∷ 112 ∷ 114 ∷ 111 ∷ 112 ∷ 101 ∷ 114 ∷ 32 ∷ 48 ∷ 10
     ∷ 115 ∷ 117 ∷ 109 ∷ 32 ∷ 43 ∷ (replicate 48 48 ++ (10 ∷ []))
-unfolding callOf figuresOf sum88 isState isSheets run runBy lineOf isOwn frameUnder spelled hasReply linesUpTo
+unfolding callOf figuresOf sum88 isState isSheets run runBy sheetStep isOwn frameUnder spelled hasReply linesUpTo
 open-printed = refl

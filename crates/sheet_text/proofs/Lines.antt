@@ -2,21 +2,23 @@
 use mathlib.Core.Path.{_≡_, refl, sym, ap, subst, _∙_}
 use mathlib.Core.Bool.{Bool, true, false, cond}
 use mathlib.Core.List.{List, [], _∷_, _++_, append-assoc, append-nil}
-use Prim.Native.Nat.{ℕ, zero, suc, _+_, _*_, _-_, _/_, _%_, _≤_, _<_, zero-le}
+use Prim.Native.Nat.{ℕ, zero, suc, _+_, _*_, _-_, _/_, _%_, _≤_, _<_, zero-le, min}
 use native.Mathlib.Omega.{arith}
 use native.Mathlib.Numerals.{add-one}
-use lib.ListN.{length, take, drop, length-append, length-drop}
-use lib.Seq.{drop-drop, length-take-le}
+use lib.ListN.{length, take, drop, getD, length-append, length-drop}
+use lib.Dec.{leb}
+use borrow.Author.Tests.{leb-true, leb-false}
+use lib.Seq.{drop-drop, length-take-le, take-all}
 use Rattle.numbers.specs.Little.{fourAt}
 use Rattle.sheet_bytes.specs.Ledger.{serialAt, isOpen, lines, linesOf, closedIn}
 use Rattle.sheets.specs.Calls.{Called}
 use Rattle.listing.specs.Options.{askedOf}
 use Rattle.listing.specs.Text.{digit, decimal, Adds}
-use Rattle.listing.specs.Listing.{newline, field, printedOf}
+use Rattle.listing.specs.Listing.{newline, field, listingOf}
 use Rattle.listing.proofs.Adding.{nothing}
 use Rattle.listing.proofs.Decimal.{at-most}
 use Rattle.sheet_text.specs.Printout.{sheetWord, openWord, wordText, wordsText, sheetText, sheetsText, openText, figureText, figuresText, figuresFor}
-use Rattle.sheet_text.specs.Printout.{restText, printedFor, printoutOf, toldOf}
+use Rattle.sheet_text.specs.Printout.{printedOf, restText, printedFor, printoutOf, toldOf}
 
 -- the line of a sheet has room
 pub sheet-length : (l : List ℕ) → length (sheetText l) ≡ length (decimal (fourAt l 0)) + 43
@@ -101,6 +103,25 @@ pub rest-of : (sheets : List ℕ) {figures before after : List ℕ} {place new :
     → Adds (sheetsText (linesOf sheets) ++ (openText sheets ++ figuresText figures)) before after place new → Adds (restText sheets) before after place new
 rest-of sheets {figures} {before} {after} {place} {new} e x =
     subst (λ (f : List ℕ). Adds (sheetsText (linesOf sheets) ++ (openText sheets ++ figuresText f)) before after place new) e x
+
+-- as many as there are, where more are asked for
+take-least : (l : List ℕ) (n most : ℕ) → length l ≡ most → take (min n most) l ≡ take n l
+take-least l n most h = pick (leb n most) refl
+  where
+    pick : (t : Bool) → leb n most ≡ t → take (min n most) l ≡ take n l
+    pick true e = let k = leb-true n most e in let m : min n most ≡ n = omega arith in rw m
+    pick false e =
+        let k = leb-false n most e in
+        let m : min n most ≡ most = omega arith in
+        rw m (take-all most l (omega arith) ∙ sym (take-all n l (omega arith)))
+
+-- what the code reads of the report
+pub as-printed : (replies report : List ℕ) (n written taken : ℕ) → length replies ≡ 65536 → n ≡ min written 65536
+    → written ≡ fourAt report 5 → taken ≡ fourAt report 1 → listingOf (take n replies) (getD report 0 0) taken ≡ printedOf replies report
+as-printed replies report n written taken h a w t =
+    ap (λ (x : List ℕ). listingOf x (getD report 0 0) taken)
+    (ap (λ (k : ℕ). take k replies) a ∙ take-least replies written 65536 h ∙ ap (λ (k : ℕ). take k replies) w)
+    ∙ ap (λ (k : ℕ). listingOf (take (fourAt report 5) replies) (getD report 0 0) k) t
 
 -- what a run left has its text
 pub of-run : (c : Called) {replies report sheets : List ℕ} → replies ≡ c .replies → report ≡ c .report → sheets ≡ c .sheets

@@ -2,14 +2,14 @@
 use Prim.Native.Nat.{ℕ, _+_}
 use mathlib.Core.Bool.{cond}
 use mathlib.Core.List.{List, [], _∷_, _++_}
-use lib.ListN.{getD, drop, replicate}
+use lib.ListN.{getD, take, drop, replicate}
 use Rattle.terms.specs.Limits.{stateBytes, reportBytes}
 use Rattle.numbers.specs.Little.{fourAt}
 use Rattle.sheet_bytes.specs.Ledger.{sheetsBytes, serialAt, linesOf, isOpen}
 use Rattle.sheet_figures.specs.Telling.{figuresBytes, figuresOf}
 use Rattle.sheets.specs.Calls.{Called, callOf}
 use Rattle.listing.specs.Text.{hex}
-use Rattle.listing.specs.Listing.{blank, newline, field, replyRoom, printedOf}
+use Rattle.listing.specs.Listing.{blank, newline, field, replyRoom, listingOf}
 use Rattle.listing.specs.Options.{askedOf, textFor}
 
 -- ---- how much room the parts have behind the listing
@@ -105,11 +105,15 @@ abbrev pub callUnder : ℕ → ℕ → List ℕ → Called
 callUnder mode rule input =
     callOf mode rule (replicate stateBytes 0) (replicate sheetsBytes 0) input (replicate replyRoom 0) (replicate reportBytes 0)
 
+-- the listing of the replies and the report that a run leaves: refusal, bytes taken, bytes of replies written
+abbrev pub printedOf : List ℕ → List ℕ → List ℕ
+printedOf replies report = listingOf (take (fourAt report 5) replies) (getD report 0 0) (fourAt report 1)
+
 -- the closed sheets of a slice, then the open one, then the figures
 abbrev pub restText : List ℕ → List ℕ
 restText sheets = sheetsText (linesOf sheets) ++ (openText sheets ++ figuresText (figuresFor sheets))
 
--- the listing of the replies and the report that a run leaves, then those of its sheets
+-- the listing, then what is printed of the sheets
 abbrev pub printedFor : Called → List ℕ
 printedFor c = printedOf (c .replies) (c .report) ++ restText (c .sheets)
 

@@ -1,18 +1,19 @@
 // What the program of the sheets prints for an input: the run from reset with no sheets, the listing of its replies,
 // a line for each closed sheet, the open one, and the figures. The program only reads, calls this and writes.
 ghost use mathlib.Core.Path.{_≡_};
-ghost use Prim.Native.Nat.{_+_, _*_, _≤_};
+ghost use Prim.Native.Nat.{_+_, _*_, _≤_, min};
 ghost use lib.ListN.{length, take};
 ghost use Rattle.io.specs.Counts.{Counts};
 ghost use Rattle.sheet_bytes.specs.Ledger.{sheetsBytes, mostSheets, placeBytes, closedIn, linesOf};
 ghost use Rattle.sheet_figures.specs.Telling.{figuresBytes};
 ghost use Rattle.listing.specs.Text.{Adds};
+ghost use Rattle.listing.specs.Listing.{textRoom};
 ghost use Rattle.sheet_text.specs.Printout.{lineRoom, openRoom, figuresRoom, restRoom, wordFrom, wordsText};
 ghost use Rattle.sheet_text.specs.Printout.{sheetText, sheetsText, openText, figureText, countsText, figuresText};
-ghost use Rattle.sheet_text.specs.Printout.{restText, printoutUnder, toldOf};
+ghost use Rattle.sheet_text.specs.Printout.{printedOf, restText, printoutUnder, toldOf};
 use listing::REPLY_ROOM;
 use listing::add_field;
-use listing::add_printed;
+use listing::add_listing;
 use listing::options::Asked;
 use listing::options::asked_of;
 use listing::text::add;
@@ -140,6 +141,26 @@ fn add_figures(out: &mut [u8], place: usize, figures: &[u8]) -> usize
     let b = add(out, a, b"sum ");
     let c = add(out, b, &figures[4..]);
     add(out, c, b"\n")
+}
+
+// The lesser of two numbers.
+fn lesser(a: usize, b: usize) -> usize
+    ensures { λ r. ⌜ (r ≡ min a b) × (r ≤ b) ⌝ }
+{
+    if a < b { a } else { b }
+}
+
+// The listing of a run that left these replies and this report, added at the front of a longer text: of the replies
+// those that the report counts as written.
+fn add_printed(out: &mut [u8], replies: &[u8; REPLY_ROOM], report: &[u8; REPORT_BYTES]) -> usize
+    requires { ⌜ textRoom ≤ length (now out) ⌝ }
+    ensures { λ r. ⌜ Adds (printedOf (now (replies .entry)) (now (report .entry))) (now (out .entry)) (now (out .exit))
+        0 r ⌝ }
+    ensures { λ r. ⌜ r ≤ textRoom ⌝ }
+{
+    let n = lesser(four_at(report, 5) as usize, REPLY_ROOM);
+    let all: &[u8] = replies;
+    add_listing(out, &all[..n], report[0], four_at(report, 1))
 }
 
 // What stands behind the listing: the closed sheets, the open one, the figures.

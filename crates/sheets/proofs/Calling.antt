@@ -9,16 +9,19 @@ use Rattle.terms.specs.declared.Refusal.{Refusal}
 use Rattle.terms.specs.declared.Refusal.the-variants.{InputTooLong, BadState, BadMode, BadRule}
 use Rattle.terms.specs.Refusal.{numberOf}
 use Rattle.terms.specs.Limits.{reportBytes, mostInput}
-use Rattle.terms.specs.Settings.{isMode, isRule, modeOf, ruleOf}
+use Rattle.terms.specs.Settings.{Settings, isMode, isRule, modeOf, ruleOf}
 use Rattle.chip.specs.Step.{given}
-use Rattle.error_memory.specs.Memory.{Card}
-use Rattle.record_files.specs.Run.{Outcome, Runs}
+use Rattle.error_memory.specs.Held.{cardUnder}
+use Rattle.record_files.specs.Run.{Outcome}
 use Rattle.record_files.proofs.Through.{through}
+use Rattle.record_runs.specs.Held.{Work, Passed}
+use Rattle.record_runs.proofs.Looping.{counts}
 use Rattle.sheets.proofs.Lines.{lawful}
 use Rattle.state_bytes.specs.Bytes.{isState, cardIn, laidOut, doorOf, reportOf}
 use Rattle.state_bytes.proofs.Calling.{shut}
 use Rattle.sheet_bytes.specs.Ledger.{isSheets}
-use Rattle.sheets.specs.Step.{Held, held, runOf}
+use Rattle.sheets.specs.Step.{Held, holding, runOf}
+use Rattle.sheets.specs.Held.{beside}
 use Rattle.sheets.specs.Calls.{Calls, callOf, ranOf, away}
 
 -- a run ends with 0, or with 5 to 8
@@ -26,15 +29,16 @@ pub run-small : (h : Held) (l : List ℕ) (room : ℕ) → runOf h l room .refus
 run-small = through lawful (λ h l room o. o .refusal ≤ 8) (λ h room. zero-le) (λ h l room p z. lawful .stops h l room z .0 .1) (λ h l room p z more. more)
 
 -- a run of the code, with its state and report laid out
-pub called : (size : ℕ) (o : Outcome Held) (refusal : ℕ) (c : Card) (taken written : ℕ) (input replies left state sheets report : List ℕ)
-    → Runs o refusal (held c sheets) taken written input replies left → state ≡ laidOut size c → report ≡ reportOf refusal taken written
-    → Calls (ranOf size o replies) refusal state sheets left report
-called size o refusal c taken written input replies left state sheets report r a b = record {
-  result-is = r .refusal-is;
+pub called : (size : ℕ) {on : Settings} {o : Outcome Held} {w : Work} (sheets : List ℕ) {n : ℕ} {state report : List ℕ} → Passed (beside on sheets) o w
+    → w .place .taken ≡ 0 → w .place .written ≡ 0 → n ≡ w .pass .refusal → state ≡ laidOut size (cardUnder on (w .pass .card))
+    → report ≡ reportOf (w .pass .refusal) (w .pass .place .taken) (w .pass .place .written)
+    → Calls (ranOf size o (w .room)) n state sheets (w .left) report
+called size sheets r t w e a b = let at = counts r t w in record {
+  result-is = e ∙ r .refusal-is;
   state-is = a ∙ ap (λ (h : Held). laidOut size (h .card)) (r .state-is);
   sheets-is = ap (λ (h : Held). h .sheets) (r .state-is);
   replies-is = r .left-is;
-  report-is = b ∙ rw (r .refusal-is, r .taken-is, r .written-is);
+  report-is = b ∙ rw (r .refusal-is, at .0, at .1);
 }
 
 -- a call that is turned away
@@ -77,7 +81,7 @@ module _ (mode rule : ℕ) (state sheets input replies report : List ℕ) where
       too-long b d e = rw (eq-eqb (length report) reportBytes a, le-leb mode 1 k, le-leb rule 1 q, b, d, lt-ltb mostInput (length input) e)
 
       pub good : isState state ≡ true → isSheets sheets ≡ true → length input ≤ mostInput
-          → callOf mode rule state sheets input replies report ≡ ranOf (length state) (runOf (held (cardIn (given (modeOf mode) (ruleOf rule)) state) sheets)
+          → callOf mode rule state sheets input replies report ≡ ranOf (length state) (runOf (holding (cardIn (given (modeOf mode) (ruleOf rule)) state) sheets)
           input (length replies)) replies
       unfolding callOf
       good b d e = rw (eq-eqb (length report) reportBytes a, le-leb mode 1 k, le-leb rule 1 q, b, d, le-ltb mostInput (length input) e)

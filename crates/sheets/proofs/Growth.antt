@@ -18,7 +18,7 @@ use Rattle.sheet_bytes.specs.Entering.{Entered, refuse, enter, openOf, keepOf, 
 use Rattle.sheet_bytes.proofs.Ledgers.{length-laid, length-line}
 use Rattle.sheet_bytes.proofs.Laid.{four, before-laid, in-laid, byte-behind, byte-of}
 use Rattle.sheet_bytes.proofs.Bits.{bits}
-use Rattle.sheets.specs.Step.{Held, topOf, lineOf, runOf}
+use Rattle.sheets.specs.Step.{Held, topOf, sheetStep, runOf}
 use Rattle.sheets.specs.Growth.{Grown}
 use Rattle.sheets.proofs.Lines.{taken, lawful}
 
@@ -194,7 +194,7 @@ entered-grows l kind payload pending top g n =
             either-lt (Grows l) (keptBits l) 15 _ _ (λ h. same l g) (λ h.
             either-lt (Grows l) (closedIn l) 64 _ _ (λ i. closed-grows l g i) (λ i. same l g))
 
-line-grows : (h : Held) (l : List ℕ) (room : ℕ) → Good (h .sheets) → lineOf h l room .refusal ≡ 0 → Grown (h .sheets) (lineOf h l room .state .sheets)
+line-grows : (h : Held) (l : List ℕ) (room : ℕ) → Good (h .sheets) → sheetStep h l room .refusal ≡ 0 → Grown (h .sheets) (sheetStep h l room .state .sheets)
 line-grows h l room g =
     taken (λ t. Grown (h .sheets) (t .state .sheets)) h l room
     (λ o q r.
@@ -215,5 +215,5 @@ run-grows h l room e =
     (λ h l room p z g. same (h .sheets) g)
     (λ h l room p z ih g.
     let a = line-grows h l room g z in
-    then (h .sheets) (lineOf h l room .state .sheets) _ a (ih (good-again (h .sheets) (lineOf h l room .state .sheets) (g .long) a)))
+    then (h .sheets) (sheetStep h l room .state .sheets) _ a (ih (good-again (h .sheets) (sheetStep h l room .state .sheets) (g .long) a)))
     h l room (good (h .sheets) e)

@@ -11,7 +11,7 @@ use borrow.Author.Tests.{lt-ltb, le-ltb, eq-eqb, ne-eqb, ltb-false}
 use Rattle.numbers.specs.Little.{wordAt}
 use Rattle.terms.specs.declared.Refusal.the-variants.{CutShort}
 use Rattle.terms.specs.Limits.{mostPayload}
-use Rattle.record_files.specs.Run.{Turned, idle}
+use Rattle.record_files.specs.Run.{Outcome, ended}
 use Rattle.record_files.specs.Lawful.{Stopping, Lawful}
 use Rattle.record_files.proofs.Tests.{either-lt, either-eq}
 use Rattle.record_files.proofs.Through.{drop-take}
@@ -25,7 +25,7 @@ use Rattle.record_runs.proofs.Steps.{steps}
 use Rattle.record_runs.proofs.Turning.{length-dataOf}
 use Rattle.record_runs.proofs.Prefix.{lawful as core-lawful}
 use Rattle.sheet_bytes.specs.Entering.{payloadFor}
-use Rattle.sheets.specs.Step.{Held, held, isFramed, isOwnKind, isOwn, entryOf, ownTurn, answered, coreBy, lineOf}
+use Rattle.sheets.specs.Step.{Held, holding, isFramed, isOwnKind, isOwn, entryOf, ownTurn, answered, coreBy, sheetStep}
 
 -- a whole record of this library at the front of a file
 pub record Owns (l : List ℕ) : Type 0 where
@@ -86,17 +86,17 @@ not-own l n = pick (isOwn l) refl
     pick false e = e
 
 -- a record of this library, answered
-abbrev pub done : Held → List ℕ → Turned Held
+abbrev pub done : Held → List ℕ → Outcome Held
 done h l = answered h (wordAt l 2) (entryOf h (wordAt l 2) (take (payloadFor (wordAt l 2)) (drop 4 l)))
 
 -- the ways of the step: nothing done, a record of this library answered, or the core's own
-pub ways : (P : Turned Held → Type 0) (h : Held) (l : List ℕ) (room : ℕ)
-    → (Owns l → (wordAt l 0 ≡ 2 + payloadFor (wordAt l 2) → ⊥) → P (idle 7 h))
-    → (Owns l → wordAt l 0 ≡ 2 + payloadFor (wordAt l 2) → room < 5 → P (idle 8 h))
+pub ways : (P : Outcome Held → Type 0) (h : Held) (l : List ℕ) (room : ℕ)
+    → (Owns l → (wordAt l 0 ≡ 2 + payloadFor (wordAt l 2) → ⊥) → P (ended 7 h))
+    → (Owns l → wordAt l 0 ≡ 2 + payloadFor (wordAt l 2) → room < 5 → P (ended 8 h))
     → (Owns l → wordAt l 0 ≡ 2 + payloadFor (wordAt l 2) → 5 ≤ room → P (done h l))
     → ((Owns l → ⊥) → P (coreBy h (wordAt l 2) (turnOf (h .card) l room)))
-    → P (lineOf h l room)
-unfolding lineOf
+    → P (sheetStep h l room)
+unfolding sheetStep
 ways P h l room bad full good core = pick (isOwn l) refl
   where
     pick : (b : Bool) → isOwn l ≡ b → P (cond b (ownTurn h l room) (coreBy h (wordAt l 2) (turnOf (h .card) l room)))
@@ -108,19 +108,19 @@ ways P h l room bad full good core = pick (isOwn l) refl
 -- ---- the core's turn
 
 -- with the sheets as they stand
-abbrev plain : Held → Turned Card → Turned Held
-plain h t = record { refusal = t .refusal; state = held (t .state) (h .sheets); size = t .size; reply = t .reply }
+abbrev plain : Held → Outcome Card → Outcome Held
+plain h t = record { refusal = t .refusal; state = holding (t .state) (h .sheets); taken = t .taken; written = t .written }
 
-idle-core : (h : Held) (kind : ℕ) (t : Turned Card) → (t .refusal ≡ 0 → ⊥) → t ≡ idle (t .refusal) (h .card) → coreBy h kind t ≡ idle (t .refusal) h
-idle-core h kind t z e = rw (ne-eqb (t .refusal) 0 z) (ap (plain h) e)
+ended-core : (h : Held) (kind : ℕ) (t : Outcome Card) → (t .refusal ≡ 0 → ⊥) → t ≡ ended (t .refusal) (h .card) → coreBy h kind t ≡ ended (t .refusal) h
+ended-core h kind t z e = rw (ne-eqb (t .refusal) 0 z) (ap (plain h) e)
 
 -- a record that the core takes: its kind and its bytes, and those of its reply
-pub record CoreTook (l : List ℕ) (t : Turned Card) : Type 0 where
+pub record CoreTook (l : List ℕ) (t : Outcome Card) : Type 0 where
   pub kind-is : wordAt l 2 ≤ 8
-  pub four : 4 ≤ t .size
-  pub framed : t .size ≡ 2 + wordAt l 0
-  pub reply-framed : length (t .reply) ≡ 2 + wordAt (t .reply) 0
-  pub reply-low : wordAt (t .reply) 2 < 32768
+  pub four : 4 ≤ t .taken
+  pub framed : t .taken ≡ 2 + wordAt l 0
+  pub reply-framed : length (t .written) ≡ 2 + wordAt (t .written) 0
+  pub reply-low : wordAt (t .written) 2 < 32768
 
 kinds : (e : Event) → kindOf e ≤ 8
 kinds (Push n) = lit≤ tt
@@ -146,6 +146,10 @@ core-took c l room =
       reply-low = omega arith;
     })
 
+-- it has four bytes
+pub core-four : (c : Card) (l : List ℕ) (room : ℕ) → turnOf c l room .refusal ≡ 0 → 4 ≤ length l
+core-four c l room z = omega (arith, core-took c l room z .four, core-lawful .within c l room z)
+
 -- ---- the step is lawful
 
 -- the first bytes of two files
@@ -163,7 +167,7 @@ module _ (n : ℕ) (l m : List ℕ) (same : take n l ≡ take n m) where
 
 -- a record that a cut goes through
 cut-core : (c : Card) (l : List ℕ) (room k : ℕ) → k ≤ length l → 2 ≤ wordAt l 0 → wordAt l 0 ≤ 2 + mostPayload → k < 2 + wordAt l 0
-    → turnOf c (take k l) room ≡ idle 6 c
+    → turnOf c (take k l) room ≡ ended 6 c
 unfolding turnUnder
 cut-core c l room k most a b i = rw frame
   where
@@ -186,11 +190,11 @@ cut-own l k most i o =
     let w : wordAt (take k l) 0 ≡ wordAt l 0 = rw (getD-take k l 0 0 (omega arith), getD-take k l 1 0 (omega arith)) in
     omega arith
 
-abbrev Alike : Held → List ℕ → List ℕ → ℕ → Turned Held → Type 0
-Alike h l m more t = t .refusal ≡ 0 → take (t .size) l ≡ take (t .size) m → t .size ≤ length m → length (t .reply) ≤ more → lineOf h m more ≡ t
+abbrev Alike : Held → List ℕ → List ℕ → ℕ → Outcome Held → Type 0
+Alike h l m more t = t .refusal ≡ 0 → take (t .taken) l ≡ take (t .taken) m → t .taken ≤ length m → length (t .written) ≤ more → sheetStep h m more ≡ t
 
 own-too : (h : Held) (l m : List ℕ) (more : ℕ) → Owns l → wordAt l 0 ≡ 2 + payloadFor (wordAt l 2) → Alike h l m more (done h l)
-unfolding lineOf
+unfolding sheetStep
 own-too h l m more o q z same fits has =
     let n = payloadFor (wordAt l 2) in
     let a : wordAt m 0 ≡ wordAt l 0 = word-too (4 + n) l m same 0 (omega arith) in
@@ -206,29 +210,29 @@ own-too h l m more o q z same fits has =
     rw (is-own m own, a, b, p, eq-eqb (wordAt l 0) (2 + n) q, le-ltb more 5 (omega arith))
 
 core-too : (h : Held) (l m : List ℕ) (room more : ℕ) → Alike h l m more (coreBy h (wordAt l 2) (turnOf (h .card) l room))
-unfolding lineOf
+unfolding sheetStep
 core-too h l m room more z same fits has =
     let t = turnOf (h .card) l room in
     let c = core-took (h .card) l room z in
-    let b : wordAt m 2 ≡ wordAt l 2 = word-too (t .size) l m same 2 (omega (arith, c .four)) in
+    let b : wordAt m 2 ≡ wordAt l 2 = word-too (t .taken) l m same 2 (omega (arith, c .four)) in
     let k = c .kind-is in
     rw (not-own m (λ o. let y = o .least in omega arith), b, core-lawful .alike (h .card) l m room more z same fits has)
 
-alike : (h : Held) (l m : List ℕ) (room more : ℕ) → Alike h l m more (lineOf h l room)
+alike : (h : Held) (l m : List ℕ) (room more : ℕ) → Alike h l m more (sheetStep h l room)
 alike h l m room more =
     ways (Alike h l m more) h l room (λ o q z. let y : ⊥ = omega arith in absurd y) (λ o q g z. let y : ⊥ = omega arith in absurd y)
     (λ o q g. own-too h l m more o q) (λ n. core-too h l m room more)
 
 -- cut through
-abbrev Cut : Held → List ℕ → ℕ → ℕ → Turned Held → Type 0
-Cut h l room k t = t .refusal ≡ 0 → k < t .size → lineOf h (take k l) room ≡ idle 6 h
+abbrev Cut : Held → List ℕ → ℕ → ℕ → Outcome Held → Type 0
+Cut h l room k t = t .refusal ≡ 0 → k < t .taken → sheetStep h (take k l) room ≡ ended 6 h
 
-cut-line : (h : Held) (l : List ℕ) (room k : ℕ) → (Owns (take k l) → ⊥) → turnOf (h .card) (take k l) room ≡ idle 6 (h .card)
-    → lineOf h (take k l) room ≡ idle 6 h
-unfolding lineOf
+cut-line : (h : Held) (l : List ℕ) (room k : ℕ) → (Owns (take k l) → ⊥) → turnOf (h .card) (take k l) room ≡ ended 6 (h .card)
+    → sheetStep h (take k l) room ≡ ended 6 h
+unfolding sheetStep
 cut-line h l room k n e = rw (not-own (take k l) n, e)
 
-cut-through : (h : Held) (l : List ℕ) (room k : ℕ) → k ≤ length l → Cut h l room k (lineOf h l room)
+cut-through : (h : Held) (l : List ℕ) (room k : ℕ) → k ≤ length l → Cut h l room k (sheetStep h l room)
 cut-through h l room k most =
     ways (Cut h l room k) h l room (λ o q z. let y : ⊥ = omega arith in absurd y) (λ o q g z. let y : ⊥ = omega arith in absurd y)
     (λ o q g z i. cut-line h l room k (cut-own l k most (omega arith)) (cut-core (h .card) l room k most (o .in-range) (o .short) (omega arith)))
@@ -236,29 +240,29 @@ cut-through h l room k most =
     let f = core-took (h .card) l room z .framed in
     cut-line h l room k (cut-own l k most (omega arith)) (core-lawful .cut-through (h .card) l room k most z i))
 
-stops : (h : Held) (l : List ℕ) (room : ℕ) → (lineOf h l room .refusal ≡ 0 → ⊥)
-    → Stopping (lineOf h l room .refusal) × (lineOf h l room ≡ idle (lineOf h l room .refusal) h)
+stops : (h : Held) (l : List ℕ) (room : ℕ) → (sheetStep h l room .refusal ≡ 0 → ⊥)
+    → Stopping (sheetStep h l room .refusal) × (sheetStep h l room ≡ ended (sheetStep h l room .refusal) h)
 stops h l room =
-    ways (λ t. (t .refusal ≡ 0 → ⊥) → Stopping (t .refusal) × (t ≡ idle (t .refusal) h)) h l room
+    ways (λ t. (t .refusal ≡ 0 → ⊥) → Stopping (t .refusal) × (t ≡ ended (t .refusal) h)) h l room
     (λ o q z. ((lit≤ tt, lit≤ tt), refl)) (λ o q g z. ((lit≤ tt, lit≤ tt), refl)) (λ o q g z. absurd (z refl))
-    (λ n z. let c = core-lawful .stops (h .card) l room z in (c .0, idle-core h (wordAt l 2) (turnOf (h .card) l room) z (c .1)))
+    (λ n z. let c = core-lawful .stops (h .card) l room z in (c .0, ended-core h (wordAt l 2) (turnOf (h .card) l room) z (c .1)))
 
 -- what holds of a record that is taken
-pub taken : (P : Turned Held → Type 0) (h : Held) (l : List ℕ) (room : ℕ)
+pub taken : (P : Outcome Held → Type 0) (h : Held) (l : List ℕ) (room : ℕ)
     → (Owns l → wordAt l 0 ≡ 2 + payloadFor (wordAt l 2) → 5 ≤ room → P (done h l))
     → (turnOf (h .card) l room .refusal ≡ 0 → P (coreBy h (wordAt l 2) (turnOf (h .card) l room)))
-    → lineOf h l room .refusal ≡ 0 → P (lineOf h l room)
+    → sheetStep h l room .refusal ≡ 0 → P (sheetStep h l room)
 taken P h l room good core =
     ways (λ t. t .refusal ≡ 0 → P t) h l room (λ o q z. let y : ⊥ = omega arith in absurd y) (λ o q g z. let y : ⊥ = omega arith in absurd y)
     (λ o q g z. good o q g) (λ n z. core z)
 
-pub lawful : Lawful (5 + mostPayload) lineOf
+pub lawful : Lawful (5 + mostPayload) sheetStep
 lawful = record {
   stops = stops;
-  moves = λ h l room. taken (λ t. 0 < t .size) h l room (λ o q g. omega arith) (λ z. core-lawful .moves (h .card) l room z);
-  within = λ h l room. taken (λ t. t .size ≤ length l) h l room (λ o q g. omega (arith, o .there)) (λ z. core-lawful .within (h .card) l room z);
-  fits = λ h l room. taken (λ t. length (t .reply) ≤ room) h l room (λ o q g. g) (λ z. core-lawful .fits (h .card) l room z);
-  few = λ h l room. taken (λ t. length (t .reply) ≤ (5 + mostPayload) * t .size) h l room (λ o q g. omega arith) (λ z. core-lawful .few (h .card) l room z);
+  moves = λ h l room. taken (λ t. 0 < t .taken) h l room (λ o q g. omega arith) (λ z. core-lawful .moves (h .card) l room z);
+  within = λ h l room. taken (λ t. t .taken ≤ length l) h l room (λ o q g. omega (arith, o .there)) (λ z. core-lawful .within (h .card) l room z);
+  fits = λ h l room. taken (λ t. length (t .written) ≤ room) h l room (λ o q g. g) (λ z. core-lawful .fits (h .card) l room z);
+  few = λ h l room. taken (λ t. length (t .written) ≤ (5 + mostPayload) * t .taken) h l room (λ o q g. omega arith) (λ z. core-lawful .few (h .card) l room z);
   alike = alike;
   cut-through = cut-through;
 }

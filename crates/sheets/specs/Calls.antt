@@ -14,7 +14,7 @@ use Rattle.chip.specs.Step.{given}
 use Rattle.record_files.specs.Run.{Outcome}
 use Rattle.state_bytes.specs.Bytes.{isState, cardIn, laidOut, reportOf}
 use Rattle.sheet_bytes.specs.Ledger.{isSheets}
-use Rattle.sheets.specs.Step.{Held, held, runOf}
+use Rattle.sheets.specs.Step.{Held, holding, runOf}
 
 -- what the call returns, and what each slice holds after
 pub record Called : Type 0 where
@@ -44,7 +44,7 @@ callUnder on state sheets input replies =
     cond (isState state)
     (cond (isSheets sheets)
     (cond (ltb mostInput (length input)) (away InputTooLong state sheets replies)
-    (ranOf (length state) (runOf (held (cardIn on state) sheets) input (length replies)) replies))
+    (ranOf (length state) (runOf (holding (cardIn on state) sheets) input (length replies)) replies))
     (away BadState state sheets replies))
     (away BadState state sheets replies)
 

@@ -4,7 +4,7 @@ use mathlib.Core.Bool.{Bool, true, false, not, cond}
 use mathlib.Core.List.{List, [], _∷_, _++_}
 use lib.Dec.{eqb, ltb}
 use Rattle.numbers.specs.Little.{wordAt, le2}
-use Rattle.record_files.specs.Run.{Turned, Outcome, RecordStep, idle, runBy}
+use Rattle.record_files.specs.Run.{Outcome, RecordStep, ended, runBy}
 use Rattle.terms.specs.Limits.{mostPayload}
 use Rattle.terms.specs.declared.Refusal.the-variants.{BadLength, NoRoom}
 use Rattle.terms.specs.Refusal.{numberOf as coreNumber}
@@ -21,8 +21,8 @@ pub record Held : Type 0 where
   pub card : Card
   pub sheets : List ℕ
 
-abbrev pub held : Card → List ℕ → Held
-held card sheets = record { card = card; sheets = sheets }
+abbrev pub holding : Card → List ℕ → Held
+holding card sheets = record { card = card; sheets = sheets }
 
 -- ---- which record is this library's
 
@@ -46,12 +46,12 @@ abbrev pub ownReply : ℕ → ℕ → List ℕ
 ownReply kind refusal = le2 3 ++ (le2 (kind + 32768) ++ (refusal ∷ []))
 
 -- answered: the card stays
-abbrev pub answered : Held → ℕ → Entered → Turned Held
+abbrev pub answered : Held → ℕ → Entered → Outcome Held
 answered h kind e = record {
   refusal = 0;
-  state = held (h .card) (e .sheets);
-  size = 4 + payloadFor kind;
-  reply = ownReply kind (numberOf (e .refusal));
+  state = holding (h .card) (e .sheets);
+  taken = 4 + payloadFor kind;
+  written = ownReply kind (numberOf (e .refusal));
 }
 
 -- the 32-bit word on top of the card's stack
@@ -63,11 +63,11 @@ abbrev pub entryOf : Held → ℕ → List ℕ → Entered
 entryOf h kind payload = enteredOf (h .sheets) kind payload (h .card .chip .pending) (topOf (h .card))
 
 -- 7 for another payload, 8 with no room for the reply, else answered
-abbrev pub ownTurn : Held → List ℕ → ℕ → Turned Held
+abbrev pub ownTurn : Held → List ℕ → ℕ → Outcome Held
 ownTurn h l room =
     cond (eqb (wordAt l 0) (2 + payloadFor (wordAt l 2)))
-    (cond (ltb room 5) (idle (coreNumber NoRoom) h) (answered h (wordAt l 2) (entryOf h (wordAt l 2) (bytesAt l 4 (payloadFor (wordAt l 2))))))
-    (idle (coreNumber BadLength) h)
+    (cond (ltb room 5) (ended (coreNumber NoRoom) h) (answered h (wordAt l 2) (entryOf h (wordAt l 2) (bytesAt l 4 (payloadFor (wordAt l 2))))))
+    (ended (coreNumber BadLength) h)
 
 -- ---- the core's turn
 
@@ -75,18 +75,18 @@ ownTurn h l room =
 abbrev pub sheetsAfter : List ℕ → ℕ → ℕ → List ℕ
 sheetsAfter sheets kind refusal = cond (eqb refusal 0) (cond (eqb kind 5) (dropped sheets) sheets) sheets
 
-abbrev pub coreBy : Held → ℕ → Turned Card → Turned Held
+abbrev pub coreBy : Held → ℕ → Outcome Card → Outcome Held
 coreBy h kind t = record {
   refusal = t .refusal;
-  state = held (t .state) (sheetsAfter (h .sheets) kind (t .refusal));
-  size = t .size;
-  reply = t .reply;
+  state = holding (t .state) (sheetsAfter (h .sheets) kind (t .refusal));
+  taken = t .taken;
+  written = t .written;
 }
 
 -- ---- the step and the run
 
-unfoldable pub lineOf : RecordStep Held
-lineOf h l room = cond (isOwn l) (ownTurn h l room) (coreBy h (wordAt l 2) (turnOf (h .card) l room))
+unfoldable pub sheetStep : RecordStep Held
+sheetStep h l room = cond (isOwn l) (ownTurn h l room) (coreBy h (wordAt l 2) (turnOf (h .card) l room))
 
 abbrev pub runOf : Held → List ℕ → ℕ → Outcome Held
-runOf h l room = runBy lineOf h l room
+runOf h l room = runBy sheetStep h l room

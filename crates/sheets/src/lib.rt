@@ -9,8 +9,7 @@ use sheet_bytes::bytes::is_sheets;
 use sheet_figures::put_figures;
 use state_bytes::admit;
 use state_bytes::card_in;
-use state_bytes::fill_report;
-use state_bytes::put_card;
+use state_bytes::settle;
 use state_bytes::turn_away;
 use terms::Mode;
 use terms::Refusal;
@@ -26,8 +25,8 @@ ghost use Rattle.terms.specs.Limits.{reportBytes, mostInput};
 ghost use Rattle.chip.specs.Step.{given};
 ghost use Rattle.state_bytes.specs.Bytes.{isState, cardIn};
 ghost use Rattle.sheet_bytes.specs.Ledger.{sheetsBytes};
-ghost use Rattle.sheet_figures.specs.Telling.{figuresOf, Tells};
-ghost use Rattle.sheets.specs.Step.{held, runOf};
+ghost use Rattle.sheet_figures.specs.Telling.{figuresOf, FiguresCalls};
+ghost use Rattle.sheets.specs.Step.{holding, runOf};
 ghost use Rattle.sheets.specs.Calls.{Calls, callOf, ranOf};
 
 // The run on a good state and good sheets, which are worked where they lie; reported.
@@ -43,16 +42,12 @@ fn run_good(
     requires { ⌜ (isState (now state) ≡ true) × (length (now sheets) ≡ sheetsBytes) ×
         (length (now report) ≡ reportBytes) × (length (now input) ≤ mostInput) ⌝ }
     ensures { λ r. ⌜ Calls (ranOf (length (now (state .entry)))
-        (runOf (held (cardIn (given mode rule) (now (state .entry))) (now (sheets .entry))) (now (input .entry))
+        (runOf (holding (cardIn (given mode rule) (now (state .entry))) (now (sheets .entry))) (now (input .entry))
         (length (now (replies .entry)))) (now (replies .entry))) r (now (state .exit)) (now (sheets .exit))
         (now (replies .exit)) (now (report .exit)) ⌝ }
 {
     let r = run_lines(card_in(state), mode, rule, sheets, input, replies);
-    let chip = r.card.chip;
-    let memory = r.card.memory;
-    put_card(state, chip, memory);
-    fill_report(report, r.refusal as u8, r.place.taken, r.place.written);
-    r.refusal as u32
+    settle(r, state, report)
 }
 
 // A file of records run on a state and on sheets. Returns the refusal; 14, then 16, 17, 13, 9 before any record.
@@ -96,7 +91,7 @@ pub extern "C" fn sheets_run(
 // words that are not proper, the exact sum. Returns the refusal; 8, then 13; only on 0 is `out` written.
 #[no_mangle]
 pub extern "C" fn sheets_figures(sheets: &[u8], out: &mut [u8]) -> u32
-    ensures { λ r. ⌜ Tells (figuresOf (now (sheets .entry)) (now (out .entry))) r (now (out .exit)) ⌝ }
+    ensures { λ r. ⌜ FiguresCalls (figuresOf (now (sheets .entry)) (now (out .entry))) r (now (out .exit)) ⌝ }
 {
     put_figures(sheets, out)
 }

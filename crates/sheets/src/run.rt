@@ -12,9 +12,9 @@ ghost use lib.ListN.{length};
 ghost use Rattle.terms.specs.Limits.{mostInput};
 ghost use Rattle.chip.specs.Step.{given};
 ghost use Rattle.sheet_bytes.specs.Ledger.{sheetsBytes};
-ghost use Rattle.error_memory.specs.Held.{cardUnder};
-ghost use Rattle.sheets.specs.Step.{held, runOf};
-ghost use Rattle.sheets.specs.Held.{Ran};
+ghost use Rattle.record_runs.specs.Held.{atStart, Passed};
+ghost use Rattle.sheets.specs.Step.{runOf};
+ghost use Rattle.sheets.specs.Held.{beside};
 
 // Every record of `input` in turn, until one is refused or none is left. The state is laid down part by part, as in the
 // core's run.
@@ -28,10 +28,16 @@ pub fn run_lines(
 ) -> Pass
     requires { ⌜ (start .chip .status < 128) × (length (now sheets) ≡ sheetsBytes) ×
         (length (now input) ≤ mostInput) ⌝ }
-    ensures { λ r. ⌜ Ran (given mode rule)
-        (runOf (held (cardUnder (given mode rule) start) (now (sheets .entry))) (now (input .entry))
-        (length (now (replies .entry)))) r (now (sheets .exit)) (now (input .entry)) (now (replies .entry))
-        (now (replies .exit)) ⌝ }
+    ensures { λ r. ⌜ Passed (beside (given mode rule) (now (sheets .exit)))
+        (runOf (beside (given mode rule) (now (sheets .entry)) start) (now (input .entry))
+        (length (now (replies .entry))))
+        (record {
+          place = atStart (length (now (input .entry))) (length (now (replies .entry)));
+          card = start;
+          room = now (replies .entry);
+          pass = r;
+          left = now (replies .exit);
+        }) ⌝ }
 {
     let mut card = start;
     let mut place = begin(input.len(), replies.len());

@@ -26,10 +26,9 @@ ghost use Prim.Native.Nat.{_<_};
 ghost use lib.ListN.{length};
 ghost use Rattle.chip.specs.Step.{given};
 ghost use Rattle.sheet_bytes.specs.Ledger.{sheetsBytes};
-ghost use Rattle.error_memory.specs.Held.{cardUnder};
-ghost use Rattle.record_runs.specs.Held.{Begins, Stands};
-ghost use Rattle.sheets.specs.Step.{held, isOwn, lineOf};
-ghost use Rattle.sheets.specs.Held.{Passed, PassesOwn, PassesCore};
+ghost use Rattle.record_runs.specs.Held.{Begins, Stands, Passed};
+ghost use Rattle.sheets.specs.Step.{isOwn, sheetStep};
+ghost use Rattle.sheets.specs.Held.{beside, PassesOwn, PassesCore};
 
 // Whether a whole record of this library stands at the front of `rest`.
 fn is_own(rest: &[u8], place: Place) -> bool
@@ -55,8 +54,8 @@ fn is_own(rest: &[u8], place: Place) -> bool
 // A record of this library.
 fn pass_own(card: Card, sheets: &mut [u8], rest: &[u8], room: &mut [u8], place: Place) -> Pass
     requires { ⌜ (length (now sheets) ≡ sheetsBytes) × (isOwn (now rest) ≡ true) × Stands place (length (now room)) ⌝ }
-    ensures { λ r. ⌜ PassesOwn place card (now (sheets .entry)) r (now (sheets .exit)) (now (rest .entry))
-        (now (room .entry)) (now (room .exit)) ⌝ }
+    ensures { λ r. ⌜ PassesOwn (now (sheets .entry)) (now (sheets .exit)) (now (rest .entry))
+        (record { place = place; card = card; room = now (room .entry); pass = r; left = now (room .exit) }) ⌝ }
 {
     let kind = two(rest[2], rest[3]);
     let wanted = payload_for(kind);
@@ -88,8 +87,8 @@ fn pass_core(
 ) -> Pass
     requires { ⌜ (card .chip .status < 128) × (length (now sheets) ≡ sheetsBytes) × Begins place (length (now rest)) ×
         Stands place (length (now room)) ⌝ }
-    ensures { λ r. ⌜ PassesCore (given mode rule) place card (now (sheets .entry)) r (now (sheets .exit))
-        (now (rest .entry)) (now (room .entry)) (now (room .exit)) ⌝ }
+    ensures { λ r. ⌜ PassesCore (given mode rule) (now (sheets .entry)) (now (sheets .exit)) (now (rest .entry))
+        (record { place = place; card = card; room = now (room .entry); pass = r; left = now (room .exit) }) ⌝ }
 {
     let t = pass_record(card, mode, rule, rest, room, place);
     let refusal = t.refusal;
@@ -115,10 +114,10 @@ pub fn pass_line(
 ) -> Pass
     requires { ⌜ (card .chip .status < 128) × (length (now sheets) ≡ sheetsBytes) × Begins place (length (now rest)) ×
         Stands place (length (now room)) ⌝ }
-    ensures { λ r. ⌜ Passed (given mode rule) place
-        (lineOf (held (cardUnder (given mode rule) card) (now (sheets .entry))) (now (rest .entry))
-        (length (now (room .entry)))) r (now (sheets .exit)) (now (rest .entry)) (now (room .entry))
-        (now (room .exit)) ⌝ }
+    ensures { λ r. ⌜ Passed (beside (given mode rule) (now (sheets .exit)))
+        (sheetStep (beside (given mode rule) (now (sheets .entry)) card) (now (rest .entry))
+        (length (now (room .entry))))
+        (record { place = place; card = card; room = now (room .entry); pass = r; left = now (room .exit) }) ⌝ }
 {
     if is_own(rest, place) {
         return pass_own(card, sheets, rest, room, place);

@@ -5,7 +5,6 @@ pub mod Layouts
 pub mod Moves
 pub mod Diagrams
 pub mod Several
-pub mod Round
 pub mod Windows
 pub mod TwoWords
 pub mod Reversed

@@ -1,69 +1,31 @@
--- The stack diagrams of the sheets, which their texts have lost, in the letters of document 01: 16-bit words a to h, 32-bit words A to D, R on top.
+-- The stack diagrams of the sheets, which their texts have lost: 16-bit words A to H, 32-bit words A to D, R on top.
 -- Definitions and the statement only: proofs/Diagrams.antt proves it. Assumes nothing.
-use Prim.Native.Nat.{ℕ}
+use Prim.Native.Nat.{ℕ, _*_}
 use mathlib.Core.Path.{_≡_}
 use mathlib.Core.List.{List, [], _∷_, _++_}
 use lib.ListN.{take, drop}
 use Rattle.stack.specs.Stack.{bytesOf, zeros, overA, overZero, replaced, rotated, copied, exchanged, pushedWord, converted, widened, narrowed}
 
--- the 16-bit words of a stack
-abbrev pub a : List ℕ → List ℕ
-a s = take 2 s
-
-abbrev pub b : List ℕ → List ℕ
-b s = take 2 (drop 2 s)
-
-abbrev pub c : List ℕ → List ℕ
-c s = take 2 (drop 4 s)
-
-abbrev pub d : List ℕ → List ℕ
-d s = take 2 (drop 6 s)
-
-abbrev pub e : List ℕ → List ℕ
-e s = take 2 (drop 8 s)
-
-abbrev pub f : List ℕ → List ℕ
-f s = take 2 (drop 10 s)
-
-abbrev pub g : List ℕ → List ℕ
-g s = take 2 (drop 12 s)
-
-abbrev pub h : List ℕ → List ℕ
-h s = take 2 (drop 14 s)
-
--- the 32-bit words of a stack
-abbrev pub A : List ℕ → List ℕ
-A s = take 4 s
-
-abbrev pub B : List ℕ → List ℕ
-B s = take 4 (drop 4 s)
-
-abbrev pub C : List ℕ → List ℕ
-C s = take 4 (drop 8 s)
-
-abbrev pub D : List ℕ → List ℕ
-D s = take 4 (drop 12 s)
-
--- a diagram: words from the top down
-abbrev pub stacked : List (List ℕ) → List ℕ
-stacked [] = []
-stacked (w ∷ ws) = w ++ stacked ws
+-- words of n bytes from the top down, by their places in a stack: the sheets' A is 0, B 1, and so on to H
+abbrev pub words : ℕ → List ℕ → List ℕ → List ℕ
+words n s [] = []
+words n s (i ∷ l) = take n (drop (n * i) s) ++ words n s l
 
 -- each stack after, of a stack s and a result r of 16 or of 32 bits
 pub record Diagrams (s : List ℕ) (r : ℕ) : Type 0 where
-  pub sadd-ssub : overA 2 s r ≡ stacked (bytesOf 2 r ∷ c s ∷ d s ∷ e s ∷ f s ∷ g s ∷ h s ∷ a s ∷ [])
-  pub dadd-dsub : overA 4 s r ≡ stacked (bytesOf 4 r ∷ C s ∷ D s ∷ A s ∷ [])
-  pub smul-smuu-sdiv : overZero 2 s r ≡ stacked (bytesOf 2 r ∷ c s ∷ d s ∷ e s ∷ f s ∷ g s ∷ h s ∷ zeros 2 ∷ [])
-  pub dmul-dmuu-ddiv-float : overZero 4 s r ≡ stacked (bytesOf 4 r ∷ C s ∷ D s ∷ zeros 4 ∷ [])
-  pub chss : replaced 2 s r ≡ stacked (bytesOf 2 r ∷ b s ∷ c s ∷ d s ∷ e s ∷ f s ∷ g s ∷ h s ∷ [])
-  pub chsd-chsf : replaced 4 s r ≡ stacked (bytesOf 4 r ∷ B s ∷ C s ∷ D s ∷ [])
-  pub pops : rotated 2 s ≡ stacked (b s ∷ c s ∷ d s ∷ e s ∷ f s ∷ g s ∷ h s ∷ a s ∷ [])
-  pub popd-popf : rotated 4 s ≡ stacked (B s ∷ C s ∷ D s ∷ A s ∷ [])
-  pub ptos : copied 2 s ≡ stacked (a s ∷ a s ∷ b s ∷ c s ∷ d s ∷ e s ∷ f s ∷ g s ∷ [])
-  pub ptod-ptof : copied 4 s ≡ stacked (A s ∷ A s ∷ B s ∷ C s ∷ [])
-  pub xchs : exchanged 2 s ≡ stacked (b s ∷ a s ∷ c s ∷ d s ∷ e s ∷ f s ∷ g s ∷ h s ∷ [])
-  pub xchd-xchf : exchanged 4 s ≡ stacked (B s ∷ A s ∷ C s ∷ D s ∷ [])
-  pub pupi : pushedWord s r ≡ stacked (bytesOf 4 r ∷ A s ∷ B s ∷ C s ∷ [])
-  pub fltd-fixd : converted s r ≡ stacked (bytesOf 4 r ∷ B s ∷ C s ∷ zeros 4 ∷ [])
-  pub flts : widened s r ≡ stacked (bytesOf 4 r ∷ b s ∷ c s ∷ d s ∷ e s ∷ zeros 2 ∷ zeros 2 ∷ [])
-  pub fixs : narrowed s r ≡ stacked (bytesOf 2 r ∷ B s ∷ C s ∷ zeros 2 ∷ zeros 2 ∷ zeros 2 ∷ [])
+  pub sadd-ssub : overA 2 s r ≡ bytesOf 2 r ++ words 2 s (2 ∷ 3 ∷ 4 ∷ 5 ∷ 6 ∷ 7 ∷ 0 ∷ [])
+  pub dadd-dsub : overA 4 s r ≡ bytesOf 4 r ++ words 4 s (2 ∷ 3 ∷ 0 ∷ [])
+  pub smul-smuu-sdiv : overZero 2 s r ≡ bytesOf 2 r ++ (words 2 s (2 ∷ 3 ∷ 4 ∷ 5 ∷ 6 ∷ 7 ∷ []) ++ zeros 2)
+  pub dmul-dmuu-ddiv-float : overZero 4 s r ≡ bytesOf 4 r ++ (words 4 s (2 ∷ 3 ∷ []) ++ zeros 4)
+  pub chss : replaced 2 s r ≡ bytesOf 2 r ++ words 2 s (1 ∷ 2 ∷ 3 ∷ 4 ∷ 5 ∷ 6 ∷ 7 ∷ [])
+  pub chsd-chsf : replaced 4 s r ≡ bytesOf 4 r ++ words 4 s (1 ∷ 2 ∷ 3 ∷ [])
+  pub pops : rotated 2 s ≡ words 2 s (1 ∷ 2 ∷ 3 ∷ 4 ∷ 5 ∷ 6 ∷ 7 ∷ 0 ∷ [])
+  pub popd-popf : rotated 4 s ≡ words 4 s (1 ∷ 2 ∷ 3 ∷ 0 ∷ [])
+  pub ptos : copied 2 s ≡ words 2 s (0 ∷ 0 ∷ 1 ∷ 2 ∷ 3 ∷ 4 ∷ 5 ∷ 6 ∷ [])
+  pub ptod-ptof : copied 4 s ≡ words 4 s (0 ∷ 0 ∷ 1 ∷ 2 ∷ [])
+  pub xchs : exchanged 2 s ≡ words 2 s (1 ∷ 0 ∷ 2 ∷ 3 ∷ 4 ∷ 5 ∷ 6 ∷ 7 ∷ [])
+  pub xchd-xchf : exchanged 4 s ≡ words 4 s (1 ∷ 0 ∷ 2 ∷ 3 ∷ [])
+  pub pupi : pushedWord s r ≡ bytesOf 4 r ++ words 4 s (0 ∷ 1 ∷ 2 ∷ [])
+  pub fltd-fixd : converted s r ≡ bytesOf 4 r ++ (words 4 s (1 ∷ 2 ∷ []) ++ zeros 4)
+  pub flts : widened s r ≡ bytesOf 4 r ++ (words 2 s (1 ∷ 2 ∷ 3 ∷ 4 ∷ []) ++ zeros 4)
+  pub fixs : narrowed s r ≡ bytesOf 2 r ++ (words 4 s (1 ∷ 2 ∷ []) ++ zeros 6)

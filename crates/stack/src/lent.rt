@@ -1,37 +1,12 @@
-// Bytes that a caller lends, and the stack: its 16 bytes read and written, blocks of bytes pushed and popped.
+// Bytes that a caller lends, and the stack: blocks of bytes pushed and popped.
 use super::Stack;
-use numbers::eight_at;
-use numbers::put_eight;
-use numbers::reversed_8;
 use terms::Width;
 ghost use mathlib.Core.Path.{_≡_};
 ghost use mathlib.Core.List.{_++_};
-ghost use Prim.Native.Nat.{_+_, _*_, _≤_};
+ghost use Prim.Native.Nat.{_≤_};
 ghost use lib.ListN.{length, drop};
-ghost use lib.Seq.{paste};
-ghost use Rattle.numbers.specs.Little.{wordAt, le4, le8};
-ghost use Rattle.stack.specs.Stack.{bytesOf, pushedAll, poppedAll, handedOut};
-ghost use Rattle.stack.specs.Words.{eight, bytesIn};
-
-// The stack that 16 bytes stand for.
-pub fn load(s: &[u8]) -> Stack
-    requires { ⌜ length (now s) ≡ 16 ⌝ }
-    ensures { λ r. ⌜ bytesIn r ≡ now (s .entry) ⌝ }
-{
-    Stack {
-        top: reversed_8(eight_at(s, 0)),
-        rest: reversed_8(eight_at(s, 8)),
-    }
-}
-
-// The 16 bytes of a stack.
-pub fn store(s: &mut [u8], stack: Stack)
-    requires { ⌜ length (now s) ≡ 16 ⌝ }
-    ensures { λ _. ⌜ now (s .exit) ≡ bytesIn stack ⌝ }
-{
-    put_eight(&mut s[0..8], reversed_8(stack.top));
-    put_eight(&mut s[8..16], reversed_8(stack.rest));
-}
+ghost use Rattle.stack.specs.Stack.{pushedAll, poppedAll, handedOut};
+ghost use Rattle.stack.specs.Words.{bytesIn};
 
 impl Stack {
     // Every byte of p pushed, in order: eight at a time, then four, two and one where so many are left.
@@ -42,7 +17,7 @@ impl Stack {
         let mut i = 0;
         while 8 <= p.len() - i {
             let rest = s.top;
-            let top = eight_at(p, i);
+            let top = numbers::eight_at(p, i);
             s = Stack { top, rest };
             i += 8;
         }
@@ -70,7 +45,7 @@ impl Stack {
         let mut i = 0;
         while 8 <= n - i {
             let end = i + 8;
-            put_eight(&mut room[i..end], reversed_8(s.top));
+            numbers::put_eight(&mut room[i..end], numbers::reversed_8(s.top));
             let rest = s.top;
             let top = s.rest;
             s = Stack { top, rest };

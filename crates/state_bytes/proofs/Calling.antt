@@ -1,38 +1,32 @@
 -- The ways through the calls: by the door and the tests behind it, which case of the definition holds. Assumes nothing.
-use mathlib.Core.Path.{_≡_, refl, sym, ap, subst, _∙_}
+use mathlib.Core.Path.{_≡_, refl, ap, _∙_}
 use mathlib.Core.Bool.{Bool, true, false, cond}
-use mathlib.Core.List.{List, _++_}
+use mathlib.Core.List.{List}
 use Prim.Native.Nat.{ℕ, _≤_, _<_}
 use native.Mathlib.Omega.{arith}
 use lib.Dec.{eqb}
-use lib.ListN.{length, take, drop, length-append, length-drop, take-append-drop}
-use lib.Seq.{length-take-le, drop-at}
-use borrow.Author.Tests.{lt-ltb, le-ltb, lt-leb, le-leb, leb-true, eq-eqb, ne-eqb, eqb-false}
+use lib.ListN.{length}
+use borrow.Author.Tests.{lt-ltb, le-ltb, lt-leb, le-leb, leb-true, eq-eqb, ne-eqb}
 use Rattle.terms.specs.declared.Refusal.{Refusal}
 use Rattle.terms.specs.declared.Refusal.the-variants.{Done, InputTooLong, BadState, BadMode, BadRule}
 use Rattle.terms.specs.Refusal.{numberOf}
-use Rattle.terms.specs.Limits.{stateBytes}
 use Rattle.terms.specs.declared.Mode.the-variants.{Am9511A}
 use Rattle.terms.specs.declared.Rule.the-variants.{Cut}
 use Rattle.terms.specs.Settings.{Settings, isMode, isRule}
-use Rattle.terms.specs.Kind.{kindNamed}
 use Rattle.chip.specs.Step.{given}
-use Rattle.chip.specs.State.{State, Answer}
-use Rattle.chip.specs.declared.Answer.{Answer as HeldAnswer}
-use Rattle.chip.specs.Held.{answerIn}
+use Rattle.chip.specs.State.{State}
 use Rattle.error_memory.specs.declared.Memory.{Memory}
-use Rattle.error_memory.specs.Event.{Event, Recall, Forget}
-use Rattle.error_memory.specs.Memory.{emptyMemory, Card, CardAnswer, cardWith, around, eventIn}
-use Rattle.error_memory.proofs.Good.{recalled, forgotten}
-use Rattle.record_files.specs.Run.{Runs, Outcome as Ended}
+use Rattle.error_memory.specs.Memory.{cardWith}
+use Rattle.error_memory.specs.Held.{cardUnder}
 use Rattle.record_runs.specs.Run.{Outcome, runOf}
-use Rattle.state_bytes.specs.Bytes.{Sized, isState, stateOf, memoryIn, cardIn, stateBytesOf, memoryBytesOf, withMemory, laid, laidOut, doorOf, reportOf}
-use Rattle.state_bytes.specs.Calls.{settingsOf, ranOf, away, callUnder, signalUnder, callOf, Calls, answeredBy, Signal, joinedOf, signalBy, unsent}
+use Rattle.record_runs.specs.Held.{Work, Passed}
+use Rattle.record_runs.proofs.Looping.{counts}
+use Rattle.state_bytes.specs.Bytes.{Sized, isState, memoryIn, cardIn, withMemory, laid, laidOut, doorOf, reportOf}
+use Rattle.state_bytes.specs.Calls.{settingsOf, ranOf, away, callUnder, signalUnder, callOf, Calls, joinedOf}
 use Rattle.state_bytes.specs.Calls.{signalOf, Signals}
-use Rattle.state_bytes.specs.Held.{Settles}
-use Rattle.state_bytes.proofs.Laid.{memory-behind, other-memory}
-use Rattle.state_bytes.proofs.States.{least, sized-as, state-sized, state-ready}
-use Rattle.state_bytes.proofs.Cards.{card-returns, laid-length, laid-chip}
+use Rattle.state_bytes.proofs.Laid.{other-memory}
+use Rattle.state_bytes.proofs.States.{sized-as}
+use Rattle.state_bytes.proofs.Cards.{laid-length}
 
 -- ---- the door
 module _ {A : Type 0} (f : Refusal → A) (a : A) where
@@ -81,75 +75,16 @@ module _ (l : List ℕ) (s : State) (h : Sized l) (n : length (s .stack) ≡ 16)
   pub both-laid : (m : Memory) {left : List ℕ} → left ≡ withMemory y m → left ≡ laid (length l) s m
   both-laid m k = other-memory (length l) s (memoryIn l) m n e same-length k
 
--- ---- what is remembered, written behind the chip's bytes
-module _ (l : List ℕ) (h : isState l ≡ true) (m : Memory) {y : List ℕ} (e : y ≡ withMemory l m) where
-  sixteen : length (take 16 l) ≡ 16
-  sixteen = length-take-le 16 l (omega (arith, least l (state-sized l h)))
-
-  under : Card
-  under = cardWith (given Am9511A Cut) (stateOf l) m
-
-  put-behind : y ≡ laidOut (length l) under
-  unfolding under
-  put-behind = other-memory (length l) (stateOf l) (memoryIn l) m sixteen (sym (card-returns (given Am9511A Cut) l h)) refl e
-
-  pub put-sized : Sized y
-  unfolding under
-  put-sized = sized-as l y (ap length put-behind ∙ laid-length under sixteen (length l) (state-sized l h)) (state-sized l h)
-
-  pub put-long : stateBytes ≤ length y
-  put-long = least y put-sized
-
-  -- the chip is the one that was there
-  pub same-chip : stateOf y ≡ stateOf l
-  unfolding under
-  same-chip = ap stateOf put-behind ∙ laid-chip under sixteen (length l)
-
-  same-size : length y ≡ length l
-  unfolding under
-  same-size = ap length put-behind ∙ laid-length under sixteen (length l) (state-sized l h)
-
-  same-memory : memoryBytesOf (length y) (memoryIn y) ≡ memoryBytesOf (length l) m
-  same-memory =
-      sym (memory-behind y put-sized) ∙ ap (drop 19) e
-      ∙ drop-at (take 19 l) (memoryBytesOf (length l) m) 19 (length-take-le 19 l (least l (state-sized l h)))
-
-  -- an event of the chip that is settled then is settled on what was there; a refused one left all as it was
-  pub kept-behind : (a : HeldAnswer) (on : Settings) {r : ℕ} {left : List ℕ} {b : Answer} → Settles y a (memoryIn y) r left → answerIn a ≡ b
-      → ((numberOf (b .refusal) ≡ 0 → ⊥) → y ≡ l) → Signals (signalBy l (around on m b)) r left
-  kept-behind a on {r} {left} {b} w is back =
-      subst (λ (t : Signal). Signals t r left)
-      (ap (λ (x : Answer). signalBy y (around on (memoryIn y) x)) is ∙ by (eqb (numberOf (b .refusal)) 0) refl) (w on)
-    where
-      signal : Bool → List ℕ → List ℕ → Signal
-      signal x done state = record { result = joinedOf (numberOf (b .refusal)) (b .byte); state = cond x done state }
-
-      by : (x : Bool) → eqb (numberOf (b .refusal)) 0 ≡ x
-          → signal x (laid (length y) (b .state) (memoryIn y)) y ≡ signal x (laid (length l) (b .state) m) l
-      by true z = ap (λ (t : List ℕ). signal true (stateBytesOf (b .state) ++ t) l) same-memory
-      by false z = ap (signal false l) (back (eqb-false (numberOf (b .refusal)) 0 z))
-
--- what is remembered as it was, written
-pub unchanged-memory : (l : List ℕ) → Sized l → withMemory l (memoryIn l) ≡ l
-unchanged-memory l h = ap (λ (t : List ℕ). take 19 l ++ t) (sym (memory-behind l h)) ∙ take-append-drop 19 l
-
 -- ---- the run
--- the replies have as many bytes after a run as before it
-pub same-room : {S : Type 0} {o : Ended S} {refusal : ℕ} {s : S} {taken written : ℕ} {file room left : List ℕ}
-    → Runs o refusal s taken written file room left → length left ≡ length room
-same-room {o = o} {room = room} r =
-    ap length (r .left-is) ∙ length-append (o .written) (drop (length (o .written)) room)
-    ∙ omega (arith, length-drop (length (o .written)) room, r .written-is, r .fits)
-
 -- a run of the code, with its state and report laid out
-pub called : (size : ℕ) (o : Outcome) (refusal : ℕ) (c : Card) (taken written : ℕ) (input replies left state report : List ℕ)
-    → Runs o refusal c taken written input replies left → state ≡ laidOut size c → report ≡ reportOf refusal taken written
-    → Calls (ranOf size o replies) refusal state left report
-called size o refusal c taken written input replies left state report r a b = record {
-  result-is = r .refusal-is;
-  state-is = a ∙ rw (r .state-is);
+pub called : (size : ℕ) {on : Settings} {o : Outcome} {w : Work} {n : ℕ} {state report : List ℕ} → Passed (cardUnder on) o w → w .place .taken ≡ 0
+    → w .place .written ≡ 0 → n ≡ w .pass .refusal → state ≡ laidOut size (cardUnder on (w .pass .card))
+    → report ≡ reportOf (w .pass .refusal) (w .pass .place .taken) (w .pass .place .written) → Calls (ranOf size o (w .room)) n state (w .left) report
+called size r t w e a b = let at = counts r t w in record {
+  result-is = e ∙ r .refusal-is;
+  state-is = a ∙ ap (laidOut size) (r .state-is);
   replies-is = r .left-is;
-  report-is = b ∙ rw (r .refusal-is, r .taken-is, r .written-is);
+  report-is = b ∙ rw (r .refusal-is, at .0, at .1);
 }
 
 -- a call that is turned away
@@ -195,44 +130,7 @@ module _ (mode rule : ℕ) (state input replies report : List ℕ) where
   unfolding callOf
   good a k q b d = rw (eq-eqb (length report) 9 a, le-leb mode 1 k, le-leb rule 1 q, b, le-ltb 12288 (length input) d)
 
--- ---- a single event
--- refused, or done and laid out
-module _ (state : List ℕ) (on : Settings) (m : Memory) (a : Answer) {n r : ℕ} (en : n ≡ numberOf (a .refusal)) (er : r ≡ joinedOf n (a .byte)) where
-  pub no-event : (n ≡ 0 → ⊥) → Signals (signalBy state (around on m a)) r state
-  no-event g = rw (← en, ne-eqb n 0 g) record { result-is = er; state-is = refl }
-
-  pub an-event : {left : List ℕ} → n ≡ 0 → left ≡ laid (length state) (a .state) m → Signals (signalBy state (around on m a)) r left
-  an-event g d = rw (← en, eq-eqb n 0 g) record { result-is = er; state-is = d }
-
--- the program's answer, found to be the chip's, with what is remembered as it was
-pub settled : (state : List ℕ) (a : HeldAnswer) (on : Settings) {r : ℕ} {left : List ℕ} {b : Answer} → Settles state a (memoryIn state) r left
-    → answerIn a ≡ b → Signals (signalBy state (around on (memoryIn state) b)) r left
-settled state a on {r} {left} w e =
-    subst (λ (x : Answer). Signals (signalBy state (around on (memoryIn state) x)) r left) e (w on)
-
--- the memory read, and cleared
-module _ (on : Settings) (state : List ℕ) (h : isState state ≡ true) {r : ℕ} where
-  by-card : {a b : CardAnswer} {left : List ℕ} → a ≡ b → Signals (signalBy state a) r left → Signals (signalBy state b) r left
-  by-card {left = left} e w = subst (λ (x : CardAnswer). Signals (signalBy state x) r left) e w
-
-  pub a-recall : (m : Memory) → m ≡ memoryIn state → r ≡ joinedOf 0 (m .bits) → Signals (signalBy state (eventIn (cardIn on state) Recall)) r state
-  a-recall m is er =
-      by-card (recalled (cardIn on state) (state-ready state h)) (record {
-        result-is = er ∙ ap (λ (k : Memory). joinedOf 0 (k .bits)) is;
-        state-is = sym (card-returns on state h);
-      })
-
-  pub a-forget : (m : Memory) {left : List ℕ} → m ≡ emptyMemory → r ≡ joinedOf 0 0 → left ≡ take 19 state ++ memoryBytesOf (length state) m
-      → Signals (signalBy state (eventIn (cardIn on state) Forget)) r left
-  a-forget m is er e =
-      by-card (forgotten (cardIn on state) (state-ready state h)) (record {
-        result-is = er;
-        state-is = other-memory (length state) (stateOf state) (memoryIn state) emptyMemory
-            (length-take-le 16 state (omega (arith, least state (state-sized state h)))) (sym (card-returns on state h)) refl
-            (e ∙ ap (λ (k : Memory). take 19 state ++ memoryBytesOf (length state) k) is);
-      })
-
--- by the door
+-- ---- a single event, by the door
 module _ (mode rule : ℕ) (state : List ℕ) (kind byte : ℕ) where
   pub no-mode : 1 < mode → (n r : ℕ) → n ≡ numberOf BadMode → r ≡ joinedOf n 0 → Signals (signalOf mode rule state kind byte) r state
   unfolding signalOf
@@ -245,17 +143,3 @@ module _ (mode rule : ℕ) (state : List ℕ) (kind byte : ℕ) where
   pub event-chosen : mode ≤ 1 → rule ≤ 1 → signalOf mode rule state kind byte ≡ signalUnder (settingsOf mode rule) state kind byte
   unfolding signalOf
   event-chosen k q = rw (le-leb mode 1 k, le-leb rule 1 q)
-
-  pub no-state : mode ≤ 1 → rule ≤ 1 → isState state ≡ false → (n r : ℕ) → n ≡ numberOf BadState → r ≡ joinedOf n 0
-      → Signals (signalOf mode rule state kind byte) r state
-  unfolding signalOf
-  no-state k q h n r e f = rw (le-leb mode 1 k, le-leb rule 1 q, h) record { result-is = f ∙ rw e; state-is = refl }
-
-  pub signal-away : (numberOf (doorOf mode rule state) ≡ 0 → ⊥) → signalOf mode rule state kind byte ≡ unsent (doorOf mode rule state) state
-  unfolding signalOf
-  signal-away h = shut (λ r. unsent r state) _ (isMode mode) (isRule rule) (isState state) h
-
-  pub signalled : Admitted mode rule state → signalOf mode rule state kind byte ≡ signalBy state (answeredBy (cardIn (settingsOf mode rule) state) byte
-      (kindNamed kind))
-  unfolding signalOf
-  signalled a = rw (le-leb mode 1 (a .mode-is), le-leb rule 1 (a .rule-is), a .state-is)

@@ -2,11 +2,12 @@
 use mathlib.Core.Path.{_≡_, refl, sym, _∙_}
 use mathlib.Core.Logic.{inl, inr, ⊎-elim}
 use mathlib.Core.Bool.{Bool, true, false, _&&_, cond, false≢true}
-use mathlib.Core.List.{List}
+use mathlib.Core.List.{List, _++_, append-nil}
 use Prim.Native.Nat.{ℕ, _≤_, _<_}
 use native.Mathlib.Omega.{arith}
 use lib.Dec.{eqb, ltb, leb}
-use lib.ListN.{length, getD}
+use lib.ListN.{length, getD, take, drop, length-drop, take-append-drop, drop-of-length-le}
+use lib.Seq.{take-at, drop-at, take-all}
 use borrow.Author.Tests.{lt-ltb, le-ltb, le-leb, lt-leb, leb-true, leb-false, eq-eqb, ne-eqb, eqb-true, ltb-false}
 use Rattle.terms.specs.Limits.{stateBytes, longStateBytes}
 use Rattle.error_memory.specs.Memory.{emptyMemory, isMemory}
@@ -140,3 +141,16 @@ module _ (l : List ℕ) where
 
   pub state-memory : isState l ≡ true → isMemory (memoryIn l .bits) (memoryIn l .code) ≡ true
   state-memory h = ⊎-elim (λ a. rw (short-memory a)) (λ b. rw (long-memory b) (state-stands l h .memory b)) (state-sized l h)
+
+-- ---- the stack
+-- eight bytes written, then eight behind them
+pub both-halves : (s x y : List ℕ) → length s ≡ 16 → length x ≡ 8 → take 8 (x ++ drop 8 s) ++ (y ++ drop 8 (drop 8 (x ++ drop 8 s))) ≡ x ++ y
+both-halves s x y h X =
+    let few : length (drop 8 s) ≤ 8 = simp length-drop (omega arith) in
+    rw (take-at x (drop 8 s) 8 X, drop-at x (drop 8 s) 8 X, drop-of-length-le (drop 8 s) {i = 8} few, append-nil y)
+
+-- the two halves of 16 bytes
+pub halves : (s : List ℕ) → length s ≡ 16 → take 8 s ++ take 8 (drop 8 s) ≡ s
+halves s h =
+    let few : length (drop 8 s) ≤ 8 = simp length-drop (omega arith) in
+    rw (take-all 8 (drop 8 s) few) (take-append-drop 8 s)

@@ -5,12 +5,18 @@ pub mod calls;
 use chip::State;
 use error_memory::Card;
 use error_memory::Memory;
+use numbers::eight_at;
+use numbers::put_eight;
 use numbers::put_word;
+use numbers::reversed_8;
+use record_runs::step::Pass;
+use stack::Stack;
 use terms::Refusal;
 ghost use mathlib.Core.Path.{_≡_};
 ghost use Prim.Native.Nat.{_≤_};
 ghost use lib.ListN.{length};
 ghost use Rattle.terms.specs.Limits.{stateBytes, reportBytes};
+ghost use Rattle.stack.specs.Words.{bytesIn};
 ghost use Rattle.chip.specs.Held.{stateIn};
 ghost use Rattle.state_bytes.specs.Bytes.{Sized, isChip, isState, stateOf, memoryIn, laid, withMemory};
 ghost use Rattle.state_bytes.specs.Bytes.{reportOf, doorOf};
@@ -53,12 +59,23 @@ pub fn admit(mode: u32, rule: u32, state: &[u8]) -> Refusal
     Refusal::Done
 }
 
+// The stack that 16 bytes stand for.
+fn stack_in(bytes: &[u8]) -> Stack
+    requires { ⌜ length (now bytes) ≡ 16 ⌝ }
+    ensures { λ r. ⌜ bytesIn r ≡ now (bytes .entry) ⌝ }
+{
+    Stack {
+        top: reversed_8(eight_at(bytes, 0)),
+        rest: reversed_8(eight_at(bytes, 8)),
+    }
+}
+
 // The chip of a state.
 pub fn chip_in(state: &[u8]) -> State
     requires { ⌜ stateBytes ≤ length (now state) ⌝ }
     ensures { λ r. ⌜ stateIn r ≡ stateOf (now (state .entry)) ⌝ }
 {
-    let stack = stack::lent::load(&state[..16]);
+    let stack = stack_in(&state[..16]);
     State {
         stack,
         pending: state[16] == 1,
@@ -91,6 +108,15 @@ pub fn card_in(state: &[u8]) -> Card
     Card { chip, memory }
 }
 
+// The 16 bytes of a stack.
+fn put_stack(bytes: &mut [u8], stack: Stack)
+    requires { ⌜ length (now bytes) ≡ 16 ⌝ }
+    ensures { λ _. ⌜ now (bytes .exit) ≡ bytesIn stack ⌝ }
+{
+    put_eight(&mut bytes[0..8], reversed_8(stack.top));
+    put_eight(&mut bytes[8..16], reversed_8(stack.rest));
+}
+
 // The chip's 19 bytes; all others stay.
 pub fn put_chip(state: &mut [u8], chip: State)
     requires { ⌜ Sized (now state) ⌝ }
@@ -98,7 +124,7 @@ pub fn put_chip(state: &mut [u8], chip: State)
         (memoryIn (now (state .entry))) ⌝ }
 {
     let stack = chip.stack;
-    stack::lent::store(&mut state[..16], stack);
+    put_stack(&mut state[..16], stack);
     state[16] = chip.pending as u8;
     state[17] = chip.status;
     state[18] = chip.service as u8;
@@ -113,15 +139,6 @@ pub fn put_memory(state: &mut [u8], m: Memory)
         state[19] = m.bits;
         state[20] = m.code;
     }
-}
-
-// All bytes of a state.
-pub fn put_card(state: &mut [u8], chip: State, memory: Memory)
-    requires { ⌜ Sized (now state) ⌝ }
-    ensures { λ _. ⌜ now (state .exit) ≡ laid (length (now (state .entry))) (stateIn chip) memory ⌝ }
-{
-    put_chip(state, chip);
-    put_memory(state, memory);
 }
 
 // The 9 bytes of a report.
@@ -141,4 +158,19 @@ pub fn turn_away(report: &mut [u8], refusal: u8) -> u32
 {
     fill_report(report, refusal, 0, 0);
     refusal as u32
+}
+
+// What a run leaves: its card's bytes and its report. Returns the refusal.
+pub fn settle(r: Pass, state: &mut [u8], report: &mut [u8]) -> u32
+    requires { ⌜ Sized (now state) × (length (now report) ≡ reportBytes) × (r .refusal ≤ 8) ⌝ }
+    ensures { λ n. ⌜ (n ≡ r .refusal)
+        × (now (state .exit) ≡ laid (length (now (state .entry))) (stateIn (r .card .chip)) (r .card .memory))
+        × (now (report .exit) ≡ reportOf (r .refusal) (r .place .taken) (r .place .written)) ⌝ }
+{
+    let chip = r.card.chip;
+    let memory = r.card.memory;
+    put_chip(state, chip);
+    put_memory(state, memory);
+    fill_report(report, r.refusal as u8, r.place.taken, r.place.written);
+    r.refusal as u32
 }

@@ -5,11 +5,11 @@ use Prim.Native.Nat.{ℕ}
 use lib.Ieee.{size}
 use Rattle.fixed.specs.Fixed.{low}
 use Rattle.listing.specs.Text.{spelled}
-use Rattle.bit_serial.specs.Product.{addedUpTo}
+use Rattle.bit_serial.specs.UpTo.{upTo}
 use Rattle.bit_serial.specs.Engine.{mulAnswer}
 use Rattle.bit_serial.specs.Work.{mulTask}
 use Rattle.listing.specs.Hex.{digitsTo, digitValue, hexFrom}
-use Rattle.step_text.specs.Steps.{productLines}
+use Rattle.step_text.specs.Steps.{linesUpTo}
 use Rattle.step_text.specs.Asked.{readHex, operationAt, ruleFor, toldOf}
 
 -- the three lines, character by character
@@ -24,5 +24,5 @@ answer = 119 ∷ 111 ∷ 114 ∷ 100 ∷ 32 ∷ 48 ∷ 48 ∷ 48 ∷ 70 ∷ 32 �
     ∷ []
 
 pub five-times-three : toldOf 4 (54 ∷ 69 ∷ []) (48 ∷ 48 ∷ 48 ∷ 53 ∷ []) (48 ∷ 48 ∷ 48 ∷ 51 ∷ []) [] ≡ firstStep ++ (secondStep ++ answer)
-unfolding size low spelled addedUpTo mulAnswer mulTask digitsTo productLines digitValue hexFrom readHex operationAt ruleFor
+unfolding size low spelled upTo mulAnswer mulTask digitsTo linesUpTo digitValue hexFrom readHex operationAt ruleFor
 five-times-three = refl

@@ -1,6 +1,6 @@
 -- A line for each step of an operation, and the line of its answer. Of a product LEFT is how many bits of the multiplier are left, PARTIAL what was
 -- added up so far; of a quotient LEFT is how many digits are left to find, PARTIAL what is left of the dividend. Definitions only. Assumes nothing.
-use Prim.Native.Nat.{ℕ, zero, suc, _+_, _-_, _*_, _/_, _%_, _^_}
+use Prim.Native.Nat.{ℕ, zero, suc, _-_}
 use mathlib.Core.Bool.{cond}
 use mathlib.Core.List.{List, [], _++_}
 use lib.Dec.{eqb}
@@ -26,14 +26,16 @@ productLine p = stepLine (p .steps) (size (p .left)) (p .partial)
 abbrev pub quotientLine : ℕ → Division → List ℕ
 quotientLine n s = stepLine (n - s .left) (s .left) (s .rest)
 
--- the steps still to be made, at most so many, none where no bits remain
-unfoldable pub productLines : ℕ → ℕ → Product → List ℕ
-productLines zero x p = []
-productLines (suc more) x p = cond (eqb (p .left) 0) [] (productLine (added x p) ++ productLines more x (added x p))
+-- the steps still to be made, at most so many, none where no bits remain, and the line after each
+unfoldable pub linesUpTo : {A : Type 0} → (A → ℕ) → (A → A) → (A → List ℕ) → ℕ → A → List ℕ
+linesUpTo bits step line zero s = []
+linesUpTo bits step line (suc more) s = cond (eqb (bits s) 0) [] (line (step s) ++ linesUpTo bits step line more (step s))
 
-unfoldable pub quotientLines : ℕ → ℕ → ℕ → Division → List ℕ
-quotientLines n zero d s = []
-quotientLines n (suc more) d s = cond (eqb (s .rest) 0) [] (quotientLine n (subtracted d s) ++ quotientLines n more d (subtracted d s))
+abbrev pub productLines : ℕ → ℕ → Product → List ℕ
+productLines more x = linesUpTo (λ (p : Product). p .left) (added x) productLine more
+
+abbrev pub quotientLines : ℕ → ℕ → ℕ → Division → List ℕ
+quotientLines n more d = linesUpTo (λ (s : Division). s .rest) (subtracted d) (quotientLine n) more
 
 -- all steps of a task
 abbrev pub stepLines : Task → List ℕ
@@ -44,21 +46,3 @@ stepLines (Divide v d n) = quotientLines n n d (begunQuotient v n)
 -- what is told of an operation on B and A under a rule
 abbrev pub workingsOf : Operation → Rule → ℕ → ℕ → List ℕ
 workingsOf op rule b a = stepLines (taskOf op b a) ++ answerLine (widthOf op) (answerOf op rule b a)
-
--- ---- the same lines by their numbers
--- after k steps: of a product the bits above the last k are left, and the multiplicand times those k is added up; of a quotient all but k digits are
--- left, and the dividend modulo the divisor, that many places up
-abbrev pub leftAfter : Task → ℕ → ℕ
-leftAfter Nothing k = 0
-leftAfter (Multiply x y n) k = size (y / 2 ^ k)
-leftAfter (Divide v d n) k = n - k
-
-abbrev pub partialAfter : Task → ℕ → ℕ
-partialAfter Nothing k = 0
-partialAfter (Multiply x y n) k = x * (y % 2 ^ k)
-partialAfter (Divide v d n) k = v % (d * 2 ^ (n - k))
-
--- so many lines, the first with the number k + 1
-abbrev pub linesAfter : Task → ℕ → ℕ → List ℕ
-linesAfter task zero k = []
-linesAfter task (suc more) k = stepLine (k + 1) (leftAfter task (k + 1)) (partialAfter task (k + 1)) ++ linesAfter task more (k + 1)

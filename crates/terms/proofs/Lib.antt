@@ -1,2 +1,3 @@
 -- The laws of the terms.
+pub mod Arms
 pub mod Numbers

@@ -7,22 +7,25 @@ use Rattle.terms.specs.declared.Refusal.the-variants.{PartEntry}
 
 -- the column 'no.' of 01's table of refusals, and the numbers that 02's requests add
 abbrev pub numberOf : Refusal → ℕ
-numberOf Done = 0
-numberOf UnknownCode = 1
-numberOf DerivedCode = 2
-numberOf HalfWord = 3
-numberOf Improper = 4
-numberOf NoSuchKind = 5
-numberOf CutShort = 6
-numberOf BadLength = 7
-numberOf NoRoom = 8
-numberOf InputTooLong = 9
-numberOf NotFinite = 10
-numberOf TooLarge = 11
-numberOf TooSmall = 12
-numberOf BadState = 13
-numberOf BadReport = 14
-numberOf MinusZero = 15
-numberOf BadMode = 16
-numberOf BadRule = 17
-numberOf PartEntry = 18
+numberOf =
+    elim [
+      | Done ↦ 0
+      | UnknownCode ↦ 1
+      | DerivedCode ↦ 2
+      | HalfWord ↦ 3
+      | Improper ↦ 4
+      | NoSuchKind ↦ 5
+      | CutShort ↦ 6
+      | BadLength ↦ 7
+      | NoRoom ↦ 8
+      | InputTooLong ↦ 9
+      | NotFinite ↦ 10
+      | TooLarge ↦ 11
+      | TooSmall ↦ 12
+      | BadState ↦ 13
+      | BadReport ↦ 14
+      | MinusZero ↦ 15
+      | BadMode ↦ 16
+      | BadRule ↦ 17
+      | PartEntry ↦ 18
+    ]

@@ -5,10 +5,8 @@ use Rattle.terms.specs.declared.Width.the-variants.{Single, Double}
 
 -- the bytes of a word
 abbrev pub sizeOf : Width → ℕ
-sizeOf Single = 2
-sizeOf Double = 4
+sizeOf = elim [ Single ↦ 2 | Double ↦ 4 ]
 
 -- the bits of a word
 abbrev pub bitsOf : Width → ℕ
-bitsOf Single = 16
-bitsOf Double = 32
+bitsOf = elim [ Single ↦ 16 | Double ↦ 32 ]

@@ -1,13 +1,13 @@
 // The program behind ./word: its arguments are a rule, a form and texts, and it writes the line that `decimals` tells
 // for each of them; without a text it reads texts from standard input, one to a line. `end` is the last line.
 // The form is `short` or `exact` for decimals and words, `sum` for sums as the figures of sheets give them.
+use decimals::ends::line_end;
 use decimals::line::LINE_ROOM;
 use decimals::line::tell;
+use decimals::read::rule_named;
 use decimals::sum::tell_sum;
 use libc::STDIN_FILENO;
 use libc::STDOUT_FILENO;
-use listing::ends::line_end;
-use listing::options::rule_named;
 use terms::Rule;
 ghost use Rattle.io.specs.Counts.{Counts};
 

@@ -1,8 +1,9 @@
 -- `codes::fixed` meets its contract: by the blocks of operations. Assumes nothing.
-use mathlib.Core.Path.{ap, _∙_}
+use mathlib.Core.Path.{refl, ap, _∙_}
 use Prim.Native.Nat.{ℕ}
 use native.Mathlib.Omega.{arith}
 use borrow.Author.Needs.{needs}
+use Rattle.codes.specs.Command.{Chs, Muu}
 use Rattle.codes.specs.Codes.{decoded}
 use Rattle.codes.specs.Format.{fixedCode}
 use Rattle.codes.proofs.Bits.{operation-is, fixed-low, fixed-high}
@@ -18,12 +19,6 @@ returns c =
 returns-2 : tie.Need-returns-2
 returns-2 c = let b = c .before .before in fixed-high (b .args .width) (b .args .operation) (b .pre) (c .if2 .taken)
 
-returns-4 : tie.Need-returns-4
-returns-4 c = let b = c .before .before .before .before in operation-is (b .args .width) (b .args .operation) 0x14 (b .pre) (c .match .keys1)
-
-returns-5 : tie.Need-returns-5
-returns-5 c = let b = c .before .before .before .before in operation-is (b .args .width) (b .args .operation) 0x16 (b .pre) (c .match .keys2)
-
 returns-6 : tie.Need-returns-6
 returns-6 c =
     let r = c .match .rest in
@@ -31,7 +26,8 @@ returns-6 c =
     fixed-low (b .before .args .width) (b .before .args .operation) (c .before .if3 .left) (b .if1 .left) (r .0 .1) (r .1)
 
 pub fixed-spec : {M : Type 1} → statement M
+unfolding decoded
 fixed-spec =
     tie.close
-    (tie.spec (λ c κs. search needs) returns returns-2 (λ c κs. search needs) (λ c. search needs) returns-4 returns-5
-    returns-6)
+    (tie.spec (λ c κs. search needs) returns returns-2 (λ c κs. search needs) (λ c. search needs)
+    (λ c. operation-is Chs _ _ 0x14 refl refl (c .match .keys1)) (λ c. operation-is Muu _ _ 0x16 refl refl (c .match .keys2)) returns-6)

@@ -150,3 +150,10 @@ cut-of r neg n d m k N M e = rw (lt-ltb 0 n N, e .0, e .1, lt-ltb m 16777216 M)
 pub cut-zero : (r : Rule) (neg : Bool) (n d : ℕ) → n ≡ 0 → cutSize r neg n d ≡ zeroWord
 unfolding cutSize
 cut-zero r neg n d e = rw (le-ltb 0 n (le-of-eq e))
+
+-- a magnitude of at least 2 ^ (23 + i) loses at least i digits
+pub lost-least : (n d i : ℕ) → 0 < d → 2 ^ (23 + i) * d ≤ n → i ≤ lost n d
+lost-least n d i D h = count (size (n / d)) (size-gt (n / d) (23 + i) (le-div-iff-mul-le D .1 h))
+  where
+    count : (z : ℕ) → 23 + i < z → i ≤ z - 24
+    count z l = omega arith

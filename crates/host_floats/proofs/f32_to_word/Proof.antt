@@ -5,10 +5,6 @@ use Rattle.host_floats.specs.Host.{takenOf}
 use Rattle.host_floats.proofs.f32_to_word.Statement.{statement}
 use Rattle.host_floats.proofs.f32_to_word.Tie as tie
 
-returns : tie.Need-returns
-unfolding takenOf
-returns c = simp (eq-eqb _ _ (c .if1 .taken))
-
 returns-2 : tie.Need-returns-2
 unfolding takenOf
 returns-2 c = simp (ne-eqb _ _ (c .before .if1 .left), eq-eqb _ _ (c .if2 .taken))
@@ -49,4 +45,6 @@ returns-6 c =
     )
 
 pub f32-to-word-spec : {M : Type 1} → statement M
-f32-to-word-spec = tie.close (tie.spec returns returns-2 returns-3 returns-4 returns-5 (λ c κs. search needs) returns-6)
+f32-to-word-spec =
+    tie.close
+    (tie.spec (λ c. unfold takenOf in simp (eq-eqb _ _ (c .if1 .taken))) returns-2 returns-3 returns-4 returns-5 (λ c κs. search needs) returns-6)

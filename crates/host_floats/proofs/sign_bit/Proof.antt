@@ -4,11 +4,7 @@ use borrow.Author.Tests.{le-leb, lt-leb}
 use Rattle.host_floats.proofs.sign_bit.Statement.{statement}
 use Rattle.host_floats.proofs.sign_bit.Tie as tie
 
-returns : tie.Need-returns
-returns c = (rw (le-leb _ _ (c .if1 .taken)), omega arith, omega arith)
-
-returns-2 : tie.Need-returns-2
-returns-2 c = (rw (lt-leb _ _ (c .if1 .left)), omega arith, omega arith)
-
 pub sign-bit-spec : {M : Type 1} → statement M
-sign-bit-spec = tie.close (tie.spec returns returns-2)
+sign-bit-spec =
+    tie.close
+    (tie.spec (λ c. (rw (le-leb _ _ (c .if1 .taken)), omega arith, omega arith)) (λ c. (rw (lt-leb _ _ (c .if1 .left)), omega arith, omega arith)))

@@ -1,13 +1,13 @@
 -- `listing::add_reply` reads kind, refusal and data of the reply and adds the parts of its line in turn. Assumes nothing.
-use mathlib.Core.Path.{_≡_, ap}
-use Prim.Native.Nat.{_+_, _-_, _≤_}
+use mathlib.Core.Path.{_≡_, ap, _∙_}
+use Prim.Native.Nat.{_+_, _-_, _≤_, _<_}
 use native.Mathlib.Omega.{arith}
 use borrow.Author.Needs.{needs}
-use lib.ListN.{length, take, drop, getD}
+use lib.ListN.{length, take, drop, getD, length-set}
 use denote.Ref.{now}
 use Rattle.listing.specs.Text.{decimal}
 use Rattle.listing.specs.Listing.{dataText, lineOf, replyLine}
-use Rattle.listing.proofs.Adding.{both}
+use Rattle.listing.proofs.Adding.{both, stored}
 use Rattle.listing.proofs.Lines.{line-length}
 use Rattle.listing.proofs.Listed.{as-line}
 use Rattle.listing.proofs.Replies.{kind-of}
@@ -51,25 +51,31 @@ add-data-requires c κs =
     let at-decimal = c .before .before .before .before .before .before .before .before .before .before .before .before .before in
     omega (arith, room (at-decimal .before .before))
 
-add-requires : tie.Need-add-requires
-add-requires c κs =
-    let at-decimal = c .before .before .before .before .before .before .before .before .before .before .before .before .before .before .before .before .before
-    .before in
+-- and for the newline
+newline-fits : (c : tie.After-slice-known5) → c .before .before .add-data .result < length (c .before .before .add-data .last .0)
+newline-fits c =
+    let at-decimal = c .before .before .before .before .before .before .before .before .before .before .before .before .before .before .before .before in
     omega (arith, room (at-decimal .before .before))
+
+same-length : tie.Need-same-length
+same-length c =
+    let at-data = c .before .before .add-data in
+    let at-decimal = c .before .before .before .before .before .before .before .before .before .before .before .before .before .before .before .before in
+    let e : length (at-data .last .0) ≡ length (now (at-decimal .before .before .before .before .before .before .args .out)) = search needs in
+    length-set (at-data .last .0) (at-data .result) 10 ∙ e
 
 returns : tie.Need-returns
 returns c =
-    let at-add = c .before .before in
-    let at-data = at-add .before .before .before .before .before in
+    let at-data = c .before .before in
     let at-refusal = at-data .before .before .before .before .before in
     let at-kind = at-refusal .before .before .before .before .before in
     let at-decimal = at-kind .before .before .before .before in
     rw (line-is (at-decimal .before .before)) at (both (at-decimal .add-decimal .ensures) (both (at-kind .add-field .ensures)
-    (both (at-refusal .add-field2 .ensures) (both (at-data .add-data .ensures) (at-add .add .ensures)))))
+    (both (at-refusal .add-field2 .ensures) (both (at-data .add-data .ensures) (stored 10 _ _ (newline-fits c))))))
 
 pub add-reply-spec : {M : Type 1} → statement M
 add-reply-spec =
     tie.close
     (tie.spec (λ c κs. search needs) (λ c κs. search needs) add-decimal-requires (λ c. search needs) add-field-requires
     (λ c. search needs) cast-add-field-2 add-field-requires-2 (λ c. search needs) (λ c. search needs) (λ c. search needs)
-    add-data-requires (λ c. search needs) add-requires (λ c. search needs) returns)
+    add-data-requires newline-fits (λ c. let r = newline-fits c in search needs) same-length returns)

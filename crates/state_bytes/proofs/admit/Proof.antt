@@ -1,5 +1,7 @@
 -- `state_bytes::admit` meets its contract: each number and the state by its test. Assumes nothing.
-use mathlib.Core.Path.{sym, _∙_}
+use mathlib.Core.Path.{_≡_, sym, _∙_}
+use mathlib.Core.Bool.{true}
+use Rattle.terms.specs.Settings.{isMode, isRule}
 use borrow.Author.Tests.{not-true, not-false}
 use borrow.Author.Needs.{needs}
 use Rattle.state_bytes.proofs.admit.Statement.{statement}
@@ -15,23 +17,21 @@ returns-2 c = rw (
       ∙ not-true _ (c .if2 .taken),
 )
 
+-- past the mode and the rule
+abbrev At-rule : Type 0
+At-rule = tie.Else2
+
+both-good : (k : At-rule) → let a = k .before .before .before .before .before .args in (isMode (a .mode) ≡ true) × (isRule (a .rule) ≡ true)
+both-good k = (
+  sym (k .before .before .before .is-mode .ensures) ∙ not-false _ (k .before .before .if1 .left),
+  sym (k .before .is-rule .ensures) ∙ not-false _ (k .if2 .left),
+)
+
 returns-3 : tie.Need-returns-3
-returns-3 c =
-    let at-rule = c .before .before in
-    rw (
-      sym (at-rule .before .before .before .is-mode .ensures) ∙ not-false _ (at-rule .before .before .if1 .left),
-      sym (at-rule .before .is-rule .ensures) ∙ not-false _ (at-rule .if2 .left),
-      sym (c .before .is-state .ensures) ∙ not-true _ (c .if3 .taken),
-    )
+returns-3 c = let g = both-good (c .before .before) in rw (g .0, g .1, sym (c .before .is-state .ensures) ∙ not-true _ (c .if3 .taken))
 
 returns-4 : tie.Need-returns-4
-returns-4 c =
-    let at-rule = c .before .before in
-    rw (
-      sym (at-rule .before .before .before .is-mode .ensures) ∙ not-false _ (at-rule .before .before .if1 .left),
-      sym (at-rule .before .is-rule .ensures) ∙ not-false _ (at-rule .if2 .left),
-      sym (c .before .is-state .ensures) ∙ not-false _ (c .if3 .left),
-    )
+returns-4 c = let g = both-good (c .before .before) in rw (g .0, g .1, sym (c .before .is-state .ensures) ∙ not-false _ (c .if3 .left))
 
 pub admit-spec : {M : Type 1} → statement M
 admit-spec =

@@ -1,23 +1,14 @@
 -- `terms::kind_of` meets its contract: at each arm the number is that of a kind, and after them it is none. Assumes nothing.
-use borrow.Author.Tests.{ne-eqb}
+use mathlib.Core.List.{[], _∷_}
+use Rattle.terms.specs.declared.EventKind.the-variants.{Push, Pop, Command, Status, Reset, Acknowledge, Recall, Forget}
+use Rattle.terms.proofs.Arms.{last-arm}
 use Rattle.terms.proofs.kind_of.Statement.{statement}
 use Rattle.terms.proofs.kind_of.Tie as tie
 
 returns-9 : tie.Need-returns-9
 returns-9 c =
-    let k = c .before .args .number in
-    let r = c .match .rest in
-    let s = r .0 .0 .0 .0 in
-    simp (
-      ne-eqb k 1 (s .0 .0 .0 .1),
-      ne-eqb k 2 (s .0 .0 .1),
-      ne-eqb k 3 (s .0 .1),
-      ne-eqb k 4 (s .1),
-      ne-eqb k 5 (r .0 .0 .0 .1),
-      ne-eqb k 6 (r .0 .0 .1),
-      ne-eqb k 7 (r .0 .1),
-      ne-eqb k 8 (r .1),
-    )
+    last-arm _ _
+    ((1, Push) ∷ (2, Pop) ∷ (3, Command) ∷ (4, Status) ∷ (5, Reset) ∷ (6, Acknowledge) ∷ (7, Recall) ∷ (8, Forget) ∷ []) (c .match .rest)
 
 pub kind-of-spec : {M : Type 1} → statement M
 kind-of-spec =

@@ -3,11 +3,5 @@ use borrow.Author.Tests.{ne-eqb}
 use Rattle.terms.proofs.rule_of.Statement.{statement}
 use Rattle.terms.proofs.rule_of.Tie as tie
 
-returns : tie.Need-returns
-returns c = rw (c .if1 .taken)
-
-returns-2 : tie.Need-returns-2
-returns-2 c = rw (ne-eqb _ 0 (c .if1 .left))
-
 pub rule-of-spec : {M : Type 1} → statement M
-rule-of-spec = tie.close (tie.spec returns returns-2)
+rule-of-spec = tie.close (tie.spec (λ c. rw (c .if1 .taken)) (λ c. rw (ne-eqb _ 0 (c .if1 .left))))

@@ -7,11 +7,10 @@ use Rattle.chip.proofs.commands.change_float.Statement.{statement}
 use Rattle.chip.proofs.commands.change_float.Tie as tie
 
 returns : tie.Need-returns
-returns c rule = (
-  c .settled .ensures .0 ∙ chsf-row (bytesIn (c .before .before .before .before .args .s)) (c .before .before .before .tos .ensures .0)
-      (c .before .before .chsf .ensures) (c .before .replace .ensures) refl,
-  c .settled .ensures .1,
-)
+returns c rule =
+    let row = chsf-row (bytesIn (c .before .before .before .before .args .s)) (c .before .before .before .tos .ensures .0)
+    (c .before .before .chsf .ensures) (c .before .replace .ensures) refl in
+    (refl, (c .settled .ensures .0 ∙ row, c .settled .ensures .1))
 
 pub change-float-spec : {M : Type 1} → statement M
 change-float-spec = tie.close (tie.spec (λ c κs. search needs) (λ c κs. search needs) (λ c κs. search needs) (λ c κs. search needs) returns)

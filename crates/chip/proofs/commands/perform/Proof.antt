@@ -8,7 +8,7 @@ use Rattle.chip.specs.Commands.{piOf}
 use Rattle.codes.specs.Command.{Nop, Pupi}
 use Rattle.chip.specs.declared.commands.Obeyed.{Obeyed}
 use Rattle.chip.proofs.Rows.{move-row}
-use Rattle.chip.proofs.Held.{done-by, performs-as, fixed-by, move-by, flt-by, chsf-by}
+use Rattle.chip.proofs.Held.{done-by, performs-as, fixed-by, move-by, chsf-by}
 use borrow.Author.Needs.{needs}
 use Rattle.chip.proofs.commands.perform.Statement.{statement}
 use Rattle.chip.proofs.commands.perform.Tie as tie
@@ -37,11 +37,10 @@ perform-spec =
     (λ c κs. search needs) (λ c. search needs) (λ c κs. search needs) (λ c. search needs) (λ c κs. search needs) (λ c. search needs)
     (λ c κs. search needs) (λ c. search needs) (λ c κs. search needs) (λ c κs. search needs) (λ c. search needs) (λ c κs. search needs)
     (λ c. search needs) (λ c κs. search needs) (λ c. search needs) (λ c κs. search needs)
-    returns (λ c. fixed-by _ _ _ (c .before .before .before .before .kind .given .1) (c .before .enum-told2 .given .1) (c .work-16 .ensures))
-    (λ c. fixed-by _ _ _ (c .before .before .before .before .kind .given .1) (c .before .enum-told3 .given .1) (c .work-32 .ensures))
+    returns (λ c. search (needs, fixed-by)) (λ c. search (needs, fixed-by))
     (λ c. performs-as _ _ _ (c .before .before .kind2 .given .1) (c .float-work .ensures))
     (λ c. chsf-by _ _ _ (c .before .enum-told4 .given .1) (c .change-float .ensures))
-    (λ c. flt-by _ _ _ (c .before .before .kind3 .given .1) (c .to-float .ensures))
+    (λ c. performs-as _ _ _ (c .before .before .kind3 .given .1) (c .to-float .ensures))
     (λ c. performs-as _ _ _ (c .before .before .kind4 .given .1) (c .to-fixed .ensures))
     (λ c. move-by _ _ _ (c .before .before .kind5 .given .1) (c .move-word .ensures)) returns-9
     (λ c. performs-as _ _ _ (c .before .enum-told6 .given .1) (c .take-root .ensures))

@@ -3,7 +3,7 @@ use mathlib.Core.Path.{refl, sym, ap, subst, _∙_}
 use Prim.Native.Nat.{_<_}
 use Rattle.float.specs.declared.Flagged.{Flagged}
 use Rattle.float.specs.Word.{proper}
-use Rattle.float.proofs.root.RootExact.{root-result}
+use Rattle.float.proofs.Results.{root-result}
 use Rattle.codes.specs.Command.{Sqrt}
 use Rattle.stack.specs.Words.{bytesIn}
 use borrow.Author.Tests.{not-true, not-false}

@@ -1,6 +1,6 @@
 -- `chip::commands::to_float` meets its contract: the width picks the row of FLTS or FLTD. Assumes nothing.
-use mathlib.Core.Path.{_≡_, sym, ap, subst, _∙_}
-use mathlib.Core.Logic.{⊎-elim}
+use mathlib.Core.Path.{refl, sym, ap, subst, _∙_}
+use mathlib.Core.Logic.{inl, ⊎-elim}
 use Prim.Native.Nat.{_^_, _<_}
 use native.Mathlib.Omega.{arith}
 use Rattle.terms.specs.declared.Width.{Width}
@@ -35,7 +35,7 @@ returns c =
     let is = ⊎-elim (λ w. w .3 ∙ w .2 .ensures ∙ ap (λ (v : Width). fltOf (a .rule) v t) (sym (w .1 .given .1)))
     (λ w. w .3 ∙ w .2 .ensures ∙ ap (λ (v : Width). fltOf (a .rule) v t) (sym (w .1 .given .1))) (m .match .came) in
     let row = flt-row (a .rule) (a .width) (bytesIn (a .s)) (m .before .tos .ensures .0) is (c .before .convert .ensures) in
-    (c .settled .ensures .0 ∙ row, c .settled .ensures .1)
+    inl (refl, (c .settled .ensures .0 ∙ row, c .settled .ensures .1))
 
 pub to-float-spec : {M : Type 1} → statement M
 to-float-spec =

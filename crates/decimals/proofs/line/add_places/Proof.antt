@@ -1,4 +1,5 @@
 -- `decimals::line::add_places` adds the parts of a decimal in turn. Assumes nothing.
+use Prim.Native.Nat.{_+_, _≤_}
 use native.Mathlib.Omega.{arith}
 use borrow.Author.Needs.{needs}
 use Rattle.listing.proofs.Adding.{both}
@@ -13,46 +14,30 @@ add-decimal-requires c κs =
     let start = at-add-minus .before .before .before in
     omega (arith, at-most 20 (start .args .whole), at-add-minus .add-minus .ensures .1)
 
+-- the sign and the digits before the point have at most 21 characters
+to-point : (c : tie.After-add-decimal) → c .add-decimal .result ≤ c .before .before .before .before .before .before .before .args .place + 21
+to-point c =
+    let minus = c .before .before .before .before in
+    omega (arith, at-most 20 (minus .before .before .before .args .whole), minus .add-minus .ensures .1, c .add-decimal .ensures .moved)
+
 add-requires : tie.Need-add-requires
-add-requires c κs =
-    let at-add-decimal = c .before .before .before .before in
-    let at-add-minus = at-add-decimal .before .before .before .before in
-    let start = at-add-minus .before .before .before in
-    omega (arith, at-most 20 (start .args .whole), at-add-minus .add-minus .ensures .1, at-add-decimal .add-decimal .ensures .moved)
+add-requires c κs = omega (arith, to-point (c .before .before .before .before))
 
 add-digits-requires : tie.Need-add-digits-requires
 add-digits-requires c κs =
     let at-add = c .before .before .before in
-    let at-add-decimal = at-add .before .before .before .before .before in
-    let at-add-minus = at-add-decimal .before .before .before .before in
-    let start = at-add-minus .before .before .before in (
-      omega arith,
-      omega arith,
-      omega (
-        arith,
-        at-most 20
-            (start .args .whole),
-        at-add-minus .add-minus .ensures .1,
-        at-add-decimal .add-decimal .ensures .moved,
-        at-add .add .ensures .moved,
-      ),
-    )
+    (omega arith, omega arith, omega (arith, to-point (at-add .before .before .before .before .before), at-add .add .ensures .moved))
 
 returns : tie.Need-returns
 returns c =
     let at-add = c .before .before .before .before .before .before in
-    let at-add-decimal = at-add .before .before .before .before .before in
-    let at-add-minus = at-add-decimal .before .before .before .before in
-    let start = at-add-minus .before .before .before in
-    let a = start .args in (
-      both (at-add-minus .add-minus .ensures .0) (both (at-add-decimal .add-decimal .ensures) (both (at-add .add .ensures)
-          (c .before .before .add-digits .ensures))),
+    let at-decimal = at-add .before .before .before .before .before in
+    let minus = at-decimal .before .before .before .before in
+    let a = minus .before .before .before .args in (
+      both (minus .add-minus .ensures .0) (both (at-decimal .add-decimal .ensures) (both (at-add .add .ensures) (c .before .before .add-digits .ensures))),
       omega (
         arith,
-        at-most 20
-            (a .whole),
-        at-add-minus .add-minus .ensures .1,
-        at-add-decimal .add-decimal .ensures .moved,
+        to-point at-decimal,
         at-add .add .ensures .moved,
         c .before .before .add-digits .ensures .moved,
         digits-length 10 (a .places) (a .fraction),

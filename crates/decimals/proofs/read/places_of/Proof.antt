@@ -2,8 +2,8 @@
 use mathlib.Core.Path.{_≡_}
 use native.Mathlib.Omega.{arith}
 use borrow.Author.Needs.{needs}
-use borrow.Author.Tests.{eq-eqb, ne-eqb, lt-ltb, le-ltb}
-use Prim.Native.Nat.{_+_}
+use borrow.Author.Tests.{eq-eqb, ne-eqb, lt-ltb}
+use Rattle.decimals.proofs.Parsing.{not-ended, ended}
 use Rattle.decimals.proofs.read.places_of.Statement.{statement}
 use Rattle.decimals.proofs.read.places_of.Tie as tie
 
@@ -19,25 +19,17 @@ returns-2 c = let a = c .before .before .args in (
 
 returns-3 : tie.Need-returns-3
 returns-3 c =
-    let start = c .before .before .before in
-    let a = start .args in (
-      rw (
-        ne-eqb (a .count) 0 (c .before .before .if1 .left),
-        le-ltb 27 (a .count) (c .before .if2 .left),
-        lt-ltb (a .at + a .count) (a .length) (c .if3 .taken),
-      ),
-      omega (arith, start .pre .2, start .pre .3),
+    let s = c .before .before .before in
+    let a = s .args in (
+      not-ended (a .length) (a .neg) (a .whole) (a .at) (a .value) (a .count) (c .before .before .if1 .left) (c .before .if2 .left) (c .if3 .taken),
+      omega (arith, s .pre .2, s .pre .3),
     )
 
 returns-4 : tie.Need-returns-4
 returns-4 c =
     let s = c .before .before .before in
     let a = s .args in (
-      rw (
-        ne-eqb (a .count) 0 (c .before .before .if1 .left),
-        le-ltb 27 (a .count) (c .before .if2 .left),
-        le-ltb (a .at + a .count) (a .length) (c .if3 .left),
-      ),
+      ended (a .length) (a .neg) (a .whole) (a .at) (a .value) (a .count) (c .before .before .if1 .left) (c .before .if2 .left) (c .if3 .left),
       (c .before .if2 .left, s .pre .0, s .pre .1),
     )
 

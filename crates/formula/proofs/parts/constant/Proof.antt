@@ -17,7 +17,7 @@ returns : tie.Need-returns
 returns c =
     let a = c .before .before .before .args in
     let t = now (a .text) in
-    none-reads t (a .place) (now (a .out)) (now (a .out)) refl (too-few t (atOf (a .place)) (omega (arith, c .if1 .taken, c .before .at-of .ensures)))
+    none-reads refl (too-few t (atOf (a .place)) (omega (arith, c .if1 .taken, c .before .at-of .ensures)))
 
 returns-2 : tie.Need-returns-2
 returns-2 c =
@@ -25,7 +25,7 @@ returns-2 c =
     let t = now (s .args .text) in
     let at = c .before .before .before .before .at-of in
     let d = c .before .are-digits in
-    none-reads t (s .args .place) (now (s .args .out)) (now (s .args .out)) refl
+    none-reads refl
     (no-digits t (atOf (s .args .place)) (omega (arith, s .pre .0 .inside, c .before .before .before .if1 .left, at .ensures))
     (digits-told t (at .result) (atOf (s .args .place)) (d .ensures) (at .ensures) ∙ not-true (d .result) (c .if2 .taken)))
 
@@ -42,7 +42,7 @@ returns-3 c =
     let at = c .before .before .before .before .before .before .before .at-of in
     let end = c .before .end-of in
     let d = c .before .before .before .before .are-digits in
-    constant-reads t p o (c .copy .last .1 .0) (s .pre .0 .short) (s .pre .1) (omega (
+    constant-reads (s .pre .0 .short) (s .pre .1) (omega (
       arith,
       s .pre .0 .inside,
       c .before .before .before .before .before

@@ -31,20 +31,20 @@ returns c =
     let x = c .before .before .before .before .byte-at .result in
     let b = byte-is (c .before .before .before) in
     let l = sym (c .before .before .before .is-letter .ensures) ∙ c .before .before .if1 .taken in
-    letter-reads t (s .args .place) (now (s .args .out)) (c .letter .last .0) x (s .pre .short) (letter-stands t (atOf (s .args .place)) x b l) b l
+    letter-reads x (s .pre .short) (letter-stands t (atOf (s .args .place)) x b l) b l
     (c .letter .ensures .0) (c .letter .ensures .1)
 
 returns-2 : tie.Need-returns-2
 returns-2 c =
     let s = c .before .before .before .before .before .before .before .before in
-    reads-as _ _ _ _ (hash-leaf (now (s .args .text)) (atOf (s .args .place)) _ (byte-is (c .before .before .before .before))
+    reads-as (hash-leaf (now (s .args .text)) (atOf (s .args .place)) _ (byte-is (c .before .before .before .before))
     (sym (c .before .before .before .before .is-letter .ensures) ∙ c .before .before .before .if1 .left) (c .before .before .if2 .taken))
     (c .constant .ensures)
 
 returns-3 : tie.Need-returns-3
 returns-3 c =
     let s = c .before .before .before .before .before .before in
-    none-reads _ _ _ _ refl (no-leaf (now (s .args .text)) (atOf (s .args .place)) _ (byte-is (c .before .before)) (sym (c .before .before .is-letter .ensures)
+    none-reads refl (no-leaf (now (s .args .text)) (atOf (s .args .place)) _ (byte-is (c .before .before)) (sym (c .before .before .is-letter .ensures)
     ∙ c .before .if1 .left) (c .if2 .left))
 
 pub leaf-spec : {M : Type 1} → statement M

@@ -4,11 +4,5 @@ use borrow.Author.Tests.{le-leb, lt-leb}
 use Rattle.host_floats.proofs.entry.double_sign.Statement.{statement}
 use Rattle.host_floats.proofs.entry.double_sign.Tie as tie
 
-returns : tie.Need-returns
-returns c = (rw (le-leb _ _ (c .if1 .taken)), omega arith)
-
-returns-2 : tie.Need-returns-2
-returns-2 c = (rw (lt-leb _ _ (c .if1 .left)), omega arith)
-
 pub double-sign-spec : {M : Type 1} → statement M
-double-sign-spec = tie.close (tie.spec returns returns-2)
+double-sign-spec = tie.close (tie.spec (λ c. (rw (le-leb _ _ (c .if1 .taken)), omega arith)) (λ c. (rw (lt-leb _ _ (c .if1 .left)), omega arith)))

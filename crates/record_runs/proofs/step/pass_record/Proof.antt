@@ -1,5 +1,5 @@
 -- `record_runs::step::pass_record` meets its contract: a frame that is broken stops, a whole one is worked by its kind with its payload. Assumes nothing.
-use mathlib.Core.Path.{_≡_, sym, ap, _∙_}
+use mathlib.Core.Path.{_≡_, refl, sym, ap, _∙_}
 use Prim.Native.Nat.{_+_, _-_}
 use native.Mathlib.Nat.{add-sub-cancel-left}
 use native.Mathlib.Omega.{arith}
@@ -8,7 +8,6 @@ use lib.Seq.{length-take-le}
 use denote.Ref.{now}
 use Rattle.terms.specs.Limits.{mostPayload}
 use Rattle.terms.specs.Kind.{kindNamed}
-use Rattle.chip.specs.Step.{given}
 use Rattle.record_runs.specs.declared.head.Frame.the-variants.{Framed}
 use Rattle.record_runs.specs.Record.{frameUnder}
 use Rattle.record_runs.proofs.Heads.{Fits, fits}
@@ -56,17 +55,13 @@ returns c =
     let a = k .before .before .before .before .before .before .args in
     let l = now (a .rest) in
     let n = k .before .n .given .0 .0 in
-    let on = given (a .mode) (a .rule) in
     let w = c .before .before .pass-kind in
     let kind = c .before .before .before .before .before .kind-of .ensures ∙ ap kindNamed (c .before .before .before .before .before .before .two .ensures) in
-    framed on (a .place) (a .card) l (now (a .room)) _ n _ (w .result) (fit k .there) kind (frame k) (rw (add-sub-cancel-left 4 n) at (w .ensures))
+    framed l n _ (fit k .there) kind (frame k) (rw (add-sub-cancel-left 4 n) at (w .ensures))
 
 returns-2 : tie.Need-returns-2
 returns-2 c =
-    let at-frame = c .before .before .before .before in
-    let a = at-frame .before .before .before .args in
-    broken (given (a .mode) (a .rule)) (a .place) (a .card) (now (a .rest)) (now (a .room)) _
-    (sym (at-frame .read-frame .ensures) ∙ c .before .before .refusal .given .1) (c .stop .ensures)
+    broken _ _ (sym (c .before .before .before .before .read-frame .ensures) ∙ c .before .before .refusal .given .1) (c .stop .ensures) refl
 
 pub pass-record-spec : {M : Type 1} → statement M
 pass-record-spec =

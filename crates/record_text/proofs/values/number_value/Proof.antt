@@ -25,7 +25,7 @@ returns-2 c =
     let at-scanned = c .before .before in
     let at-scan = at-scanned .before .before in
     let a = at-scan .before .before .args in
-    let s = subst (Scans (now (a .text))) (at-scanned .scanned .given .1) (at-scan .scan .ensures .1) in
+    let s = subst (Scans (length (now (a .text)))) (at-scanned .scanned .given .1) (at-scan .scan .ensures .1) in
     (not-all (a .kind) (now (a .text)) _ _ (sym (at-scanned .scanned .given .1) ∙ at-scan .scan .ensures .0) (c .if1 .left), omega (arith, s .2))
 
 returns-3 : tie.Need-returns-3
@@ -33,7 +33,7 @@ returns-3 c =
     let at-scanned = c .before in
     let at-scan = at-scanned .before .before in
     let a = at-scan .before .before .args in
-    let s = subst (Scans (now (a .text))) (at-scanned .scanned2 .given .1) (at-scan .scan .ensures .1) in
+    let s = subst (Scans (length (now (a .text)))) (at-scanned .scanned2 .given .1) (at-scan .scan .ensures .1) in
     (too-many (a .kind) (now (a .text)) _ (sym (at-scanned .scanned2 .given .1) ∙ at-scan .scan .ensures .0), omega (arith, s))
 
 pub number-value-spec : {M : Type 1} → statement M

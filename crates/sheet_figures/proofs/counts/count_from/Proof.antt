@@ -38,7 +38,7 @@ loop-again c =
       omega arith,
       omega (arith, c .one .ensures .1, l .inv .1),
       count-on (now (st .args .sheets)) (l .found) (l .at) _ _ (c .before .before .loop-test .taken)
-          (st .args .serial) _ (c .before .serial-at .ensures) (c .one .ensures .0) (l .inv .2),
+          (st .args .serial) _ (c .before .number-at .ensures) (c .one .ensures .0) (l .inv .2),
     )
 
 returns : tie.Need-returns Inv-loop μ-loop

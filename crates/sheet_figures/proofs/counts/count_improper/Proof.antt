@@ -38,7 +38,7 @@ loop-again c =
       omega arith,
       omega (arith, c .one .ensures .1, l .inv .1),
       improper-on (now (st .args .sheets)) (l .found) (l .i) _ _ (c .before .before .before .loop-test
-          .taken) _ _ (c .before .before .word-at .ensures) (c .before .is-proper .ensures) (c .one .ensures .0) (l .inv .2),
+          .taken) _ _ (c .before .before .number-at .ensures) (c .before .is-proper .ensures) (c .one .ensures .0) (l .inv .2),
     )
 
 returns : tie.Need-returns Inv-loop μ-loop

@@ -21,13 +21,14 @@ gather-requires : tie.Need-gather-requires Inv-loop μ-loop
 gather-requires c κs =
     let st = c .before .before .before .before .before in
     let l = c .before .before .loop in
-    gather-room (now (st .args .sheets)) _ _ (l .i) (c .word-at .result) (c .before .loop-test .taken) (c .word-at .ensures) (l .inv) (st .pre .1)
+    gather-room (now (st .args .sheets)) _ _ (l .i) (c .number-at .result) (c .before .loop-test .taken) (c .number-at .ensures) (l .inv) (st .pre .1)
 
 loop-again : tie.Need-loop-again Inv-loop μ-loop
 loop-again c =
     let st = c .before .before .before .before .before .before in
     let l = c .before .before .before .loop in
-    gather-on (now (st .args .sheets)) _ _ (l .i) (c .before .word-at .result) (c .before .before .loop-test .taken) (c .before .word-at .ensures) (l .inv) _ _
+    gather-on (now (st .args .sheets)) _ _ (l .i) (c .before .number-at .result) (c .before .before .loop-test .taken)
+    (c .before .number-at .ensures) (l .inv) _ _
     (c .gather .ensures .0) (c .gather .ensures .1)
 
 returns : tie.Need-returns Inv-loop μ-loop

@@ -1,5 +1,5 @@
 -- `sheets::step::pass_own` meets its contract: another payload, no room, or entered and answered. Assumes nothing.
-use mathlib.Core.Path.{_≡_, sym, ap, _∙_}
+use mathlib.Core.Path.{_≡_, refl, sym, ap, _∙_}
 use mathlib.Core.List.{_∷_, _++_}
 use Prim.Native.Nat.{ℕ, _+_, _-_}
 use native.Mathlib.Omega.{arith}
@@ -34,7 +34,7 @@ returns : tie.Need-returns
 returns c =
     let a = c .before .before .before .before .before .before .before .before .before .before .before .before .args in
     let at-word = c .before .before .before .before .before .before in
-    λ on. own-bad on (a .place) (a .card) (now (a .sheets)) (now (a .rest)) (now (a .room)) (c .stop .ensures)
+    λ on. own-bad (now (a .sheets)) (now (a .rest)) refl (c .stop .ensures)
     (λ z. c .before .if1 .taken (c .before .before .two2 .ensures ∙ z ∙ ap (λ (k : ℕ). 2 + payloadFor k) (sym (at-word .two .ensures))
     ∙ ap (λ (k : ℕ). 2 + k) (sym (c .before .before .before .before .before .payload-for .ensures .0))))
 
@@ -49,7 +49,7 @@ returns-2 c =
     let n = at-if .before .before .before .before .payload-for .ensures .0 in
     let w = at-if .before .before .before .before .before .two .ensures in
     λ on.
-    own-full on (a .place) (a .card) (now (a .sheets)) (now (a .rest)) (now (a .room)) (c .stop2 .ensures)
+    own-full (now (a .sheets)) (now (a .rest)) refl (c .stop2 .ensures)
     (sym (at-if .before .two2 .ensures) ∙ at-if .if1 .left ∙ ap (λ (k : ℕ). 2 + k) n ∙ ap (λ (k : ℕ). 2 + payloadFor k) w)
     (entry .pre .2 .none 5 (lit≤ tt) (c .before .if2 .taken))
 
@@ -108,7 +108,7 @@ returns-3 c =
     ∙ ap (λ (k : ℕ). le2 3 ++ (le2 (k + 32768) ++ (number .result ∷ drop 5 room))) (w .ensures)
     ∙ ap (λ (k : ℕ). le2 3 ++ (le2 (wordAt l 2 + 32768) ++ (k ∷ drop 5 room))) (number .ensures .0) in
     λ on.
-    own-done on (a .place) (a .card) (now (a .sheets)) l room _ _ (e .result) (4 + n .result) (c .finish .ensures) (owns l (st .pre .1)) sized
+    own-done (now (a .sheets)) _ l (e .result) (4 + n .result) (c .finish .ensures) sized
     (st .pre .2 .some 5 (lit≤ tt) (at-if2 .if2 .left)) entered replied (ap (λ (k : ℕ). 4 + k) m)
 
 pub pass-own-spec : {M : Type 1} → statement M

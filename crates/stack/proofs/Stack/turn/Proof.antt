@@ -6,10 +6,5 @@ use borrow.Author.Needs.{needs}
 use Rattle.stack.proofs.Stack.turn.Statement.{statement}
 use Rattle.stack.proofs.Stack.turn.Tie as tie
 
-returns : tie.Need-returns
-returns c =
-    let a = c .before .args in
-    c .slid .ensures ∙ turn-law (a .self .top) (a .self .rest) (a .n) (omega arith)
-
 pub turn-spec : {M : Type 1} → statement M
-turn-spec = tie.close (tie.spec (λ c κs. search needs) returns)
+turn-spec = tie.close (tie.spec (λ c κs. search needs) (λ c. c .slid .ensures ∙ turn-law _ _ (c .before .args .n) (omega arith)))

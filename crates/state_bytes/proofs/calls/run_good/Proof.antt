@@ -1,19 +1,16 @@
 -- `state_bytes::calls::run_good` meets its contract: the run on the card that was read, the state and the report written. Assumes nothing.
-use mathlib.Core.Path.{sym, ap, ap₂, subst, _∙_}
+use mathlib.Core.Path.{refl, sym, ap₂, subst}
 use Prim.Native.Nat.{_<_}
 use native.Mathlib.Omega.{arith}
 use lib.ListN.{length}
 use denote.Ref.{now}
 use Rattle.chip.specs.State.{State}
 use Rattle.chip.specs.Step.{given}
-use Rattle.error_memory.specs.Memory.{Card, cardWith}
+use Rattle.error_memory.specs.Memory.{cardWith}
 use Rattle.error_memory.specs.Held.{cardUnder}
-use Rattle.record_runs.specs.Run.{runOf}
-use Rattle.record_runs.specs.Held.{Ran}
 use Rattle.record_runs.proofs.Ready.{run-small}
-use Rattle.state_bytes.specs.Bytes.{cardIn}
 use Rattle.state_bytes.proofs.States.{state-sized, state-ready}
-use Rattle.state_bytes.proofs.Calling.{called, same-room}
+use Rattle.state_bytes.proofs.Calling.{called}
 use borrow.Author.Needs.{needs}
 use Rattle.state_bytes.proofs.calls.run_good.Statement.{statement}
 use Rattle.state_bytes.proofs.calls.run_good.Tie as tie
@@ -26,53 +23,28 @@ run-all-requires c κs =
     let e = c .before .before .before .before .before .before .before in
     (subst (λ (s : State). s .status < 128) (sym (c .before .card-in .ensures .0)) (state-ready (now (e .args .state)) (e .pre .0)), e .pre .2)
 
-put-card-requires : tie.Need-put-card-requires
-put-card-requires c κs =
-    let e = c .before .before .before .before .before .before .before .before .before .before .before .before .before in
-    state-sized (now (e .args .state)) (e .pre .0)
-
-cast-fill-report : tie.Need-cast-fill-report
-cast-fill-report c =
-    let r = c .before .before .before .before .before .before .before .before .before .before in
-    let a = r .before .before .before .before .before .before .before .before .args in
-    let start = cardUnder (given (a .mode) (a .rule)) (r .before .before .card-in .result) in
-    omega (arith, r .run-all .ensures .refusal-is, run-small start (now (a .input)) (length (now (a .replies))))
-
-fill-report-requires : tie.Need-fill-report-requires
-fill-report-requires c κs =
-    let at-run = c .before .before .before .before .before .before .before .before .before .before in
-    at-run .before .before .before .before .before .before .before .before .pre .1
-
-same-length-2 : tie.Need-same-length-2
-same-length-2 c =
-    let at-run = c .before .before .before .before .before .before .before .before .before .before .before .before .before .before in
-    same-room (at-run .run-all .ensures)
-
-same-length-3 : tie.Need-same-length-3
-same-length-3 c =
-    let at-run = c .before .before .before .before .before .before .before .before .before .before .before .before .before .before in
-    ap length (c .before .before .before .fill-report .ensures) ∙ sym (at-run .before .before .before .before .before .before .before .before .pre .1)
+settle-requires : tie.Need-settle-requires
+settle-requires c κs =
+    let r = c .before .before .before .before in
+    let e = r .before .before .before .before .before .before .before .before in
+    let a = e .args in
+    let start = cardUnder (given (a .mode) (a .rule)) (r .before .before .card-in .result) in (
+      state-sized (now (a .state)) (e .pre .0),
+      e .pre .1,
+      omega (arith, r .run-all .ensures .refusal-is, run-small start (now (a .input)) (length (now (a .replies)))),
+    )
 
 returns : tie.Need-returns
 returns c =
-    let at-run = c .before .before .before .before .before .before .before .before .before .before .before .before .before .before in
+    let at-run = c .before .before .before .before .before .before .before .before .before in
     let a = at-run .before .before .before .before .before .before .before .before .args in
     let on = given (a .mode) (a .rule) in
     let l = now (a .state) in
-    let input = now (a .input) in
-    let replies = now (a .replies) in
     let held = at-run .before .before .card-in .ensures in
-    let r = at-run .run-all in
-    let o = r .result in
-    let left = r .last .1 .1 .1 .1 .0 in
-    let ran =
-    subst (λ (k : Card). Ran on (runOf k input (length replies)) o input replies left) (ap₂ (cardWith on) (held .0) (held .1)) (r .ensures) in
-    called (length l) (runOf (cardIn on l) input (length replies)) (o .refusal) (cardUnder on (o .card)) (o .place .taken) (o .place .written) input replies
-    left _ _
-    ran (c .before .before .before .before .before .before .before .before .put-card .ensures) (c .before .before .before .fill-report .ensures)
+    let put = c .before .before .before .before .settle .ensures in
+    called (length l) (rw (ap₂ (cardWith on) (held .0) (held .1)) at (at-run .run-all .ensures)) refl refl (put .0) (put .1) (put .2)
 
 pub run-good-spec : {M : Type 1} → statement M
 run-good-spec =
     tie.close
-    (tie.spec card-in-requires run-all-requires put-card-requires cast-fill-report fill-report-requires
-    (λ c. search needs) (λ c. search needs) same-length-2 same-length-3 returns)
+    (tie.spec card-in-requires run-all-requires settle-requires (λ c. search needs) (λ c. search needs) (λ c. search needs) returns)

@@ -1,5 +1,9 @@
 -- `step_text::asked::operation_at` is its definition: at each arm the code is that of an operation. Assumes nothing.
-use borrow.Author.Tests.{ne-eqb}
+use mathlib.Core.List.{[], _∷_}
+use Rattle.terms.specs.declared.Width.the-variants.{Single, Double}
+use Rattle.terms.proofs.Arms.{last-arm}
+use Rattle.bit_serial.specs.declared.Operation.the-variants.{Mul, Muu, Div, Fmul, Fdiv}
+use Rattle.step_text.specs.declared.asked.Found.the-variants.{Operation as Named}
 use Rattle.step_text.specs.Asked.{operationAt}
 use Rattle.step_text.proofs.asked.operation_at.Statement.{statement}
 use Rattle.step_text.proofs.asked.operation_at.Tie as tie
@@ -8,19 +12,9 @@ use Rattle.step_text.proofs.asked.operation_at.Tie as tie
 returns-9 : tie.Need-returns-9
 unfolding operationAt
 returns-9 c =
-    let k = c .before .args .code in
-    let r = c .match .rest in
-    let s = r .0 .0 .0 .0 in
-    rw (
-      ne-eqb k 0x6E (s .0 .0 .0 .1),
-      ne-eqb k 0x76 (s .0 .0 .1),
-      ne-eqb k 0x6F (s .0 .1),
-      ne-eqb k 0x2E (s .1),
-      ne-eqb k 0x36 (r .0 .0 .0 .1),
-      ne-eqb k 0x2F (r .0 .0 .1),
-      ne-eqb k 0x12 (r .0 .1),
-      ne-eqb k 0x13 (r .1),
-    )
+    last-arm _ _
+    ((0x6E, Named (Mul Single)) ∷ (0x76, Named (Muu Single)) ∷ (0x6F, Named (Div Single)) ∷ (0x2E, Named (Mul Double)) ∷ (0x36, Named (Muu Double))
+    ∷ (0x2F, Named (Div Double)) ∷ (0x12, Named Fmul) ∷ (0x13, Named Fdiv) ∷ []) (c .match .rest)
 
 pub operation-at-spec : {M : Type 1} → statement M
 unfolding operationAt

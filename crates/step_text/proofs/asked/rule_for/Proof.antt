@@ -8,10 +8,6 @@ use Rattle.listing.proofs.Texts.{is-same, is-other}
 use Rattle.step_text.proofs.asked.rule_for.Statement.{statement}
 use Rattle.step_text.proofs.asked.rule_for.Tie as tie
 
-returns : tie.Need-returns
-unfolding ruleFor
-returns c = rw (eq-eqb _ _ (c .if1 .taken))
-
 returns-2 : tie.Need-returns-2
 unfolding ruleFor
 returns-2 c =
@@ -35,4 +31,5 @@ returns-4 c = rw (ne-eqb _ _ (c .before .if1 .left), ne-eqb _ _ (c .if2 .left))
 
 pub rule-for-spec : {M : Type 1} → statement M
 rule-for-spec =
-    tie.close (tie.spec returns (λ c. search needs) (λ c κs. search needs) returns-2 returns-3 returns-4)
+    tie.close
+    (tie.spec (λ c. unfold ruleFor in rw (eq-eqb _ _ (c .if1 .taken))) (λ c. search needs) (λ c κs. search needs) returns-2 returns-3 returns-4)

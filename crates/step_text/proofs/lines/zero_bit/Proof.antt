@@ -4,11 +4,5 @@ use borrow.Author.Tests.{eq-eqb, ne-eqb}
 use Rattle.step_text.proofs.lines.zero_bit.Statement.{statement}
 use Rattle.step_text.proofs.lines.zero_bit.Tie as tie
 
-returns : tie.Need-returns
-returns c = (rw (eq-eqb _ _ (c .if1 .taken)), omega arith)
-
-returns-2 : tie.Need-returns-2
-returns-2 c = (rw (ne-eqb _ _ (c .if1 .left)), omega arith)
-
 pub zero-bit-spec : {M : Type 1} → statement M
-zero-bit-spec = tie.close (tie.spec returns returns-2)
+zero-bit-spec = tie.close (tie.spec (λ c. (rw (eq-eqb _ _ (c .if1 .taken)), omega arith)) (λ c. (rw (ne-eqb _ _ (c .if1 .left)), omega arith)))
