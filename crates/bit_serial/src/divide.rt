@@ -5,7 +5,7 @@ ghost use Rattle.bit_serial.specs.Quotient.{Places, begun, subtracted, division}
 
 // A quotient in the making: the digits found, what is left of the dividend, and how many digits
 // are left to find.
-#[derive(Drop)]
+#[derive(Clone, Copy)]
 pub struct Division {
     pub quotient: u64,
     pub rest: u64,

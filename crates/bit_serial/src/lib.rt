@@ -1,6 +1,8 @@
 // The chip's own way of working: MUL, MUU, DIV, FMUL and FDIV a bit at a time. A step adds or
 // subtracts one shifted operand, and the loop is left as soon as no bits remain.
 // No stack and no status here: words in; a word, its error and the number of steps out, or a refusal.
+#![tactic(auto)]
+
 pub mod divide;
 pub mod floats;
 pub mod multiply;
@@ -15,7 +17,7 @@ ghost use Rattle.bit_serial.specs.Work.{width_of, Operands, answer_of};
 use terms::{Refusal, Rule, Width};
 
 // The operations that are worked a bit at a time; the fixed-point ones carry their width.
-#[derive(Drop)]
+#[derive(Clone, Copy)]
 pub enum Operation {
     Mul(Width),
     Muu(Width),
@@ -26,7 +28,7 @@ pub enum Operation {
 
 // The answer: a case that carries the word, its error (0 for none, or one of the numbers that
 // `terms` names) and the number of steps made, or one that carries the refusal.
-#[derive(Drop)]
+#[derive(Clone, Copy)]
 pub enum Answer {
     Word { word: u32, error: u8, steps: u32 },
     Refused(Refusal),

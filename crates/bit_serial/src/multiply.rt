@@ -6,7 +6,7 @@ ghost use Rattle.bit_serial.specs.Product.{AddsUp, begun, added, product};
 
 // A product in the making: what was added up, the bits of the multiplier that are left, and how
 // many steps were made.
-#[derive(Drop)]
+#[derive(Clone, Copy)]
 pub struct Product {
     pub partial: u64,
     pub left: u64,

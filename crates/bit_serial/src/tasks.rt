@@ -9,7 +9,7 @@ use fixed::parts::{either_least, magnitude};
 use float::word::mantissa_of;
 
 // No steps; x times y, or v over d, in at most so many.
-#[derive(Drop)]
+#[derive(Clone, Copy)]
 pub enum Task {
     Nothing,
     Multiply { x: u64, y: u64, most: u32 },

@@ -1,6 +1,8 @@
 // The listing program: reads record bytes from standard input, up to one more than a run takes,
 // and writes the listing of their run from reset to standard output. `--am9511` and `--nearest`, in
 // this order, choose the older part's reset and the rule that rounds.
+#![tactic(auto)]
+
 use libc::{STDIN_FILENO, STDOUT_FILENO};
 
 fn main() {

@@ -1,5 +1,7 @@
 // The command codes of the Am9511A, decoded by their bits to a kind: a command that carries its width, in the groups of
 // the sheet, a derived function, or an unknown code.
+#![tactic(auto)]
+
 ghost use Rattle.std.specs.Prelude.{◌≡◌, ◌+◌, ◌%◌, ◌≤◌, ◌<◌};
 ghost use Rattle.codes.specs.Command.{kind_in};
 ghost use Rattle.codes.specs.Codes.{sr, decoded};
@@ -9,7 +11,7 @@ use terms::Width;
 
 // The fixed-point operations, of 16 bits or of 32: those on B and A, and CHS on A. The first four are in the order of
 // their codes, so that no table is needed.
-#[derive(Drop)]
+#[derive(Clone, Copy)]
 pub enum FixedOp {
     Add,
     Sub,
@@ -20,7 +22,7 @@ pub enum FixedOp {
 }
 
 // The four float operations on B and A.
-#[derive(Drop)]
+#[derive(Clone, Copy)]
 pub enum FloatOp {
     Add,
     Sub,
@@ -29,7 +31,7 @@ pub enum FloatOp {
 }
 
 // The moves of words. Their D and F forms do the same and are one case.
-#[derive(Drop)]
+#[derive(Clone, Copy)]
 pub enum MoveOp {
     Pto,
     Pop,
@@ -37,7 +39,7 @@ pub enum MoveOp {
 }
 
 // What a code stands for, in the sheet's groups: a command that carries its width, a derived function, or nothing.
-#[derive(Drop)]
+#[derive(Clone, Copy)]
 pub enum Kind {
     Nop,
     Fixed(FixedOp, Width),

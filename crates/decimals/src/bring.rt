@@ -19,7 +19,7 @@ const WORD_UNIT: u32 = 112;
 const SMALL_PLACES: u32 = 20;
 
 // What a decimal is as a word: the word of exactly its value, the word that it was brought to, or the refusal.
-#[derive(Drop)]
+#[derive(Clone, Copy)]
 pub enum Brought {
     Exact(u32),
     Rounded(u32),
@@ -27,7 +27,7 @@ pub enum Brought {
 }
 
 // A quotient with what remains, so many bits further than it began.
-#[derive(Drop)]
+#[derive(Clone, Copy)]
 pub struct Quotient {
     pub whole: u64,
     pub rest: u64,
@@ -35,7 +35,7 @@ pub struct Quotient {
 }
 
 // A number that stands for an exact value, and the place of its unit above the fine unit.
-#[derive(Drop)]
+#[derive(Clone, Copy)]
 pub struct Near {
     pub stand: u64,
     pub place: u32,

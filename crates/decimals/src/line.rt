@@ -33,7 +33,7 @@ const MOST_TEXT: usize = 64;
 const ENDS: [u8; 60] = *b"\n cut\n rounded\n improper\n digit\n point\n digits\n places\n end\n";
 
 // Where one of them begins and ends.
-#[derive(Drop)]
+#[derive(Clone, Copy)]
 pub struct End {
     pub from: usize,
     pub to: usize,

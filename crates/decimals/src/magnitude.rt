@@ -12,35 +12,35 @@ const WHOLE_STEP: u64 = 0x1_0000_0000_0000;
 const REST_STEP: u64 = 0x100_0000_0000;
 
 // A whole number of 104 bits.
-#[derive(Drop)]
+#[derive(Clone, Copy)]
 pub struct Whole {
     pub high: u64,
     pub low: u64,
 }
 
 // So many parts of 2^88 to one.
-#[derive(Drop)]
+#[derive(Clone, Copy)]
 pub struct Rest {
     pub high: u64,
     pub low: u64,
 }
 
 // Both.
-#[derive(Drop)]
+#[derive(Clone, Copy)]
 pub struct Magnitude {
     pub whole: Whole,
     pub rest: Rest,
 }
 
 // A whole number without its last digit, and that digit.
-#[derive(Drop)]
+#[derive(Clone, Copy)]
 pub struct Tenth {
     pub whole: Whole,
     pub digit: u8,
 }
 
 // The next digit below one, and what is left below it, ten times as much.
-#[derive(Drop)]
+#[derive(Clone, Copy)]
 pub struct Tenfold {
     pub digit: u8,
     pub rest: Rest,

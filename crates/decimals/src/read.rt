@@ -19,7 +19,7 @@ const POINT: u8 = 46;
 
 // Why a text is no decimal: a digit is wanted, a point is wanted, there are too many digits, there are too many
 // places, or something stands behind the number.
-#[derive(Drop)]
+#[derive(Clone, Copy)]
 pub enum Fault {
     NoDigit,
     NoPoint,
@@ -29,14 +29,14 @@ pub enum Fault {
 }
 
 // The digits at the front of a text: their number and how many they are, or the place of one too many.
-#[derive(Drop)]
+#[derive(Clone, Copy)]
 pub enum Scanned {
     Digits { value: u64, count: usize },
     TooMany(usize),
 }
 
 // A decimal, or why a text is none and at which place, counted from 0.
-#[derive(Drop)]
+#[derive(Clone, Copy)]
 pub enum Parsed {
     Decimal {
         neg: bool,
@@ -48,7 +48,7 @@ pub enum Parsed {
 }
 
 // A text as a word: exact, brought to 24 bits by the rule, refused, or no decimal.
-#[derive(Drop)]
+#[derive(Clone, Copy)]
 pub enum Reading {
     Exact(u32),
     Rounded(u32),

@@ -17,7 +17,7 @@ const MOST_PLACES: u32 = 27;
 const HALF: u64 = 0x8000_0000_0000;
 
 // A decimal without its sign, or none.
-#[derive(Drop)]
+#[derive(Clone, Copy)]
 pub enum Short {
     Decimal {
         whole: u64,

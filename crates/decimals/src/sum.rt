@@ -15,7 +15,7 @@ const SUM_BYTES: usize = 24;
 const SUM_DIGITS: usize = 48;
 
 // A magnitude with its sign, or none.
-#[derive(Drop)]
+#[derive(Clone, Copy)]
 pub enum Sum {
     Signed(bool, Magnitude),
     Nothing,

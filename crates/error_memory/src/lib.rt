@@ -1,18 +1,20 @@
 // The error memory round a chip, as document 02 asks for it: the error bits of every status that commands left since
 // reset or clearing, joined, and the code of the first command that left any. The chip knows nothing of it: an event is
 // the chip's, and what it leaves remembered follows from the chip's answer.
+#![tactic(auto)]
+
 ghost use Rattle.std.specs.Prelude.{◌≡◌, ◌<◌};
 ghost use Rattle.error_memory.specs.Memory.{empty_memory, errors_of, first_code, remembered, is_memory};
 
 // The bits 4 to 1 in their places, so an even number up to 30, and the code without its service bit.
-#[derive(Drop)]
+#[derive(Clone, Copy)]
 pub struct Memory {
     pub bits: u8,
     pub code: u8,
 }
 
 // A chip and its memory, as they stand on the card. The settings of a call, mode and rule, go beside it.
-#[derive(Drop)]
+#[derive(Clone, Copy)]
 pub struct Card {
     pub chip: chip::State,
     pub memory: Memory,

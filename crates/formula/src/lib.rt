@@ -1,6 +1,8 @@
 // Formulas to record files. A text is read once and brought into postfix order. The records of that are
 // written twice by the same function: first for their number and the refusals, with no room for them,
 // then to the file.
+#![tactic(auto)]
+
 pub mod parts;
 pub mod postfix;
 pub mod store;
@@ -25,7 +27,7 @@ pub const MOST_NEED: usize = 4;
 pub const MOST_NESTED: u32 = 16;
 
 // Why a text is not translated, in the order in which it is asked.
-#[derive(Drop)]
+#[derive(Clone, Copy)]
 pub enum Refusal {
     Done,
     NoFormula,
@@ -48,7 +50,7 @@ pub fn number(refusal: Refusal) -> u8
 }
 
 // A translation: the refusal, and the bytes of the file.
-#[derive(Drop)]
+#[derive(Clone, Copy)]
 pub struct Translation {
     pub refusal: Refusal,
     pub size: usize,

@@ -17,7 +17,7 @@ pub const NOWHERE: u32 = 511;
 const MINUS: u8 = 0x15;
 
 // What joins operands: plus and minus the products of a sum, times and divide the factors of a product.
-#[derive(Drop)]
+#[derive(Clone, Copy)]
 pub enum Rank {
     Sum,
     Product,

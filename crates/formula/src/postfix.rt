@@ -11,7 +11,7 @@ use float::word::is_proper;
 
 // What was written: the bytes of the records, the words that they leave on the stack, the most that
 // they had there, and whether each of the words is proper.
-#[derive(Drop)]
+#[derive(Clone, Copy)]
 pub struct Written {
     pub end: usize,
     pub height: usize,

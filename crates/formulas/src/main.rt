@@ -3,6 +3,8 @@
 // more than a formula has, from standard input; writes the record file, or `refused` and the number, to standard
 // output,
 // and `end` behind either.
+#![tactic(auto)]
+
 use libc::{STDIN_FILENO, STDOUT_FILENO};
 
 // What stands where no file was written.

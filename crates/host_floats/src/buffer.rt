@@ -12,7 +12,7 @@ pub const FLOAT_SIZE: usize = 8;
 
 // What one entry says: the number of its refusal, the word or the bits of the f64 that is written for
 // it, and 1 where it was brought to 24 bits.
-#[derive(Drop)]
+#[derive(Clone, Copy)]
 pub struct Entry {
     pub refusal: u8,
     pub bits: u64,
@@ -21,7 +21,7 @@ pub struct Entry {
 
 // What is replied to a buffer: 0 and how many entries were brought to 24 bits; or the refusal of the
 // first entry that is refused and its number, counted from 1; or another refusal and 0.
-#[derive(Drop)]
+#[derive(Clone, Copy)]
 pub struct BufferReply {
     pub refusal: u8,
     pub number: usize,

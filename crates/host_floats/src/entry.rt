@@ -17,7 +17,7 @@ const HALF: u64 = 0x1000_0000;
 const LARGE: u64 = 0x2_1F00_0000;
 
 // A word as an f64: a case that carries the float, or one that carries the refusal.
-#[derive(Drop)]
+#[derive(Clone, Copy)]
 pub enum Outward {
     Float(f64),
     Refused(Refusal),
@@ -25,7 +25,7 @@ pub enum Outward {
 
 // An f64 as a word: the word of exactly its value; the word that it was brought to, with the f64 that
 // this word stands for; or the refusal.
-#[derive(Drop)]
+#[derive(Clone, Copy)]
 pub enum Inward {
     Exact(u32),
     Rounded(u32, f64),

@@ -1,5 +1,7 @@
 // Chip words as host floats and back: an f32, the value unchanged; an f64; and buffers of f64s. A float comes in by
 // its bits, so that a pattern that is no number is turned away before a float is made of it.
+#![tactic(auto)]
+
 pub mod buffer;
 pub mod entry;
 pub mod floats;
@@ -12,21 +14,21 @@ ghost use Rattle.host_floats.specs.Host.{exponent_field, host_bits, host_of, wor
 use terms::Refusal;
 
 // A word as an f32: a case that carries the float, or one that carries the refusal.
-#[derive(Drop)]
+#[derive(Clone, Copy)]
 pub enum Host {
     Float(f32),
     Refused(Refusal),
 }
 
 // An f32 as a word: a case that carries the word, or one that carries the refusal.
-#[derive(Drop)]
+#[derive(Clone, Copy)]
 pub enum Taken {
     Word(u32),
     Refused(Refusal),
 }
 
 // Either answer as the calls give it: the refusal, and 32 bits, 0 where it carries none.
-#[derive(Drop)]
+#[derive(Clone, Copy)]
 pub struct Reply {
     pub refusal: Refusal,
     pub bits: u32,

@@ -1,5 +1,7 @@
 // What the listing program prints for an input: the run from reset, and the listing of its replies. The program only
 // reads, calls this and writes.
+#![tactic(auto)]
+
 ghost use Rattle.std.specs.Prelude.{◌≡◌, take};
 ghost use Rattle.io.specs.Counts.{IsPrefixLen};
 ghost use Rattle.chip.specs.Step.{given};

@@ -7,7 +7,7 @@ ghost use Rattle.listing.specs.Hex.{digit_value, hex_of, Below, digits_to};
 use crate::text::digit;
 
 // The number of hex digits, or none.
-#[derive(Drop)]
+#[derive(Clone, Copy)]
 pub enum Hex {
     Number(u32),
     Nothing,

@@ -1,5 +1,7 @@
 // What the listing program prints: from the replies and the report of a run to the text of
 // document 01, a line for each reply and the last line. The text goes into a lent slice.
+#![tactic(auto)]
+
 pub mod hex;
 pub mod options;
 pub mod text;

@@ -4,7 +4,7 @@ ghost use Rattle.std.specs.Prelude.{◌≡◌};
 ghost use Rattle.listing.specs.Options.{asked_of};
 
 // The numbers of a mode and a rule, or nothing that the programs do.
-#[derive(Drop)]
+#[derive(Clone, Copy)]
 pub enum Asked {
     Under { mode: u32, rule: u32 },
     Nothing,

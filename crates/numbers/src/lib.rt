@@ -1,5 +1,7 @@
 // Numbers as bytes, the low one first, as records, the report, the calls and buffers have them; and the other way
 // round, as the stack has them. The definitions and laws of whole numbers with a sign stand beside them.
+#![tactic(auto)]
+
 ghost use Rattle.std.specs.Prelude.{◌≡◌, ◌+◌, ◌*◌, ◌≤◌, length};
 ghost use Rattle.std.proofs.Math.Seq.{paste};
 ghost use Rattle.numbers.specs.Little.{word_bytes, le4, four_at, eight_at, le8, high2, high4, high8};

@@ -1,1 +1,3 @@
 // The demands of the order as statements, each with its proof. No function.
+#![tactic(auto)]
+

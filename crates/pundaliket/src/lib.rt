@@ -1,5 +1,7 @@
 // The calls that the rack controller's firmware makes, on byte slices that it lends. Every call refuses by 01's number,
 // asks nothing of its caller, and says what each slice holds after. Each is thin over the function that does its work.
+#![tactic(auto)]
+
 pub mod event;
 
 ghost use Rattle.host_floats.specs.Host.{host_of, taken_of, host_reply, taken_reply};

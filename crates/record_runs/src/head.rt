@@ -6,7 +6,7 @@ ghost use Rattle.record_runs.specs.Record.{frame_under};
 use terms::Refusal;
 
 // The frame of the record at the front of a file: the bytes of its payload, or a refusal.
-#[derive(Drop)]
+#[derive(Clone, Copy)]
 pub enum Frame {
     Framed(u32),
     Broken(Refusal),

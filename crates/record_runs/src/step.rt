@@ -16,7 +16,7 @@ use terms::{EventKind, Mode, Refusal, Rule, number};
 
 // Where a run stands: the bytes of records taken, of as many as the file has, and the bytes of replies written, of as
 // many as have room. Numbers of 32 bits, which a processor of 32 bits keeps in one register each.
-#[derive(Drop)]
+#[derive(Clone, Copy)]
 pub struct Place {
     pub taken: u32,
     pub size: u32,
@@ -26,7 +26,7 @@ pub struct Place {
 
 // What became of a record, or of a file: the card after it, the refusal that stops the run or 0, the place behind it.
 // The refusal has 16 bits: a struct's copy carries no hole of more than four bytes then.
-#[derive(Drop)]
+#[derive(Clone, Copy)]
 pub struct Pass {
     pub card: Card,
     pub refusal: u16,

@@ -17,7 +17,7 @@ const SHEETS: u8 = 136;
 pub const NO_PLACE: u8 = 139;
 
 // What stands behind a name: bytes and words, a number, a code, nothing. What is unknown has no name.
-#[derive(Drop)]
+#[derive(Clone, Copy)]
 pub enum Form {
     Bytes,
     Number,
@@ -27,7 +27,7 @@ pub enum Form {
 }
 
 // Where a part of a text begins and ends.
-#[derive(Drop)]
+#[derive(Clone, Copy)]
 pub struct Span {
     pub from: usize,
     pub to: usize,

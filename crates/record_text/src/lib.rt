@@ -2,6 +2,8 @@
 // payload are told as such a line, and a line is read as the record that it says. What is told of a record reads back
 // as that record; a line that says none is answered by the place of what is wrong and why. A file of records has a
 // trace: the state after each of them.
+#![tactic(auto)]
+
 pub mod kinds;
 pub mod line;
 pub mod named;

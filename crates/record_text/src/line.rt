@@ -23,21 +23,21 @@ pub const RECORD_ROOM: usize = 244;
 const COMMAND: u16 = 3;
 
 // Bytes with a value more: how many they are, or why there are none, and at which place of the line.
-#[derive(Drop)]
+#[derive(Clone, Copy)]
 pub enum Put {
     Added(usize),
     Wrong(Fault, usize),
 }
 
 // A payload of so many bytes and the place behind its words; or what is wrong.
-#[derive(Drop)]
+#[derive(Clone, Copy)]
 pub enum Taken {
     Payload(usize, usize),
     Wrong(Fault, usize),
 }
 
 // What a line says: a record of so many bytes, nothing, or what is wrong at which place, counted from 0.
-#[derive(Drop)]
+#[derive(Clone, Copy)]
 pub enum Line {
     Record(usize),
     Empty,

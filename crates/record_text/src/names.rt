@@ -17,7 +17,7 @@ const NAMES: [u8; 512] = *b"NOP.SQRTSIN.COS.TAN.ASINACOSATANLOG.LN..EXP.PWR.....
     ................CHSS....SMUUPTOSPOPSXCHS........................";
 
 // A name of up to four letters, dots behind it, and how many they are; 0 where a code has no name.
-#[derive(Drop)]
+#[derive(Clone, Copy)]
 pub struct Name {
     pub text: [u8; 4],
     pub size: usize,

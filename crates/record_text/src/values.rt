@@ -10,7 +10,7 @@ use listing::hex::{Hex, read_hex};
 use terms::{Refusal, Rule};
 
 // Why a line is no record.
-#[derive(Drop)]
+#[derive(Clone, Copy)]
 pub enum Fault {
     NoName,
     Missing,
@@ -49,14 +49,14 @@ pub fn fault_number(fault: Fault) -> u8 {
 }
 
 // A number that goes into so many bytes; or why there is none, and the place in the word, counted from 0.
-#[derive(Drop)]
+#[derive(Clone, Copy)]
 pub enum Value {
     Number(u32, usize),
     Wrong(Fault, usize),
 }
 
 // The least and the most that a number may be, and its bytes.
-#[derive(Drop)]
+#[derive(Clone, Copy)]
 pub struct Range {
     pub least: u64,
     pub most: u64,

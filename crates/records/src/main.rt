@@ -4,6 +4,8 @@
 // The last line is `end`; or `wrong`, the number of the line, the place in it and the number of the fault; or
 // `stopped`, the bytes before the record that has no words and the refusal. What stands before a last line that is not
 // `end` is no answer.
+#![tactic(auto)]
+
 ghost use Rattle.std.specs.Prelude.{◌≡◌, ◌⊎◌, ◌+◌, ◌≤◌, ◌<◌, length};
 ghost use Rattle.terms.specs.Limits.{most_input};
 

@@ -1,5 +1,7 @@
 // The ledger of module sheets: the list of closed sheets and the open one, in bytes that the caller lends, and what
 // opening, keeping and closing do to it. It knows no chip: the word on top of the stack is handed to it.
+#![tactic(auto)]
+
 pub mod bytes;
 pub mod enter;
 
@@ -7,7 +9,7 @@ ghost use Rattle.std.specs.Prelude.{◌≡◌, ◌≤◌};
 ghost use Rattle.sheet_bytes.specs.Entering.{number_of};
 
 // Why a record of kind 256, 257 or 258 is turned away inside its reply, in the order of 02.
-#[derive(Drop)]
+#[derive(Clone, Copy)]
 pub enum Refusal {
     Done,
     StillOpen,

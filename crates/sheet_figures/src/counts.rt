@@ -33,7 +33,7 @@ fn count_from(sheets: &[u8], from: usize, serial: u32) -> u8
 }
 
 // How many serials are different, and how many of them stand on more than one line.
-#[derive(Drop)]
+#[derive(Clone, Copy)]
 pub struct Serials {
     pub different: u8,
     pub repeated: u8,

@@ -1,5 +1,7 @@
 // The shift's figures, from the bytes of a list of sheets: how many lines, different serials, serials on more than one
 // line and improper words, and the exact sum of the proper ones as a sign and 48 hex digits.
+#![tactic(auto)]
+
 pub mod counts;
 pub mod sheet;
 pub mod sum;

@@ -45,7 +45,7 @@ fn add_size(sum: [u8; 24], word: u32) -> [u8; 24]
 }
 
 // One sum less another, and 1 where it was the smaller.
-#[derive(Drop)]
+#[derive(Clone, Copy)]
 pub struct Difference {
     pub bytes: [u8; 24],
     pub borrowed: u32,
@@ -69,7 +69,7 @@ fn less(a: [u8; 24], b: [u8; 24]) -> Difference
 }
 
 // The magnitudes above zero and those below.
-#[derive(Drop)]
+#[derive(Clone, Copy)]
 pub struct Sums {
     pub plus: [u8; 24],
     pub minus: [u8; 24],
@@ -116,7 +116,7 @@ fn gather_all(sheets: &[u8]) -> Sums
 }
 
 // A sum: the character of its sign, and its magnitude.
-#[derive(Drop)]
+#[derive(Clone, Copy)]
 pub struct Total {
     pub sign: u8,
     pub size: [u8; 24],

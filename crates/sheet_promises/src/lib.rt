@@ -1,1 +1,3 @@
 // The statements of module sheets: definitions and proofs, no function.
+#![tactic(auto)]
+

@@ -1,5 +1,7 @@
 // What the program of the sheets prints for an input: the run from reset with no sheets, the listing of its replies,
 // a line for each closed sheet, the open one, and the figures. The program only reads, calls this and writes.
+#![tactic(auto)]
+
 ghost use Rattle.std.specs.Prelude.{◌≡◌, ◌+◌, ◌*◌, ◌≤◌, min, length, take};
 ghost use Rattle.io.specs.Counts.{IsPrefixLen};
 ghost use Rattle.sheet_bytes.specs.Ledger.{sheets_bytes, most_sheets, place_bytes, closed_in, lines_of};

@@ -2,6 +2,8 @@
 // and writes the listing of their run from reset, the sheets closed and the one open, to standard output.
 // `--am9511` and `--nearest` behind its name, in this order, choose the older part's reset and the rule
 // that rounds.
+#![tactic(auto)]
+
 use libc::{STDIN_FILENO, STDOUT_FILENO};
 
 fn main() {

@@ -1,6 +1,8 @@
 // Module sheets, a second library above the core: files of records with kinds 256 to 258 among the core's, run on a
 // state and on a ledger of sheets that the caller lends; and the figures of such a ledger. The core's crates know
 // nothing of it.
+#![tactic(auto)]
+
 pub mod run;
 pub mod step;
 

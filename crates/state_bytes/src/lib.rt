@@ -1,5 +1,7 @@
 // A stored state and the calls on it: its 19 bytes, or 21 with its error memory, and the report's 9, the one place
 // where their layout is known; the door that admits a call; the run and the single event.
+#![tactic(auto)]
+
 pub mod calls;
 
 ghost use Rattle.std.specs.Prelude.{◌≡◌, ◌≤◌, length};

@@ -10,21 +10,21 @@ use listing::hex::{Hex, read_hex};
 use terms::{Rule, Width};
 
 // The operation of a code, or none.
-#[derive(Drop)]
+#[derive(Clone, Copy)]
 pub enum Found {
     Operation(Operation),
     Nothing,
 }
 
 // The rule that was asked for, or none that there is.
-#[derive(Drop)]
+#[derive(Clone, Copy)]
 pub enum Given {
     Under(Rule),
     Nothing,
 }
 
 // An operation on two words of its width under a rule, or nothing that the program does.
-#[derive(Drop)]
+#[derive(Clone, Copy)]
 pub enum Asked {
     Work {
         operation: Operation,

@@ -1,5 +1,7 @@
 // What trainees see of an operation worked a bit at a time: a line for each step and the line of
 // the answer. The text goes into a lent array.
+#![tactic(auto)]
+
 pub mod asked;
 pub mod lines;
 pub mod steps;

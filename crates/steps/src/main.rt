@@ -1,5 +1,7 @@
 // The program behind ./steps: its arguments are CODE B A and an option, and it writes what
 // `step_text` tells for them to standard output, `usage` where they ask for nothing that it does.
+#![tactic(auto)]
+
 use libc::STDOUT_FILENO;
 
 fn main() {

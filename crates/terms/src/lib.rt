@@ -1,5 +1,7 @@
 // The words of document 01 that every layer uses: its refusals with their numbers, the two widths
 // of a stack word, the rules of a float result, the errors and the limits, each under a name.
+#![tactic(auto)]
+
 ghost use Rattle.std.specs.Prelude.{◌≡◌, ◌≤◌};
 ghost use Rattle.terms.specs.Refusal.{number_of};
 ghost use Rattle.terms.specs.Width.{size_of};
@@ -38,7 +40,7 @@ pub const PI: u32 = 0x02c9_0fda;
 pub const NEAREST_PI: u32 = 0x02c9_0fdb;
 
 // Every case of 01's table of refusals, in its order, then those of 02.
-#[derive(Drop)]
+#[derive(Clone, Copy)]
 pub enum Refusal {
     Done,
     UnknownCode,
@@ -62,7 +64,7 @@ pub enum Refusal {
 }
 
 // A stack word has 16 bits or 32.
-#[derive(Drop)]
+#[derive(Clone, Copy)]
 pub enum Width {
     Single,
     Double,
@@ -70,21 +72,21 @@ pub enum Width {
 
 // How an exact float value is brought to 24 bits: cut, or to the nearest word, of two the one with
 // the even mantissa.
-#[derive(Drop)]
+#[derive(Clone, Copy)]
 pub enum Rule {
     Cut,
     Nearest,
 }
 
 // Which part's reset: the Am9511A's, or that of the older Am9511.
-#[derive(Drop)]
+#[derive(Clone, Copy)]
 pub enum Mode {
     Am9511A,
     Am9511,
 }
 
 // A kind of event, by 01's numbers 1 to 6 and 02's two of the error memory: read (7) and cleared (8).
-#[derive(Drop)]
+#[derive(Clone, Copy)]
 pub enum EventKind {
     Push,
     Pop,

@@ -1,6 +1,8 @@
 // The program behind ./word: its arguments are a rule, a form and texts, and it writes the line that `decimals` tells
 // for each of them; without a text it reads texts from standard input, one to a line. `end` is the last line.
 // The form is `short` or `exact` for decimals and words, `sum` for sums as the figures of sheets give them.
+#![tactic(auto)]
+
 ghost use Rattle.io.specs.Counts.{IsPrefixLen};
 
 use decimals::ends::line_end;
@@ -11,7 +13,7 @@ use libc::{STDIN_FILENO, STDOUT_FILENO};
 use terms::Rule;
 
 // What is told of a text: a decimal or a word, in its short or its exact form, or a sum.
-#[derive(Drop)]
+#[derive(Clone, Copy)]
 enum Form {
     Short,
     Exact,
