@@ -1,23 +1,19 @@
 -- A block of bytes pushed or popped at once is its single bytes in turn: the stack after all of them, pending turned once for each. Assumes nothing.
-use mathlib.Core.Path.{◌≡◌, refl, sym, ap, ap₂, subst, ◌∙◌}
+use mathlib.Core.Path.{◌≡◌, refl, sym, ap, ap₂, ◌∙◌}
 use mathlib.Core.Bool.{Bool}
 use mathlib.Core.List.{List, [], ◌∷◌, ◌++◌}
-use Prim.Native.Nat.{ℕ, zero, suc, ◌+◌, ◌-◌, ◌≤◌, ◌<◌}
-use native.Mathlib.Nat.{zero-add, not-suc-le-zero}
+use Prim.Native.Nat.{ℕ, zero, suc, ◌-◌, ◌≤◌, ◌<◌}
+use native.Mathlib.Nat.{not-suc-le-zero}
 use native.Mathlib.Omega.{arith}
-use borrow.Author.Tests.{le-leb}
-use lib.ListN.{length, take, drop, get_or, get_or-append}
-use lib.Seq.{paste, take_all}
-use Rattle.terms.specs.declared.Refusal.TheVariants.{BadState}
-use Rattle.stack.specs.Stack.{zeros, pushed, popped, top_byte, pushed_all, popped_all, handed_out}
-use Rattle.stack.proofs.Words.{length-zeros}
+use lib.ListN.{length, drop, get_or, get_or-append}
+use Rattle.stack.specs.Stack.{pushed, popped, top_byte, pushed_all, popped_all, handed_out}
 use Rattle.chip.specs.State.{State}
 use Rattle.chip.specs.State.{Answer}
 use Rattle.chip.specs.State.{moved}
-use Rattle.chip.specs.Step.{done, refused, push_of, pop_of}
+use Rattle.chip.specs.Step.{done, pop_of}
 use Rattle.chip.specs.InTurn.{bytes_popped}
 use Rattle.chip.specs.Held.{held, flipped}
-use Rattle.chip.proofs.InTurn.{turned, restacked, push_done, pop_done, pops_bytes}
+use Rattle.chip.proofs.InTurn.{restacked, push_done, pop_done, pops_bytes}
 use Rattle.chip.proofs.Held.{flips}
 use Rattle.record_runs.specs.Record.{before, push_all, pop_all}
 

@@ -6,7 +6,7 @@ use native.Mathlib.Omega.{arith}
 use native.Mathlib.Nat.{add-sub_cancel_left}
 use lib.Dec.{lit≤}
 use lib.ListN.{length, get_or}
-use borrow.Author.Tests.{lt-ltb, le-ltb, eq-eqb, ne_eqb}
+use borrow.Author.Tests.{lt-ltb, le-ltb}
 use Rattle.terms.specs.declared.Refusal.{Refusal}
 use Rattle.terms.specs.declared.Refusal.TheVariants.{NoSuchKind, CutShort, BadLength}
 use Rattle.terms.specs.Refusal.{number_of}
@@ -15,7 +15,6 @@ use Rattle.record_files.proofs.Tests.{either_lt, either_eq}
 use Rattle.record_runs.specs.Record.{Event}
 use Rattle.record_runs.specs.Record.{Push, Pop, Command, Status, Reset, Acknowledge, Recall, Forget}
 use Rattle.terms.specs.declared.EventKind.{EventKind}
-use Rattle.terms.specs.Kind.{kind_named}
 use Rattle.record_runs.specs.declared.head.Frame.{Frame}
 use Rattle.record_runs.specs.declared.head.Frame.TheVariants.{Framed, Broken}
 use Rattle.record_runs.specs.Record.{Head}
