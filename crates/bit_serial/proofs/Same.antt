@@ -34,7 +34,7 @@ use Rattle.float.proofs.word.Proper.{proper_norm}
 use Rattle.bit_serial.specs.declared.Answer.{Answer}
 use Rattle.bit_serial.specs.declared.Answer.TheVariants.{Word, Refused}
 use Rattle.bit_serial.specs.Answer.{steps_in}
-use Rattle.bit_serial.specs.Engine.{sizes_multiplied, sizes_divided, signed_for, least_answer, low_half, upper_half, mul_answer, muu_answer, div_answer, after}
+use Rattle.bit_serial.specs.Engine.{sizes_multiplied, sizes_divided, signed_for, least_answer, mul_answer, muu_answer, div_answer, after}
 use Rattle.bit_serial.specs.Engine.{float_signed, marked, mantissas_multiplied, mantissas_divided, fmul_answer, fdiv_answer}
 use Rattle.bit_serial.proofs.Products.{whole}
 use Rattle.bit_serial.proofs.Quotients.{parts, whole as both}

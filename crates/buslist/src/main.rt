@@ -3,22 +3,23 @@
 // this order, choose the older part's reset and the rule that rounds.
 #![tactic(auto)]
 
-use libc::{STDIN_FILENO, STDOUT_FILENO};
+use console::{argument, argument_count, read_full};
+use std::io;
 
-fn main() {
+fn main(rt: HostRuntime) -> io::Result<()> {
     let mut first = [0u8; 16];
-    let a = os::arg(1, &mut first);
+    let a = argument(&rt, 1, &mut first);
     let mut second = [0u8; 16];
-    let b = os::arg(2, &mut second);
+    let b = argument(&rt, 2, &mut second);
     let mut input = [0u8; 12289];
-    let n = io::read_full(STDIN_FILENO, &mut input);
+    let n = read_full(&mut rt.stdin(), &mut input)?;
     let mut text = [0u8; list_text::TEXT_ROOM];
     let m = list_text::told(
-        os::arg_count(),
+        argument_count(&rt),
         &first[..a],
         &second[..b],
         &input[..n],
         &mut text,
     );
-    io::write_all(STDOUT_FILENO, &text[..m]);
+    rt.write_all(&text[..m])
 }

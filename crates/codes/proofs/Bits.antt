@@ -11,7 +11,7 @@ use lib.Dec.{eqb}
 use borrow.Author.Tests.{eq-eqb, ne_eqb}
 use Rattle.terms.specs.declared.Width.{Width}
 use Rattle.terms.specs.declared.Width.TheVariants.{Single, Double}
-use Rattle.codes.specs.Command.{Command, Flt, Fix}
+use Rattle.codes.specs.Command.{Command, Muu, Chs, Chsf, Flt, Fix, Pupi}
 use Rattle.codes.specs.Command.{Kind}
 use Rattle.codes.specs.Command.{Known, Derived, Unknown}
 use Rattle.codes.specs.Codes.{decoded}
@@ -70,6 +70,15 @@ fixed_low w n h a b c =
 pub fixed_high : (w : Width) (n : ℕ) → n < 32 → 0x1a ≤ n → Unknown ≡ decoded (fixed_code w n)
 fixed_high w n h l = sym (agree (fixed_kind w) (λ (k : ℕ). Unknown) 0x1a 6 (unknown_high w) n l h)
 
+-- 14 is CHS, 16 is MUU
+pub chs_is : (w : Width) (n : ℕ) → n ≡ 0x14 → Known (Chs w) ≡ decoded (fixed_code w n)
+unfolding decoded
+chs_is w n e = operation_is Chs w n 0x14 refl refl e
+
+pub muu_is : (w : Width) (n : ℕ) → n ≡ 0x16 → Known (Muu w) ≡ decoded (fixed_code w n)
+unfolding decoded
+muu_is w n e = operation_is Muu w n 0x16 refl refl e
+
 -- ---- floats
 -- 02 to 0B are derived functions, 0C to 0F unknown
 pub derived_is : (n : ℕ) → 2 ≤ n → n < 0x0c → Derived ≡ decoded n
@@ -88,6 +97,15 @@ beside_chsf n l h e = sym (agree decoded (λ (k : ℕ). cond (eqb k 0x15) (decod
 pub beside_pupi : (n : ℕ) → n ≡ 0x1b → Unknown ≡ decoded n
 unfolding decoded
 beside_pupi n e = sym (ap decoded e)
+
+-- 1A is PUPI, 15 is CHSF
+pub pupi_is : (n : ℕ) → n ≡ 0x1a → Known Pupi ≡ decoded n
+unfolding decoded
+pupi_is n e = sym (ap decoded e)
+
+pub chsf_is : (n : ℕ) → n ≡ 0x15 → Known Chsf ≡ decoded n
+unfolding decoded
+chsf_is n e = sym (ap decoded e)
 
 -- 17 to 19 are what they are at 32 bits
 pub float_moves : (n : ℕ) → 0x17 ≤ n → n < 0x1a → decoded (fixed_code Double n) ≡ decoded n

@@ -91,6 +91,7 @@ fn arithmetic(low: u8, width: Width) -> Kind
 }
 
 // The operations of the fixed-point formats, at the width that bit 6 selects.
+#[tactic(auto, using(crate::proofs::Bits::fixed_low, crate::proofs::Bits::fixed_high, crate::proofs::Bits::chs_is, crate::proofs::Bits::muu_is))]
 fn fixed(operation: u8, width: Width) -> Kind
     requires { operation < 32 }
     ensures { kind_in result ≡ decoded (fixed_code width operation) }
@@ -125,6 +126,7 @@ fn primary(low: u8) -> Kind
 }
 
 // Float operations 00 to 0F: NOP, SQRT, and the derived functions 02 to 0B.
+#[tactic(auto, using(crate::proofs::Bits::derived_is, crate::proofs::Bits::past_derived))]
 fn derived(operation: u8) -> Kind
     requires { operation < 0x10 }
     ensures { kind_in result ≡ decoded operation }
@@ -153,6 +155,7 @@ fn conversion(low: u8) -> Kind
 }
 
 // The operations of the float format.
+#[tactic(auto, using(crate::proofs::Bits::beside_chsf, crate::proofs::Bits::beside_pupi, crate::proofs::Bits::float_moves, crate::proofs::Bits::pupi_is, crate::proofs::Bits::chsf_is))]
 fn float(operation: u8) -> Kind
     requires { operation < 32 }
     ensures { kind_in result ≡ decoded operation }
@@ -184,6 +187,7 @@ fn float(operation: u8) -> Kind
 
 // What a code stands for, whatever its bit 7: bit 5 is 1 for fixed point, bit 6 then selects the width and is 0 for
 // floats, bits 4 to 0 are the operation.
+#[tactic(auto, using(crate::proofs::Bits::with_bit_5, crate::proofs::Bits::with_bit_6))]
 pub fn decode(code: u8) -> Kind
     ensures { kind_in result ≡ decoded (code % 128) }
 {

@@ -5,30 +5,30 @@
 // and `end` behind either.
 #![tactic(auto)]
 
-use libc::{STDIN_FILENO, STDOUT_FILENO};
+use console::read_full;
 
 // What stands where no file was written.
-fn tell(refusal: u32) -> bool {
+fn tell(out: &impl Print, refusal: u32) -> std::io::Result<()> {
     match refusal {
-        30 => io::write_all(STDOUT_FILENO, b"refused 30\nend\n"),
-        31 => io::write_all(STDOUT_FILENO, b"refused 31\nend\n"),
-        32 => io::write_all(STDOUT_FILENO, b"refused 32\nend\n"),
-        _ => io::write_all(STDOUT_FILENO, b"refused 33\nend\n"),
+        30 => out.write_all(b"refused 30\nend\n"),
+        31 => out.write_all(b"refused 31\nend\n"),
+        32 => out.write_all(b"refused 32\nend\n"),
+        _ => out.write_all(b"refused 33\nend\n"),
     }
 }
 
-fn main() {
+fn main(rt: HostRuntime) -> std::io::Result<()> {
     let mut letters = [0u8; 32];
-    io::read_full(STDIN_FILENO, &mut letters);
+    read_full(&mut rt.stdin(), &mut letters)?;
     let mut text = [0u8; 257];
-    let n = io::read_full(STDIN_FILENO, &mut text);
+    let n = read_full(&mut rt.stdin(), &mut text)?;
     let mut file = [0u8; 1664];
     let r = pundaliket::pundaliket_formula(&text[..n], &letters, &mut file);
     if r < 65536 {
         let n = io::count(r as isize, &file);
-        io::write_all(STDOUT_FILENO, &file[..n]);
-        io::write_all(STDOUT_FILENO, b"end\n");
+        rt.write_all(&file[..n])?;
+        rt.write_all(b"end\n")
     } else {
-        tell(r / 65536);
+        tell(&rt, r / 65536)
     }
 }

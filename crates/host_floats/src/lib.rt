@@ -71,6 +71,7 @@ fn word_of(bits: u32) -> u32
 }
 
 // The proper word of an f32's value, by its bits; where there is none, and for minus zero, the refusal.
+#[tactic(auto, unfolding(crate::specs::Host::taken_of))]
 pub fn f32_to_word(bits: u32) -> Taken
     ensures { result ≡ taken_of bits }
 {

@@ -1,6 +1,6 @@
 -- Document 01, 'The listing program': the text printed for the replies of a run. Definitions only. Assumes nothing.
-use Rattle.std.specs.Prelude.{ℕ, zero, suc, ◌+◌, ◌*◌, ◌-◌, ◌≤◌, ◌≡◌, Bool, false, cond, List, [], ◌∷◌, ◌++◌, leb, ltb, length, take, drop, get_or}
-use Rattle.numbers.specs.Little.{word_at, le2, four_at}
+use Rattle.std.specs.Prelude.{ℕ, zero, suc, ◌+◌, ◌-◌, ◌≤◌, ◌≡◌, Bool, false, cond, List, [], ◌∷◌, ◌++◌, leb, ltb, length, take, drop, get_or}
+use Rattle.numbers.specs.Little.{word_at, le2}
 use Rattle.listing.specs.Text.{decimal, hex}
 
 -- the bytes of replies that the program lends

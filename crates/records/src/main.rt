@@ -6,12 +6,12 @@
 // `end` is no answer.
 #![tactic(auto)]
 
-ghost use Rattle.std.specs.Prelude.{◌≡◌, ◌⊎◌, ◌+◌, ◌≤◌, ◌<◌, length};
+ghost use Rattle.std.specs.Prelude.{◌≡◌, ◌⊎◌, ◌+◌, ◌≤◌, ◌<◌, IfOk, length};
 ghost use Rattle.terms.specs.Limits.{most_input};
 
+use console::{argument, argument_count, read_full};
 use decimals::ends::{line_end, trimmed};
 use decimals::read::rule_named;
-use libc::{STDIN_FILENO, STDOUT_FILENO};
 use numbers::two;
 use record_runs::head::{Frame, read_frame};
 use record_text::kinds::{Form, form_of, kind_of};
@@ -19,6 +19,7 @@ use record_text::line::{Line, RECORD_ROOM, read_line};
 use record_text::record::{TEXT_ROOM, tell_record};
 use record_text::trace::{TRACE_ROOM, trace};
 use record_text::values::fault_number;
+use std::io;
 use terms::{Refusal, Rule};
 
 // The most bytes of records, and what is no number of bytes.
@@ -30,67 +31,72 @@ const STOPPED: usize = 20000;
 const TOO_LONG: u8 = 15;
 
 // Writes a blank and a number.
-fn write_field(n: u64) {
-    io::write_all(STDOUT_FILENO, b" ");
-    io::print_decimal(STDOUT_FILENO, n);
+fn write_field(out: &impl Print, n: u64) -> io::Result<()> {
+    out.write_all(b" ")?;
+    out.print(n)
 }
 
 // Writes which line is wrong, from which place of it, counted from 0, and why.
-fn write_wrong(number: u64, place: usize, fault: u8) {
-    io::write_all(STDOUT_FILENO, b"\nwrong");
-    write_field(number);
-    write_field(place as u64);
-    write_field(fault as u64);
-    io::write_all(STDOUT_FILENO, b"\n");
+fn write_wrong(out: &impl Print, number: u64, place: usize, fault: u8) -> io::Result<()> {
+    out.write_all(b"\nwrong")?;
+    write_field(out, number)?;
+    write_field(out, place as u64)?;
+    write_field(out, fault as u64)?;
+    out.write_all(b"\n")
 }
 
 // Writes before how many bytes a file of records stops, and why.
-fn write_stopped(at: usize, refusal: u8) {
-    io::write_all(STDOUT_FILENO, b"\nstopped");
-    write_field(at as u64);
-    write_field(refusal as u64);
-    io::write_all(STDOUT_FILENO, b"\n");
+fn write_stopped(out: &impl Print, at: usize, refusal: u8) -> io::Result<()> {
+    out.write_all(b"\nstopped")?;
+    write_field(out, at as u64)?;
+    write_field(out, refusal as u64)?;
+    out.write_all(b"\n")
 }
 
 // Writes the record of a line, and answers how many bytes there are with it.
-fn write_record(rule: Rule, line: &[u8], number: u64, size: usize) -> usize
+fn write_record(
+    out: &impl Print,
+    rule: Rule,
+    line: &[u8],
+    number: u64,
+    size: usize,
+) -> io::Result<usize>
     requires { size ≤ 12288 }
-    ensures { result ≤ 20000 }
+    ensures { IfOk result (λ n. n ≤ 20000) }
 {
     let mut record = [0u8; RECORD_ROOM];
     let said = read_line(rule, line, &mut record);
     match said {
         Line::Record(n) => {
-            io::write_all(STDOUT_FILENO, &record[..n]);
-            size + n
+            out.write_all(&record[..n])?;
+            Ok(size + n)
         }
-        Line::Empty => size,
+        Line::Empty => Ok(size),
         Line::Wrong(fault, place) => {
-            write_wrong(number, place, fault_number(fault));
-            STOPPED
+            write_wrong(out, number, place, fault_number(fault))?;
+            Ok(STOPPED)
         }
     }
 }
 
 // Writes the record of each line.
-fn write_records(rule: Rule, text: &[u8]) {
+fn write_records(out: &impl Print, rule: Rule, text: &[u8]) -> io::Result<()> {
     let mut number: u64 = 0;
     let mut size = 0;
     let mut at = 0;
     while at < text.len() {
         number += 1;
         let end = line_end(text, at);
-        size = write_record(rule, &text[at..trimmed(text, at, end)], number, size);
+        size = write_record(out, rule, &text[at..trimmed(text, at, end)], number, size)?;
         if size == STOPPED {
-            return;
+            return Ok(());
         }
         if MOST_INPUT < size {
-            write_wrong(number, 0, TOO_LONG);
-            return;
+            return write_wrong(out, number, 0, TOO_LONG);
         }
         at = end + 1;
     }
-    io::write_all(STDOUT_FILENO, b"\nend\n");
+    out.write_all(b"\nend\n")
 }
 
 // The refusal of a record that has no words: 5 where there is no such kind, else 7.
@@ -107,83 +113,95 @@ fn refusal_of(number: u16) -> u8 {
 
 // Writes the line of the record from one place to another, and answers the other one; where it has none it writes why,
 // and answers what is no place.
-fn write_framed(input: &[u8], at: usize, end: usize) -> usize
+fn write_framed(out: &impl Print, input: &[u8], at: usize, end: usize) -> io::Result<usize>
     requires { (at + 4 ≤ end) × (end ≤ at + 244) × (end ≤ length input.now) }
-    ensures { (result ≡ 20000) ⊎ (result ≡ end) }
+    ensures { IfOk result (λ n. (n ≡ 20000) ⊎ (n ≡ end)) }
 {
     let mut text = [0u8; TEXT_ROOM];
     let n = tell_record(&input[at..end], &mut text);
     if n == 0 {
-        write_stopped(at, refusal_of(two(input[at + 2], input[at + 3])));
-        return STOPPED;
+        write_stopped(out, at, refusal_of(two(input[at + 2], input[at + 3])))?;
+        return Ok(STOPPED);
     }
-    io::write_all(STDOUT_FILENO, &text[..n]);
-    io::write_all(STDOUT_FILENO, b"\n");
-    end
+    out.write_all(&text[..n])?;
+    out.write_all(b"\n")?;
+    Ok(end)
 }
 
 // Writes the line of the record at a place, and answers where the next one begins; where it has none it writes why, and
 // answers what is no place.
-fn write_next(input: &[u8], at: usize) -> usize
+fn write_next(out: &impl Print, input: &[u8], at: usize) -> io::Result<usize>
     requires { (at ≤ length input.now) × (length input.now ≤ most_input) }
-    ensures { (result ≡ 20000) ⊎ ((at < result) × (result ≤ length input.now)) }
+    ensures { IfOk result (λ n. (n ≡ 20000) ⊎ ((at < n) × (n ≤ length input.now))) }
 {
     let frame = read_frame(&input[at..], at as u32, input.len() as u32);
     match frame {
-        Frame::Framed(n) => write_framed(input, at, at + 4 + n as usize),
+        Frame::Framed(n) => write_framed(out, input, at, at + 4 + n as usize),
         Frame::Broken(refusal) => {
-            write_stopped(at, terms::number(refusal));
-            STOPPED
+            write_stopped(out, at, terms::number(refusal))?;
+            Ok(STOPPED)
         }
     }
 }
 
 // Writes the line of each record, of a file that is not too long.
-fn write_texts(input: &[u8])
+fn write_texts(out: &impl Print, input: &[u8]) -> io::Result<()>
     requires { length input.now ≤ most_input }
 {
     let mut at = 0;
     while at < input.len() {
-        at = write_next(input, at);
+        at = write_next(out, input, at)?;
         if at == STOPPED {
-            return;
+            return Ok(());
         }
     }
-    io::write_all(STDOUT_FILENO, b"\nend\n");
+    out.write_all(b"\nend\n")
 }
 
 // Writes the trace of a file, by the two words behind `trace` of a call of so many.
-fn write_trace(words: usize, first: &[u8], second: &[u8], input: &[u8]) {
+fn write_trace(
+    out: &impl Print,
+    words: usize,
+    first: &[u8],
+    second: &[u8],
+    input: &[u8],
+) -> io::Result<()> {
     if words == 0 {
-        return;
+        return Ok(());
     }
     let mut text = [0u8; TRACE_ROOM];
     let n = trace(words - 1, first, second, input, &mut text);
-    io::write_all(STDOUT_FILENO, &text[..n]);
+    out.write_all(&text[..n])
 }
 
 // Writes the line of each record, or that the file is too long.
-fn write_lines(input: &[u8]) {
+fn write_lines(out: &impl Print, input: &[u8]) -> io::Result<()> {
     if MOST_INPUT < input.len() {
-        return write_stopped(0, terms::number(Refusal::InputTooLong));
+        return write_stopped(out, 0, terms::number(Refusal::InputTooLong));
     }
-    write_texts(input);
+    write_texts(out, input)
 }
 
-fn main() {
+fn main(rt: HostRuntime) -> io::Result<()> {
     let mut name = [0u8; 16];
-    let n = os::arg(1, &mut name);
+    let n = argument(&rt, 1, &mut name);
     let mut what = [0u8; 16];
-    let m = os::arg(2, &mut what);
+    let m = argument(&rt, 2, &mut what);
     let mut third = [0u8; 16];
-    let k = os::arg(3, &mut third);
+    let k = argument(&rt, 3, &mut third);
     let mut input = [0u8; 262144];
-    let size = io::read_full(STDIN_FILENO, &mut input);
+    let size = read_full(&mut rt.stdin(), &mut input)?;
     if check::same(&name[..n], b"trace") {
-        write_trace(os::arg_count(), &what[..m], &third[..k], &input[..size]);
+        write_trace(
+            &rt,
+            argument_count(&rt),
+            &what[..m],
+            &third[..k],
+            &input[..size],
+        )
     } else if check::same(&what[..m], b"read") {
-        write_lines(&input[..size]);
+        write_lines(&rt, &input[..size])
     } else {
-        write_records(rule_named(&name[..n]), &input[..size]);
+        write_records(&rt, rule_named(&name[..n]), &input[..size])
     }
 }

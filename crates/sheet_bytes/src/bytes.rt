@@ -21,6 +21,7 @@ pub const KEPT_AT: usize = 1286;
 pub const WORDS_AT: usize = 1287;
 
 // Whether the bytes stand for sheets.
+#[tactic(auto, using(crate::proofs::Ledgers::bad_length, crate::proofs::Ledgers::bad_number, crate::proofs::Ledgers::bad_open, crate::proofs::Ledgers::bad_kept, crate::proofs::Ledgers::good))]
 pub fn is_sheets(sheets: &[u8]) -> bool
     ensures { result ≡ is_sheets sheets.now }
 {

@@ -5,11 +5,13 @@
 
 ghost use Rattle.io.specs.Counts.{IsPrefixLen};
 
+use console::{argument, argument_count, read_full};
 use decimals::ends::line_end;
 use decimals::line::{LINE_ROOM, tell};
 use decimals::read::rule_named;
 use decimals::sum::tell_sum;
-use libc::{STDIN_FILENO, STDOUT_FILENO};
+use std::io;
+use std::rt::Env;
 use terms::Rule;
 
 // What is told of a text: a decimal or a word, in its short or its exact form, or a sum.
@@ -43,57 +45,64 @@ fn tell_as(rule: Rule, form: Form, text: &[u8], out: &mut [u8; LINE_ROOM]) -> us
 }
 
 // Writes the line of one text.
-fn write_line(rule: Rule, form: Form, text: &[u8]) {
+fn write_line(out: &impl Print, rule: Rule, form: Form, text: &[u8]) -> io::Result<()> {
     let mut line = [0u8; LINE_ROOM];
     let n = tell_as(rule, form, text, &mut line);
-    io::write_all(STDOUT_FILENO, &line[..n]);
+    out.write_all(&line[..n])
 }
 
 // Writes the line of one argument.
-fn write_argument(rule: Rule, form: Form, i: usize) {
+fn write_argument(rt: &(impl Env + Print), rule: Rule, form: Form, i: usize) -> io::Result<()> {
     let mut text = [0u8; 128];
-    let n = os::arg(i, &mut text);
-    write_line(rule, form, &text[..n]);
+    let n = argument(rt, i, &mut text);
+    write_line(rt, rule, form, &text[..n])
 }
 
 // Writes the line of each line of a text.
-fn write_lines(rule: Rule, form: Form, text: &[u8]) {
+fn write_lines(out: &impl Print, rule: Rule, form: Form, text: &[u8]) -> io::Result<()> {
     let mut at = 0;
     while at < text.len() {
         let end = line_end(text, at);
-        write_line(rule, form, &text[at..end]);
+        write_line(out, rule, form, &text[at..end])?;
         at = end + 1;
     }
+    Ok(())
 }
 
-// Writes the lines of standard input, of which 65,536 bytes are read.
-fn write_input(rule: Rule, form: Form) {
-    let mut input = io::large_buffer();
-    let n = io::read_full(STDIN_FILENO, &mut input);
-    write_lines(rule, form, &input[..n]);
+// Writes the lines of an input, of which 65,536 bytes are read.
+fn write_input<R: io::Read>(
+    input: &mut R,
+    out: &impl Print,
+    rule: Rule,
+    form: Form,
+) -> io::Result<()> {
+    let mut text = [0u8; 65536];
+    let n = read_full(input, &mut text)?;
+    write_lines(out, rule, form, &text[..n])
 }
 
 // Writes the lines of the arguments from the third on.
-fn write_arguments(rule: Rule, form: Form) {
-    let count = os::arg_count();
+fn write_arguments(rt: &(impl Env + Print), rule: Rule, form: Form) -> io::Result<()> {
+    let count = argument_count(rt);
     let mut i = 3;
     while i < count {
-        write_argument(rule, form, i);
+        write_argument(rt, rule, form, i)?;
         i += 1;
     }
+    Ok(())
 }
 
-fn main() {
+fn main(rt: HostRuntime) -> io::Result<()> {
     let mut name = [0u8; 16];
-    let n = os::arg(1, &mut name);
+    let n = argument(&rt, 1, &mut name);
     let rule = rule_named(&name[..n]);
     let mut way = [0u8; 16];
-    let m = os::arg(2, &mut way);
+    let m = argument(&rt, 2, &mut way);
     let form = form_named(&way[..m]);
-    if os::arg_count() <= 3 {
-        write_input(rule, form);
+    if argument_count(&rt) <= 3 {
+        write_input(&mut rt.stdin(), &rt, rule, form)?;
     } else {
-        write_arguments(rule, form);
+        write_arguments(&rt, rule, form)?;
     }
-    io::write_all(STDOUT_FILENO, b"end\n");
+    rt.write_all(b"end\n")
 }

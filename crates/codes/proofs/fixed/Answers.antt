@@ -1,22 +1,10 @@
--- `codes::fixed` meets its contract: by the blocks of operations. Assumes nothing.
-use mathlib.Core.Path.{refl}
+-- `codes::fixed` meets its contract: 0C to 0F by their bits 1 and 0. Assumes nothing.
+use mathlib.Core.Path.{ap, ◌∙◌}
+use Prim.Native.Nat.{ℕ}
 use native.Mathlib.Omega.{arith}
-use Rattle.codes.specs.Command.{Chs, Muu}
 use Rattle.codes.specs.Codes.{decoded}
-use Rattle.codes.proofs.Bits.{operation_is, fixed_low, fixed_high}
+use Rattle.codes.specs.Format.{fixed_code}
 use Rattle.codes.proofs.fixed.Goals as goal
 
-pub returns-then-operation-ge26 : goal.returns-then-operation-ge26
-returns-then-operation-ge26 c = fixed_high c.args.width c.args.operation c.requires c.if-operation-ge26.true
-
-pub returns-in-20 : goal.returns-in-20
-unfolding decoded
-returns-in-20 c = operation_is Chs _ _ 0x14 refl refl c.in-20.is
-
-pub returns-in-22 : goal.returns-in-22
-unfolding decoded
-returns-in-22 c = operation_is Muu _ _ 0x16 refl refl c.in-22.is
-
-pub returns-in_default : goal.returns-in_default
-returns-in_default c =
-    fixed_low c.args.width c.args.operation c.if-operation-ge23.false c.if-operation-eq3.false (λ z. omega arith) (λ z. omega arith)
+pub returns-then-operation-eq3 : goal.returns-then-operation-eq3
+returns-then-operation-eq3 c = c.arithmetic.ensures ∙ ap (λ (n : ℕ). decoded (fixed_code c.args.width n)) (omega arith)

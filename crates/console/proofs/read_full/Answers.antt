@@ -1,0 +1,36 @@
+-- `console::read_full`: the bytes so far are those that the input gave. Assumes nothing.
+use Rattle.std.proofs.Common.{◌≡◌, ℕ, ◌+◌, ◌-◌, ◌≤◌, List, ◌++◌, rules, arith, length, take, slice_range, sym, ap, ◌∙◌, subst, le_refl, drop_at, length-take-le}
+use Rattle.std.proofs.lemmas.Slice.{take-put_mid_below}
+use Rattle.std.specs.Io.KnownBytes.{Consumes}
+use Rattle.std.proofs.KnownBytes.{Consumes-trans}
+use borrow.Rule.Slice.PartMut.{put_mid, post_of}
+use lib.Seq.{take-add, take-append-le}
+use Rattle.console.proofs.read_full.Goals as goal
+
+-- a front and what follows it are the longer front
+fronts : (a b : ℕ) (old new : List ℕ) → a ≤ b → take a new ≡ take a old → take a old ++ slice_range new a b ≡ take b new
+fronts a b old new h front =
+    let same : a + (b - a) ≡ b = omega arith in
+    ap (λ l. l ++ slice_range new a b) (sym front) ∙ sym (take-add a (b - a) new) ∙ ap (λ n. take n new) same
+
+-- what was written into a part is there
+written : (a k n : ℕ) (xs ys : List ℕ) → a ≤ length xs → n ≤ length ys → slice_range (put_mid a k xs ys) a (a + n) ≡ take n ys
+written a k n xs ys within fits =
+    let same : (a + n) - a ≡ n = omega arith in
+    let after = post_of a k xs in
+    ap (take ((a + n) - a)) (drop_at (take a xs) (ys ++ after) a (length-take-le a xs within)) ∙ ap (λ m. take m (ys ++ after)) same ∙ take-append-le n ys after fits
+
+pub loop-done-preserved : goal.loop-done-preserved
+loop-done-preserved g c =
+    let l = c.loop-done in
+    let from = l.done in
+    let room = length l.room - from in
+    let part = written from room c.in_ok-n.n l.room c.read.new.buf l.invariant.within c.in_ok-n.ensures.bound.0 in
+    let joined = fronts from (from + c.in_ok-n.n) l.room (put_mid from room l.room c.read.new.buf) (omega arith)
+    (take-put_mid_below _ _ _ _ _ (le_refl _) l.invariant.within) in
+    record {
+      keeps_length = search rules;
+      within = search rules;
+      came = subst (Consumes _ _) (ap (λ x. take from l.room ++ x) (sym part) ∙ joined)
+          (Consumes-trans _ _ _ _ _ l.invariant.came c.in_ok-n.ensures.bytes.0);
+    }
