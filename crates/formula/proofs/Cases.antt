@@ -1,14 +1,13 @@
 -- The reader, case by case: what each byte makes of it. Assumes nothing.
 use mathlib.Core.Path.{◌≡◌, refl, sym, ◌∙◌}
 use mathlib.Core.Bool.{Bool, true, false, cond}
-use mathlib.Core.List.{List, [], ◌∷◌}
-use Prim.Native.Nat.{ℕ, zero, suc}
+use mathlib.Core.List.{List, ◌∷◌}
+use Prim.Native.Nat.{ℕ, suc}
 use native.Mathlib.Omega.{arith}
 use borrow.Author.Tests.{eqb-true}
 use lib.Dec.{eqb}
-use lib.ListN.{length}
 use Rattle.formula.specs.Formula.{Operator, Formula, Minus, Joined}
-use Rattle.formula.specs.Reader.{Read, Found, Outside, Reader, then, leaf_of, Sign, Joins, Ends, more, joined_by, sum_of, closed, Start, AMinus, ABracket}
+use Rattle.formula.specs.Reader.{Read, Found, Outside, Reader, then, leaf_of, Sign, Joins, Ends, more, sum_of, closed, AMinus, ABracket}
 use Rattle.formula.specs.Reader.{ALeaf, start_at, factor_of}
 
 pub never : {A : Type 0} {f : Formula} {s : List ℕ} → Outside ≡ Found f s → A

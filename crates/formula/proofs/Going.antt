@@ -14,7 +14,7 @@ use Rattle.formula.specs.Postfix.{postfix_of}
 use Rattle.formula.specs.Told.{most_text, at_of, end_of, nowhere, longer_of, sign_code, Asks, Move, FoundTo, Reads, ReadsBy}
 use Rattle.formula.proofs.Cases.{never, ends_never, more_ends, more_joins}
 use Rattle.formula.proofs.Stores.{sets_append, sets_over}
-use Rattle.formula.proofs.Places.{place_is, nowhere_at, longer_none, longer_is, next_at, next_end, longer_at, longer_end}
+use Rattle.formula.proofs.Places.{nowhere_at, longer_none, longer_is, next_at, next_end, longer_at, longer_end}
 use Rattle.formula.proofs.Reading.{from, somewhere, reads_as, JoinedBehind, reads_small, asks_small}
 use Rattle.formula.proofs.Measure.{left_over, right_place}
 

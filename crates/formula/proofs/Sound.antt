@@ -2,7 +2,7 @@
 use mathlib.Core.Path.{◌≡◌, refl, sym, ◌∙◌, ap, subst}
 use mathlib.Core.Bool.{Bool, true, false, cond, ◌&&◌}
 use mathlib.Core.List.{List, [], ◌∷◌, ◌++◌, append_assoc}
-use Prim.Native.Nat.{ℕ, zero, suc, ◌+◌, ◌-◌, ◌≤◌, ◌<◌, max}
+use Prim.Native.Nat.{ℕ, zero, suc, ◌+◌, ◌-◌, ◌≤◌}
 use native.Mathlib.Omega.{arith}
 use borrow.Author.Tests.{leb-true, eqb-true}
 use lib.Dec.{eqb, leb}
@@ -10,9 +10,9 @@ use lib.ListN.{length, take, drop, take-append-drop}
 use lib.Seq.{length-take-le}
 use Rattle.formula.specs.Formula.{Operator, Plus, Less, Times, Over, Formula, Letter, Constant, Minus, Brackets, Joined, nested}
 use Rattle.formula.specs.Grammar.{are_digits, IsSum, product, plus, less, IsProduct, factor, times, over, IsFactor, letter, constant, minus, brackets}
-use Rattle.formula.specs.Reader.{Read, Found, Outside, Reader, then, is_letter, constant_of, leaf_of, Sign, Joins, Ends, sum_sign, product_sign, more}
-use Rattle.formula.specs.Reader.{joined_by, closed, Start, AMinus, ABracket, ALeaf, start_at, factor_of, product_of, sum_of, whole, most_nested, formula_of}
-use Rattle.formula.proofs.Cases.{never, ends_never, Then, then_found, more_ends, more_joins, start_minus, start_bracket, factor_minus, factor_bracket}
+use Rattle.formula.specs.Reader.{Found, Outside, Reader, is_letter, leaf_of, Sign, Joins, Ends, sum_sign, product_sign, more}
+use Rattle.formula.specs.Reader.{joined_by, closed, Start, AMinus, ABracket, ALeaf, start_at, factor_of, product_of, sum_of}
+use Rattle.formula.proofs.Cases.{never, ends_never, then_found, more_ends, more_joins, start_minus, start_bracket, factor_minus, factor_bracket}
 use Rattle.formula.proofs.Cases.{factor_leaf}
 use Rattle.formula.proofs.Digits.{both, letter_range}
 

@@ -1,11 +1,11 @@
 -- The reader and the grammar: a text is read as a formula exactly if it is that formula's, and it is that of no other. Assumes nothing.
-use mathlib.Core.Path.{◌≡◌, refl, sym, ◌∙◌, ap, subst}
+use mathlib.Core.Path.{◌≡◌, sym, ◌∙◌, ap, subst}
 use mathlib.Core.List.{List, [], ◌∷◌, append-nil}
 use Prim.Native.Nat.{ℕ, ◌+◌, ◌≤◌}
 use native.Mathlib.Omega.{arith}
 use Rattle.formula.specs.Formula.{Formula, nested}
 use Rattle.formula.specs.Grammar.{IsSum}
-use Rattle.formula.specs.Reader.{Read, Found, Outside, then, sum_of, whole, most_nested, formula_of}
+use Rattle.formula.specs.Reader.{Read, Found, then, sum_of, whole, most_nested, formula_of}
 use Rattle.formula.proofs.Cases.{never, then_found}
 use Rattle.formula.proofs.Sound.{Finds, sum_sound}
 use Rattle.formula.proofs.Complete.{sum_read}
