@@ -3,18 +3,18 @@
 use mathlib.Core.Path.{◌≡◌, refl, sym, ap, ap₂, ◌∙◌, subst}
 use mathlib.Core.Bool.{Bool, true, false, cond, not}
 use mathlib.Core.List.{List, [], ◌∷◌, ◌++◌}
-use Prim.Native.Nat.{ℕ, zero, suc, ◌+◌, ◌-◌, ◌*◌, ◌/◌, ◌%◌, ◌^◌, ◌≤◌, ◌<◌}
+use Prim.Native.Nat.{ℕ, zero, suc, ◌+◌, ◌-◌, ◌*◌, ◌/◌, ◌%◌, ◌^◌, ◌<◌}
 use native.Mathlib.Nat.{mul_assoc, mul_comm, mul-mod_left, div-add-mod', mod-lt, pow-suc, lt_of_lt_of_le, div-lt_iff_lt-mul}
 use native.Mathlib.Omega.{arith}
-use borrow.Author.Tests.{lt-ltb, le-ltb, ltb-true, ltb-false, eqb-true, eqb-false}
+use borrow.Author.Tests.{lt-ltb, le-ltb, ltb-true, eqb-true}
 use lib.Dec.{ltb, eqb, lit≤}
 use lib.ListN.{length, length-append}
 use lib.Pow.{pow-add, pow_pos}
 use Rattle.numbers.specs.Signed.{with_sign}
 use Rattle.listing.specs.Text.{digit, spelled}
-use Rattle.decimals.specs.Exact.{minus, places_text, sign_text, exact_text}
+use Rattle.decimals.specs.Exact.{minus, places_text, sign_text}
 use Rattle.decimals.specs.Read.{is_digit}
-use Rattle.decimals.specs.Meaning.{all_digits, number_from, number_in, IsExact, ExactTextIsTheValue}
+use Rattle.decimals.specs.Meaning.{all_digits, number_from, number_in, ExactTextIsTheValue}
 use Rattle.decimals.proofs.Quotients.{ten_parts}
 
 -- ---- digits

@@ -1,10 +1,10 @@
 -- A number that stands for k / 10 ^ p is cut as that is, and the word is exact exactly where its mantissa is the whole of that number: a number
 -- made odd is never a mantissa moved up. Assumes nothing.
-use mathlib.Core.Path.{◌≡◌, refl, sym, ap, ap₂, ◌∙◌, subst, subst₂}
-use mathlib.Core.Logic.{◌⊎◌, inl, inr}
+use mathlib.Core.Path.{◌≡◌, refl, sym, ap, ap₂, ◌∙◌, subst}
+use mathlib.Core.Logic.{inl, inr}
 use mathlib.Core.Bool.{Bool, true, false, cond}
-use Prim.Native.Nat.{ℕ, zero, suc, ◌+◌, ◌-◌, ◌*◌, ◌/◌, ◌%◌, ◌^◌, ◌≤◌, ◌<◌}
-use native.Mathlib.Nat.{le_refl, le_trans, le_of_eq, lt_of_lt_of_le, lt_of_not-le, not-le_of_lt, mul_assoc, mul_comm, mul_right_comm, mul-one, one-mul, mul-pos}
+use Prim.Native.Nat.{ℕ, zero, suc, ◌+◌, ◌-◌, ◌*◌, ◌%◌, ◌^◌, ◌≤◌, ◌<◌}
+use native.Mathlib.Nat.{le_refl, le_trans, lt_of_lt_of_le, lt_of_not-le, mul_assoc, mul_comm, mul_right_comm, mul-pos}
 use native.Mathlib.Nat.{mul-le-mul_left, mul-le-mul_right, lt_of_mul-lt-mul_right, eq_of_mul-eq-mul_right, zero-mul}
 use native.Mathlib.Omega.{arith}
 use borrow.Author.Tests.{eqb-true, eqb-false, eq-eqb, ne_eqb}
@@ -15,7 +15,7 @@ use Rattle.terms.specs.declared.Rule.{Rule}
 use Rattle.terms.specs.declared.Rule.TheVariants.{Cut}
 use Rattle.terms.specs.declared.Refusal.TheVariants.{TooLarge, TooSmall}
 use Rattle.float.specs.declared.Flagged.{Flagged}
-use Rattle.float.specs.Word.{negative, biased, mantissa, size88}
+use Rattle.float.specs.Word.{biased, mantissa, size88}
 use Rattle.float.specs.Cut.{lost, kept, mantissa_of, digits_of, stored, cut_size, cut}
 use Rattle.float.proofs.Powers.{parted}
 use Rattle.float.proofs.cut.Pair.{cuts_one, kept_le}

@@ -5,9 +5,9 @@ use Prim.Native.Nat.{ℕ, ◌+◌, ◌-◌, ◌*◌, ◌/◌, ◌%◌, ◌^◌, 
 use native.Mathlib.Nat.{add-zero, one-mul, zero-mul, mul_comm, mul-le-mul_right, mul-lt-mul_of_pos_right, lt_of_mul-lt-mul_right, le-div_iff_mul-le}
 use native.Mathlib.Nat.{mul-div_cancel, div-add-mod', eq_of_mul-eq-mul_right, mul-mod_left, pow-le-pow_right}
 use native.Mathlib.Omega.{arith}
-use borrow.Author.Tests.{le-ltb, lt-ltb, le-leb, lt-leb, leb-true, leb-false, ltb-true, ltb-false, eqb-true, eqb-false, eq-eqb, ne_eqb}
+use borrow.Author.Tests.{le-ltb, leb-true, leb-false, ltb-true, ltb-false, eqb-true, eqb-false, eq-eqb, ne_eqb}
 use lib.Dec.{ltb, leb, eqb}
-use lib.Pow.{pow-add, pow_pos, pow_mono, shl_exact}
+use lib.Pow.{pow_pos, pow_mono, shl_exact}
 use Rattle.float.proofs.Powers.{parted}
 use Rattle.decimals.proofs.Quotients.{ten_parts, five_pos}
 

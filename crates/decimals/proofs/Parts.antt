@@ -1,6 +1,6 @@
 -- A number in two parts, h * s + l: over ten the remainder of the upper part goes to the lower; a mantissa moved up, and bytes, fall into such parts.
 -- Assumes nothing.
-use mathlib.Core.Path.{◌≡◌, refl, sym, ap, ap₂, ◌∙◌}
+use mathlib.Core.Path.{◌≡◌, sym, ap, ap₂, ◌∙◌}
 use mathlib.Core.List.{List, [], ◌∷◌}
 use Prim.Native.Nat.{ℕ, zero, suc, ◌+◌, ◌-◌, ◌*◌, ◌/◌, ◌%◌, ◌^◌, ◌≤◌, ◌<◌}
 use native.Mathlib.Nat.{add-zero, div-add-mod', mod-le, lt_of_le_of_lt, lt_of_lt_of_le, not-suc-le-zero, le_of_suc-le-suc, pow-suc, pow-le-pow_right}

@@ -1,16 +1,16 @@
 -- A quotient found bit by bit: q * d + r is the number, doubled so often; the last bit, made odd where something remains, stands for all below it. Assumes
 -- nothing.
 use mathlib.Core.Path.{◌≡◌, refl, sym, ap, ap₂, ◌∙◌, subst, subst₂}
-use mathlib.Core.Logic.{◌⊎◌, inl, inr}
+use mathlib.Core.Logic.{inl, inr}
 use Prim.Native.Nat.{ℕ, zero, suc, ◌+◌, ◌-◌, ◌*◌, ◌/◌, ◌%◌, ◌^◌, ◌≤◌, ◌<◌}
-use native.Mathlib.Nat.{le_trans, le_of_eq, lt_of_not-le, mul_assoc, mul_comm, mul-mul-mul_comm, mul-le-mul, mul-le-mul_left, mul-le-mul_right, div-le_self}
-use native.Mathlib.Nat.{div-add-mod', mod-lt, pow-suc, pow-le-pow_right, lt_of_le_of_lt, zero-mul, mul-pos}
+use native.Mathlib.Nat.{lt_of_not-le, mul_assoc, mul_comm, mul-mul-mul_comm, mul-le-mul, mul-le-mul_left, mul-le-mul_right, div-le_self}
+use native.Mathlib.Nat.{div-add-mod', pow-suc, pow-le-pow_right, lt_of_le_of_lt, zero-mul}
 use native.Mathlib.Numerals.{add-one}
 use native.Mathlib.Omega.{arith}
 use lib.Dec.{lit<}
 use lib.Pow.{pow-add, pow_pos, pow_mono, shl_exact}
 use Rattle.float.specs.Jam.{Jammed}
-use Rattle.float.proofs.cut.Jams.{Jam, jam_of, jam_scale}
+use Rattle.float.proofs.cut.Jams.{jam_of, jam_scale}
 use Rattle.decimals.specs.Bring.{StandsFor}
 
 -- ---- powers of five and of ten

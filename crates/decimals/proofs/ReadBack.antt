@@ -2,7 +2,7 @@
 use mathlib.Core.Path.{◌≡◌, refl, sym, ap, ap₂, ◌∙◌, subst}
 use mathlib.Core.Logic.{◌⊎◌, inl, inr}
 use mathlib.Core.Bool.{Bool, true, false, cond}
-use mathlib.Core.List.{List, [], ◌∷◌, ◌++◌}
+use mathlib.Core.List.{List, [], ◌∷◌}
 use Prim.Native.Nat.{ℕ, zero, suc, ◌+◌, ◌-◌, ◌*◌, ◌/◌, ◌%◌, ◌^◌, ◌≤◌, ◌<◌}
 use native.Mathlib.Nat.{div-add-mod', mod-lt, pow-suc, div-lt_iff_lt-mul, le-div_iff_mul-le, lt_of_lt_of_le, mul_assoc, mul_comm, mul-le-mul_right}
 use native.Mathlib.Nat.{mul-lt-mul_of_pos_right}
@@ -23,7 +23,7 @@ use Rattle.decimals.specs.declared.short.Short.{Short}
 use Rattle.decimals.specs.declared.short.Short.TheVariants.{Decimal, Nothing}
 use Rattle.decimals.specs.Bring.{bring_of}
 use Rattle.decimals.specs.Read.{answered, read_parsed, read_of}
-use Rattle.decimals.specs.Short.{gives_word, gives_of, decimal_of, try_of, or_else, around_of, tried_at, short_from, short_of}
+use Rattle.decimals.specs.Short.{gives_word, gives_of, decimal_of, try_of, or_else, around_of, tried_at, short_from}
 use Rattle.listing.specs.Hex.{digits_to}
 use Rattle.decimals.specs.Line.{decimal_text}
 use Rattle.decimals.specs.Meaning.{all_digits, number_in, ShortReadsBack, WordTextReadsBack}

@@ -1,9 +1,9 @@
 -- Places are tried one after another: the digits so far are the whole part of rest * 10 ^ p / 2 ^ 88, and trying on leads to the same. Assumes nothing.
 use mathlib.Core.Path.{◌≡◌, refl, sym, ap, ap₂, ◌∙◌, subst}
 use mathlib.Core.Bool.{Bool, true, false, cond, ◌&&◌}
-use Prim.Native.Nat.{ℕ, zero, suc, ◌+◌, ◌-◌, ◌*◌, ◌/◌, ◌%◌, ◌^◌, ◌≤◌, ◌<◌}
-use native.Mathlib.Nat.{mul_assoc, mul-one, div-eq_of_lt, div-eq_of_lt-le, div-add-mod', mod-eq_of_lt, mod-lt, div-lt_iff_lt-mul, mul-lt-mul_of_pos_right}
-use native.Mathlib.Nat.{mul_comm, pow-suc}
+use Prim.Native.Nat.{ℕ, suc, ◌+◌, ◌-◌, ◌*◌, ◌/◌, ◌%◌, ◌^◌, ◌≤◌, ◌<◌}
+use native.Mathlib.Nat.{mul_assoc, mul-one, div-eq_of_lt, div-eq_of_lt-le, div-add-mod', mod-eq_of_lt, mod-lt}
+use native.Mathlib.Nat.{pow-suc}
 use native.Mathlib.Numerals.{add-one}
 use native.Mathlib.Omega.{arith}
 use borrow.Author.Tests.{lt-ltb, le-ltb, ltb-true, ltb-false, eq-eqb, ne_eqb, eqb-true, eqb-false, leb-true, leb-false, le-leb, lt-leb}
@@ -13,8 +13,6 @@ use Rattle.terms.specs.declared.Rule.{Rule}
 use Rattle.decimals.specs.declared.short.Short.{Short}
 use Rattle.decimals.specs.declared.short.Short.TheVariants.{Decimal, Nothing}
 use Rattle.decimals.specs.Short.{gives_of, decimal_of, try_of, or_else, around_of, tried_at, short_from}
-use Rattle.decimals.proofs.Quotients.{ten_pos}
-use Rattle.decimals.proofs.Kept.{eqb_same}
 
 -- ---- one decimal
 quotient_is : (w f y : ℕ) → f < y → (w * y + f) / y ≡ w

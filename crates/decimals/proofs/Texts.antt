@@ -1,27 +1,25 @@
 -- A text of a sign, digits, a point and digits is taken apart where it was put together. Assumes nothing.
-use mathlib.Core.Path.{◌≡◌, refl, sym, ap, ap₂, ◌∙◌, subst}
+use mathlib.Core.Path.{◌≡◌, refl, sym, ap, ◌∙◌, subst}
 use mathlib.Core.Bool.{Bool, true, false, cond}
 use mathlib.Core.List.{List, [], ◌∷◌, ◌++◌, append_assoc, append-nil}
-use Prim.Native.Nat.{ℕ, zero, suc, ◌+◌, ◌-◌, ◌*◌, ◌^◌, ◌≤◌, ◌<◌}
+use Prim.Native.Nat.{ℕ, suc, ◌+◌, ◌-◌, ◌*◌, ◌^◌, ◌≤◌, ◌<◌}
 use native.Mathlib.Nat.{add-zero, zero-add, mul-le-mul_left, zero-mul}
 use native.Mathlib.Omega.{arith}
-use borrow.Author.Tests.{lt-ltb, le-ltb, eq-eqb, ne_eqb, eqb-true, eqb-false, ltb-true, ltb-false}
+use borrow.Author.Tests.{lt-ltb, le-ltb, eq-eqb, ne_eqb, eqb-true}
 use lib.Dec.{ltb, eqb}
 use lib.ListN.{length, drop, get_or, length-append}
 use lib.Seq.{drop-append_seam, get_or_at, drop_at}
-use Rattle.terms.specs.declared.Rule.{Rule}
 use Rattle.float.specs.declared.Flagged.{Flagged}
 use Rattle.float.specs.Word.{size88}
 use Rattle.float.specs.Cut.{cut}
 use Rattle.numbers.specs.Signed.{with_sign}
 use Rattle.terms.specs.declared.Refusal.TheVariants.{TooLarge, TooSmall}
-use Rattle.decimals.specs.declared.bring.Brought.{Brought}
 use Rattle.decimals.specs.declared.bring.Brought.TheVariants.{Exact, Rounded, Refused}
 use Rattle.decimals.specs.declared.read.Scanned.TheVariants.{Digits}
 use Rattle.decimals.specs.declared.read.Parsed.TheVariants.{Decimal}
 use Rattle.decimals.specs.Exact.{point, minus}
 use Rattle.decimals.specs.Bring.{judged, bring_of}
-use Rattle.decimals.specs.Read.{is_digit, scan_from, scan_of, places_from, point_from, whole_from, has_minus, parse_of, answered, read_parsed, read_of}
+use Rattle.decimals.specs.Read.{is_digit, scan_from, scan_of, places_from, whole_from, has_minus, parse_of, answered, read_parsed}
 use Rattle.decimals.specs.Meaning.{all_digits, number_from, number_in, text_of, ReadingIsOfTheValue, ExactIsExact}
 use Rattle.decimals.proofs.Quotients.{ten_pos}
 use Rattle.decimals.proofs.Scanning.{digit_within}

@@ -1,11 +1,10 @@
 -- A decimal text as a word: an optional minus sign, digits, a point, digits. Definitions only. Assumes nothing.
-use Rattle.std.specs.Prelude.{ℕ, ◌+◌, ◌-◌, ◌*◌, ◌^◌, ◌≤◌, ◌<◌, ◌≡◌, Bool, true, false, cond, ◌&&◌, List, [], ◌∷◌, leb, ltb, eqb, length, drop, get_or}
+use Rattle.std.specs.Prelude.{ℕ, ◌+◌, ◌-◌, ◌*◌, ◌^◌, ◌≤◌, ◌<◌, Bool, true, false, cond, List, [], ◌∷◌, ltb, eqb, length, drop, get_or}
 use Rattle.terms.specs.declared.Rule.{Rule}
 use Rattle.terms.specs.declared.Rule.TheVariants.{Cut, Nearest}
 use Rattle.listing.specs.Options.{same_text, nearest_word}
 use Rattle.decimals.specs.declared.bring.Brought.{Brought}
 use Rattle.decimals.specs.declared.bring.Brought.TheVariants.{Exact as Is, Rounded as Near, Refused as Turned}
-use Rattle.decimals.specs.declared.read.Fault.{Fault}
 use Rattle.decimals.specs.declared.read.Fault.TheVariants.{NoDigit, NoPoint, ManyDigits, ManyPlaces, NoEnd}
 use Rattle.decimals.specs.declared.read.Scanned.{Scanned}
 use Rattle.decimals.specs.declared.read.Scanned.TheVariants.{Digits, TooMany}

@@ -47,6 +47,7 @@ fn read_digits(text: &[u8], digits: usize) -> Hex
 }
 
 // The operation of a code: SMUL, SMUU, SDIV, DMUL, DMUU, DDIV, FMUL, FDIV.
+#[tactic(auto, unfolding(crate::specs::Asked::operation_at))]
 fn operation_at(code: u32) -> Found
     ensures { result ≡ operation_at code }
 {
