@@ -118,7 +118,7 @@ module _ (on : Settings) (s : State) (m : Memory) (G : ReadyCard (card_with on s
   acknowledges : 5 ≤ room → Alike (card_with on s m) (Chip Acknowledge) room
   acknowledges h =
       let g = (bus_events on).acknowledge_leaves s.stack s.pending s.status s.service G.chip.ready in
-      let y = g.byte-read in
+      let y = g.byte_read in
       acknowledge_record on s m room calm h
       ∙ ap (λ (t : State). took (card_with on t m) 4 (3 ∷ 0 ∷ 134 ∷ 0 ∷ 0 ∷ [])) (sym g.state)
       ∙ ap (λ (n : ℕ). took (card_with on (acknowledge_of s).state m) 4 (3 ∷ 0 ∷ 134 ∷ 0 ∷ n ∷ [])) (sym (refusal_in (number_of (acknowledge_of s).refusal)

@@ -90,11 +90,15 @@ behind_is t = record { bits = get_or t 0 0; code = get_or t 1 0 }
 -- how many they are
 tail_size : (t : List ℕ) → Tail t → (length t ≡ 0) ⊎ (length t ≡ 2)
 tail_size [] no-tail = inl refl
+tail_size (b ∷ []) T = elim T [ ]
 tail_size (b ∷ k ∷ []) (two bits code h) = inr refl
+tail_size (b ∷ (k ∷ (_ ∷ _))) T = elim T [ ]
 
 tail_remembers : (t : List ℕ) → Tail t → length t ≡ 2 → Remembers (get_or t 0 0) (get_or t 1 0)
 tail_remembers [] no-tail n = absurd (let y : ⊥ = omega arith in y)
+tail_remembers (b ∷ []) T n = elim T [ ]
 tail_remembers (b ∷ k ∷ []) (two bits code h) n = h
+tail_remembers (b ∷ (k ∷ (_ ∷ _))) T n = elim T [ ]
 
 module _ (l : List ℕ) (p u v : ℕ) (t : List ℕ) (P : Parts l p u v t) where
   at : (i : ℕ) → get_or (laid l p u v t) (16 + i) 0 ≡ get_or (p ∷ u ∷ v ∷ t) i 0
@@ -140,14 +144,18 @@ module _ (l : List ℕ) (p u v : ℕ) (t : List ℕ) (P : Parts l p u v t) where
     where
       by : (k : List ℕ) → Tail k → cond (eqb (19 + length k) 19) [] (get_or k 0 0 ∷ get_or k 1 0 ∷ []) ≡ k
       by [] no-tail = refl
+      by (b ∷ []) T = elim T [ ]
       by (b ∷ k ∷ []) (two bits code h) = refl
+      by (b ∷ (k ∷ (_ ∷ _))) T = elim T [ ]
 
   tail_gone : cond (eqb (length (laid l p u v t)) 19) [] (0 ∷ 0 ∷ []) ≡ zeros (length t)
   tail_gone = rw size (by t P.tail)
     where
       by : (k : List ℕ) → Tail k → cond (eqb (19 + length k) 19) [] (0 ∷ 0 ∷ []) ≡ zeros (length k)
       by [] no-tail = refl
+      by (b ∷ []) T = elim T [ ]
       by (b ∷ k ∷ []) (two bits code h) = refl
+      by (b ∷ (k ∷ (_ ∷ _))) T = elim T [ ]
 
   -- an event that is done
   signals : (on : Settings) (kind byte b : ℕ) (s : State) (m : Memory) {after : List ℕ} → answer_to_kind (card_with on (stood l p u v) (behind_is t)) kind
