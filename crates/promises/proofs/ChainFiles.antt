@@ -39,7 +39,7 @@ use Rattle.promises.specs.FloatWords.{Le}
 use Rattle.promises.specs.Given.{Given, Chosen, settings_in, run_call}
 use Rattle.promises.specs.RecordFiles.{IsRecord, push, pop, command, status, reset, acknowledge, recall, forget}
 use Rattle.promises.specs.Records.{joined, EachTaken, replies_of, in_turn}
-use Rattle.promises.specs.Chains.{Step, Add, Subtract, Multiply, Divide, TakeFrom, Change, Constants, chain_of, run_events}
+use Rattle.promises.specs.Chains.{Step, Add, Subtract, Multiply, Divide, TakeFrom, Change, Constants, commands_in, chain_of, run_events}
 use Rattle.promises.specs.Cores.{Core, Meets, driven, answers_of, all_zero, on_bus, bus_run, word_left}
 use Rattle.promises.specs.ErrorMemory.{record_events, events_of_records}
 use Rattle.promises.specs.ChainFiles.{Carries, all_answered, word_at_end, Demand3Records, ChainMet}
