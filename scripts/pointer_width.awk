@@ -6,10 +6,12 @@
 # places (an object and an offset, ? for any) it can hold, by following it through copies, calls and memory to a fixed
 # point. The module is indifferent if:
 #   - each instruction has one of the forms below; none makes a number of a pointer or a pointer of a number, compares or
-#     chooses pointers, or returns one; there is no global; steps along memory are counted in bytes;
+#     chooses pointers, or returns one, but that an exported function may ask whether what it is lent is null; there is no
+#     global; steps along memory are counted in bytes;
 #   - no object's size rests on a pointer's, but that of `alloca ptr`, which is only stored to and loaded from as a pointer;
 #   - a pointer is stored and loaded in allocas alone, at a constant offset, and no other access, set or move touches the
-#     eight bytes from there on in part or as anything else: so a pointer of four bytes has the place of one of eight;
+#     eight bytes from there on in part or as anything else, but that all eight may be set to zero, which is null: so a pointer
+#     of four bytes has the place of one of eight;
 #   - no object that holds a pointer is lent to the host;
 #   - every pointer that is used has a place: none came from nowhere.
 BEGIN {
@@ -48,6 +50,13 @@ function add_cell(object, offset) {
     cells[object]++
     cell[object, cells[object]] = offset
     more = 1
+}
+
+# the pointer that a line compares with null
+function word_of(line) {
+    sub(/^icmp eq ptr /, "", line)
+    sub(/,.*/, "", line)
+    return line
 }
 
 function node(value) { return fn SUBSEP value }
@@ -145,7 +154,8 @@ op == "call" && /@llvm\./ {
         gsub(/[(),]/, " ", line)
         split(line, word, " ")
         accesses++
-        where[accesses] = NR; what[accesses] = "set"; type[accesses] = word[9] " bytes"; size[word[9] " bytes"] = word[9]; through[accesses] = node(word[5])
+        where[accesses] = NR; what[accesses] = word[7] == "0" ? "clearing" : "set"
+        type[accesses] = word[9] " bytes"; size[word[9] " bytes"] = word[9]; through[accesses] = node(word[5])
     } else if (line !~ /^call (void @llvm\.trap\(\)|i64 @llvm\.ctlz\.i64\(i64 [^ ,]+, i1 (true|false)\))$/)
         finding(NR, "an intrinsic of another form: " line)
     next
@@ -167,6 +177,7 @@ op == "call" {
     }
     next
 }
+op == "icmp" && exported && line ~ /^icmp eq ptr %[^ ,]+, null$/ && ("lent " fn " " word_of(line)) in lent { next }
 {
     if (!(op in plain)) finding(NR, "an instruction of another form: " line)
     else if (line ~ /(^|[ (])ptr([ ,]|$)/) finding(NR, "a pointer where only numbers stand: " line)
@@ -219,11 +230,12 @@ function lends(i,    k) {
 
 # ---- what must hold at the fixed point
 
-# n bytes at offset f of object o are touched as something that is no pointer
+# n bytes at offset f of object o are touched as something that is no pointer; a clearing may take whole pointers
 function touched(line, o, f, n, how,    k, c) {
     for (k = 1; k <= cells[o]; k++) {
         c = cell[o, k]
         if (f == "?") finding(line, how " at any place of an object that holds a pointer: " o)
+        else if (how ~ /^a clearing / && f <= c && c + 8 <= f + n) continue
         else if (f < c + 8 && c < f + n) finding(line, how " over a pointer: " o " at " c)
     }
     if (o in bare) finding(line, how " over an `alloca ptr`: " o)
