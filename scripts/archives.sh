@@ -101,7 +101,8 @@ target_names() { awk '!/^#/ && NF { print $1 }' "$targets"; }
 # compile_text TEXT TARGET SMALL OBJECT [FLAG..]: a module's text compiled for the target, by the toolchain's own flags less
 # those that name x86-64, elsewhere than there; for size where SMALL is not empty; with each FLAG too. What clang's front end
 # would say of the target is said here: that a function is for size; that no guard page lies below the stack, where there is no
-# system; that riscv64 hands back a number of 32 bits with its sign extended.
+# system; that riscv64 hands back a number of 32 bits with its sign extended. Elsewhere than on x86-64 a pair lies in memory as
+# it does there.
 compile_text() {
     target_row "$2" || return 1
     level=-O3 size='' probe='' back='' own='' processor_of='s/ "target-cpu"="[^"]*"//'
@@ -111,7 +112,7 @@ compile_text() {
     case $triple in x86_64-* | i686-*) own='-mllvm -no-x86-call-frame-opt' ;; esac
     case $triple in x86_64-*) processor_of='' ;; esac
     sed -e '/^target /d' -e "/^attributes .* \"target-cpu\"=/s/ nounwind/&$size/" -e "$processor_of" -e "$probe" -e "$back" \
-        "$1" >"$4.ll" || return 1
+        "$1" >"$4.text" && pairs_apart <"$4.text" >"$4.ll" || return 1
     object=$4
     shift 4
     # shellcheck disable=SC2086
@@ -119,8 +120,11 @@ compile_text() {
         -mllvm -no-trap-after-noreturn $own -mllvm -disable-machine-licm -mllvm -disable-postra-machine-licm \
         -mllvm -sink-common-insts=false --no-default-config -no-canonical-prefixes -Werror -Wno-override-module "$@" \
         -c -x ir "$object.ll" -o "$object" || return 1
-    rm "$object.ll"
+    rm "$object.text" "$object.ll"
 }
+
+# pairs_apart: a module's text for the target's processor
+pairs_apart() { case $triple in x86_64-*) cat ;; *) awk -f "$top/scripts/pairs.awk" ;; esac; }
 
 # compile_program TEXT OBJECT, link_program OBJECT PROGRAM: a program's module compiled for x86-64 and linked, as rt does
 link_program() {
