@@ -3,7 +3,7 @@
 # Sets targets, the table of processors, and host, what a program asks of its machine; defines take_module, same_object,
 # target_names, target_row, compile_module, archive_of.
 targets=$top/scripts/targets.txt
-host='read write rattle_arg_count rattle_arg rattle_set_errno'
+host='read write rattle_arg rattle_errno rattle_set_errno'
 
 # is_program NAME: it is a program, and no library
 is_program() { [ -f "$top/crates/$1/src/main.rt" ]; }
@@ -26,7 +26,7 @@ library_module() {
 program_module() {
     module=$work/$1.bc
     libraries_stand "$1" || rm -f "$top/out/made/$1"
-    make_program "$1" || return 1
+    build_program "$1" || return 1
     rm -f "$module"
     keep_lowered "$1" >"$work/lowered" 2>&1 || :
     [ ! -f "$module" ] || return 0
@@ -62,12 +62,20 @@ keeping() {
 
 # take_module NAME: the module as text, in $work/NAME.ll, if it is fit to be compiled for another processor: compiled here
 # for x86-64 it is the toolchain's own object byte for byte, and it is indifferent to the width of a pointer. Else says why.
+# Of a program the whole module, in $work/NAME.whole, gives the program, and $work/NAME.ll is what its main reaches.
 take_module() {
     make_module "$1" || return 1
     "$clang" --target=x86_64-unknown-linux-gnu -x ir "$module" -S -emit-llvm -Xclang -disable-llvm-passes -o "$work/$1.ll" || return 1
     if ! same_object "$1" "$work/$1.ll"; then
         echo "${0##*/}: compiled for x86-64, the module of $1 does not give the object that the toolchain made" >&2
         return 1
+    fi
+    if is_program "$1"; then
+        mv "$work/$1.ll" "$work/$1.whole"
+        if ! awk -v name="$1" -f "$top/scripts/reach.awk" "$work/$1.whole" "$work/$1.whole" >"$work/$1.ll"; then
+            echo "${0##*/}: the module of $1 does not begin as a program does" >&2
+            return 1
+        fi
     fi
     if ! awk -v host="$host" -f "$top/scripts/pointer_width.awk" "$work/$1.ll" >"$work/$1.width"; then
         head -n 5 "$work/$1.width" >&2

@@ -1,6 +1,6 @@
 # How a program or a library is proved and built, and when anew, and how a program is started here.
 # To be read by a script that has set `top`, the repository's folder. Defines say, room, toolchain, start, crates_of,
-# program_of, contents, current, note, rattle_on, libraries_stand, note_libraries, build, make_program, make_library. Needs a
+# program_of, contents, current, note, rattle_on, libraries_stand, note_libraries, build, build_program, make_library. Needs a
 # POSIX shell with the usual tools of Linux; from `toolchain` on rt. What rt makes of a crate lies in the crate's out/; what
 # the scripts make and note lies in out/ of the repository: out/made has the notes and what rt said.
 
@@ -291,9 +291,9 @@ libraries_stand() {
     [ "$(cat "$top/out/made/$1.below" 2>/dev/null)" = "$(contents "$1") $(libraries_sum "$1")" ]
 }
 
-# make_program NAME: proves and builds the program, unless it is current, and tries it on the files beside its sources; sets
+# build_program NAME: proves and builds the program, unless it is current, and tries it on the files beside its sources; sets
 # program
-make_program() {
+build_program() {
     program=$(program_of "$1")
     build "$program" sh "$top/scripts/trial.sh" "$1"
 }

@@ -130,7 +130,7 @@ ready() {
         start() { case $(uname -m) in x86_64 | amd64) "$@" ;; *) qemu-x86_64 "$@" ;; esac; }
     else
         toolchain
-        stands "$1" || make_program "$1" || exit 1
+        stands "$1" || build_program "$1" || exit 1
     fi
 }
 
