@@ -3,8 +3,6 @@ use Rattle.chip.proofs.Rows.{float_of_lem}
 use borrow.Author.Rules.{rules}
 use Rattle.chip.proofs.commands.float_result.Goals as goal
 
--- ?? spec has 12 answers, 8 goals: fadd-requires fsub-requires fmul-requires fdiv-requires returns returns-2 returns-3 returns-4 || (λ c. search rules) (λ c κs. search rules) (λ c. search rules) (λ c κs. search rules) (λ c. search rules) (λ c κs. search rules) (λ c. search rules) (λ c κs. search rules) returns returns-2 returns-3 returns-4
-
 pub returns-in-Add : goal.returns-in-Add
 returns-in-Add c = float_of_lem _ _ _ (search rules) c.requires.0 c.in-Add.is c.fadd.ensures
 

@@ -4,8 +4,6 @@ use Rattle.stack.proofs.TwoWords.{word_law}
 use borrow.Author.Rules.{rules}
 use Rattle.stack.proofs.Stack.tos.Goals as goal
 
--- ?? spec has 6 answers, 4 goals: cast-result cast-result-2 returns returns-2 || (λ c. search rules) (λ c. search rules) (λ c. search rules) (λ c. search rules) returns returns-2
-
 pub returns-in-Single : goal.returns-in-Single
 returns-in-Single c =
     let s = c.args.self in
