@@ -1,34 +1,30 @@
 -- Formulas: what the book says of its own trees is what the translator does with the crate's; the examples are computed. Assumes nothing.
-use mathlib.Core.Path.{◌≡◌, refl, sym, ap, ap₂, ◌∙◌, subst, subst₂}
+use mathlib.Core.Path.{◌≡◌, refl, sym, ap, ◌∙◌, subst}
 use mathlib.Core.Logic.{◌⊎◌, inl, inr, ⊎_elim}
 use mathlib.Core.Bool.{Bool, true, false}
 use mathlib.Core.List.{List, [], ◌∷◌, ◌++◌}
-use Prim.Native.Nat.{ℕ, ◌+◌, ◌*◌, ◌≤◌, ◌<◌}
+use Prim.Native.Nat.{ℕ, ◌*◌, ◌≤◌, ◌<◌}
 use native.Mathlib.Omega.{arith}
 use borrow.Author.Tests.{ltb-true, ltb-false}
 use lib.Dec.{ltb, lit≤}
 use lib.Ieee.{size}
 use lib.ListN.{length, drop, get_or, replicate}
-use Rattle.terms.specs.declared.Rule.{Rule}
 use Rattle.float.specs.Word.{value}
 use Rattle.float.specs.Float.{sub, mul, div}
 use Rattle.float.specs.Convert.{chsf}
 use Rattle.formula.specs.Formula as trees
 use Rattle.formula.specs.Formula.{need_of as their-need}
-use Rattle.formula.specs.Reader.{Read, Found, Outside, formula_of, factor_of, more, leaf_of}
+use Rattle.formula.specs.Reader.{Found, formula_of, factor_of, more, leaf_of}
 use Rattle.formula.specs.File.{letter_word, proper_in, file_of}
 use Rattle.formula.specs.Translation.{translation_of}
 use Rattle.formula.proofs.Texts.{read_is, one_tree}
 use Rattle.promises.specs.Subjects.{Wrote, formula_call}
-use Rattle.promises.specs.FloatWords.{FloatWord}
-use Rattle.promises.specs.PrintedText.{written}
 use Rattle.promises.specs.FormulaText as book
 use Rattle.promises.specs.FormulaText.{Formula, IsText, need_of}
-use Rattle.promises.specs.Given.{settings_in, run_call}
 use Rattle.promises.specs.Formulas.{FormulaDetermined, OneTree, Stated, Refuses, no_formula, improper, needs_more, no_room_lem, Takes, FormulaRefusals}
-use Rattle.promises.specs.Formulas.{file_in, FormulaRuns}
-use Rattle.promises.specs.Formulas.{WrongTranslators, letters_given, FormulaExamples}
-use Rattle.promises.proofs.FormulaText.{tree, leaf, tree_back, leaf_back, need_is, proper_is, file_is, theirs_sum, theirs_text}
+use Rattle.promises.specs.Formulas.{FormulaRuns}
+use Rattle.promises.specs.Formulas.{WrongTranslators, FormulaExamples}
+use Rattle.promises.proofs.FormulaText.{tree, leaf, leaf_back, need_is, proper_is, file_is, theirs_sum, theirs_text}
 use Rattle.promises.proofs.FormulaText.{ours_text}
 use Rattle.promises.proofs.FormulaRuns.{replies_few}
 use Rattle.promises.proofs.Translations as crate

@@ -36,7 +36,7 @@ use Rattle.bit_serial.specs.declared.tasks.Task.TheVariants.{Nothing}
 use Rattle.bit_serial.specs.UpTo.{up_to}
 use Rattle.bit_serial.specs.Answer.{steps_in}
 use Rattle.bit_serial.specs.Engine.{mul_answer, muu_answer, div_answer, fmul_answer, fdiv_answer}
-use Rattle.bit_serial.specs.Work.{width_of, Operands, answer_of, mul_task, div_task, fmul_task, fdiv_task, task_of}
+use Rattle.bit_serial.specs.Work.{width_of, Operands, answer_of, mul_task, div_task, fmul_task, fdiv_task}
 use Rattle.bit_serial.proofs.Cases.{words as words_of}
 use Rattle.bit_serial.proofs.Same.{same_mul, same_muu, same_div, same_fmul, same_fdiv}
 use Rattle.step_text.specs.declared.asked.Found.{Found}

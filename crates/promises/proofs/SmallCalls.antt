@@ -22,7 +22,7 @@ use Rattle.error_memory.specs.declared.Memory.{Memory}
 use Rattle.error_memory.specs.Memory.{empty_memory, Card, CardAnswer, card_with, card_answer, answer_with}
 use Rattle.host_floats.specs.declared.Reply.{Reply}
 use Rattle.terms.specs.declared.Refusal.TheVariants.{Done, BadState, BadMode, BadRule}
-use Rattle.state_bytes.specs.Bytes.{is_state, state_of, memory_in, card_in, flag_of, laid_out}
+use Rattle.state_bytes.specs.Bytes.{is_state, state_of, memory_in, card_in, flag_of}
 use Rattle.record_files.proofs.Tests.{either_eq}
 use Rattle.state_bytes.proofs.States.{short_memory, long_memory}
 use Rattle.state_bytes.proofs.Cards.{flag_back, laid_is}
@@ -36,7 +36,6 @@ use Rattle.promises.specs.Host.{number, outward, inward}
 use Rattle.promises.specs.Remembered.{Remembers}
 use Rattle.promises.specs.SmallCalls.{signalled, Tail, none as no-tail, two, Parts, EventCallUnder, EventCall, ConversionCall, ConversionCalls}
 use Rattle.promises.proofs.Fronts.{unnamed}
-use Rattle.promises.proofs.Kept.{good_states}
 
 -- ---- turned away
 bad_state_lem : (on : Settings) (state : List ℕ) (kind byte : ℕ) → is_state state ≡ false → signal_under on state kind byte ≡ signalled 3328 state

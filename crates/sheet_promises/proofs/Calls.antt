@@ -29,7 +29,6 @@ use Rattle.sheets.proofs.Growth.{good as stands, same, run_grows}
 use Rattle.sheets.proofs.Calling.{bad_mode, bad_rule, bad_state_lem, bad_sheets, too_long_lem, good}
 use Rattle.sheet_bytes.proofs.Ledgers.{good as good-sheets}
 use Rattle.sheet_promises.specs.Bytes.{four_at}
-use Rattle.sheet_promises.specs.Sheets.{is_sheets}
 use Rattle.sheet_promises.specs.Records.{is_own_kind, split, records_of, joined, struck, struck_replies}
 use Rattle.sheet_promises.specs.History.{Entry, history_from, sheets_in}
 use Rattle.sheet_promises.specs.SheetsCall.{SheetsAllowed, SheetsDetermined, SheetsTurnedAway, ReportsResult, replies_in, SheetsRepliesStay, Grown}
