@@ -1,21 +1,33 @@
 -- `sheets::sheets_run` meets its contract: 14, turned away at the door, 13 for the sheets, 9, or run. Assumes nothing.
 use mathlib.Core.Path.{◌≡◌, sym, ap, ap₂, ◌∙◌}
 use mathlib.Core.Bool.{true}
-use Prim.Native.Nat.{ℕ}
+use mathlib.Core.List.{List}
+use Prim.Native.Nat.{ℕ, ◌≤◌}
 use lib.ListN.{length}
 use Rattle.terms.specs.declared.Mode.{Mode}
 use Rattle.terms.specs.declared.Rule.{Rule}
 use Rattle.terms.specs.declared.Refusal.TheVariants.{BadState, InputTooLong}
 use Rattle.terms.specs.Refusal.{number_of}
+use Rattle.terms.specs.Limits.{report_bytes, most_input}
+use Rattle.terms.specs.Settings.{mode_of, rule_of}
 use Rattle.chip.specs.Step.{given}
 use Rattle.state_bytes.specs.Bytes.{card_in, door_of, report_of}
-use Rattle.state_bytes.proofs.Calling.{admitted}
+use Rattle.state_bytes.proofs.Calling.{Admitted, admitted}
 use Rattle.sheet_bytes.specs.Ledger.{is_sheets}
 use Rattle.sheet_bytes.proofs.Ledgers.{is_long}
 use Rattle.sheets.specs.Step.{holding, run_of}
-use Rattle.sheets.specs.Calls.{ran_of}
+use Rattle.sheets.specs.Calls.{call_of, ran_of}
 use Rattle.sheets.proofs.Calling.{turned_away_lem, bad_report, call_away, bad_sheets, too_long_lem, good}
 use Rattle.sheets.proofs.sheets_run.Goals as goal
+
+-- past every test, the call is a run under the mode and the rule that the numbers name
+goes_on : (mode rule : ℕ) (state sheets input replies report : List ℕ) {part : Mode} {way : Rule} → Admitted mode rule state → length report ≡ report_bytes
+    → is_sheets sheets ≡ true → length input ≤ most_input → part ≡ mode_of mode → way ≡ rule_of rule
+    → call_of mode rule state sheets input replies report
+    ≡ ran_of (length state) (run_of (holding (card_in (given part way) state) sheets) input (length replies)) replies
+goes_on mode rule state sheets input replies report g long are few e f =
+    good mode rule state sheets input replies report long g.mode_is g.rule_is g.state_is are few
+    ∙ ap₂ (λ (x : Mode) (y : Rule). ran_of (length state) (run_of (holding (card_in (given x y) state) sheets) input (length replies)) replies) (sym e) (sym f)
 
 pub returns-then-report-ne-REPORT_BYTES : goal.returns-then-report-ne-REPORT_BYTES
 returns-then-report-ne-REPORT_BYTES c = let a = c.args in bad_report a.mode a.rule a.state.now a.sheets.now
@@ -67,9 +79,8 @@ returns-then-state-eq-STATE_BYTES c =
     let door : c.number-refusal.result ≡ number_of (door_of a.mode a.rule a.state.now) = c.number-refusal.ensures.0 ∙ ap number_of c.admit.ensures in
     let g = admitted a.mode a.rule a.state.now (sym door ∙ c.if-refusal-ne0.false) in
     let are : is_sheets a.sheets.now ≡ true = sym c.is_sheets.ensures ∙ c.if-not-is_sheets.false in
-    rw (good a.mode a.rule a.state.now a.sheets.now a.input.now a.replies.now a.report.now c.if-report-ne-REPORT_BYTES.false g.mode_is g.rule_is g.state_is are
-    c.if-input-gt-MOST_INPUT.false ∙ ap₂ (λ (x : Mode) (y : Rule). ran_of (length a.state.now) (run_of (holding (card_in (given x y) a.state.now) a.sheets.now)
-    a.input.now (length a.replies.now)) a.replies.now) (sym c.mode_of-part.ensures) (sym c.rule_of-way.ensures))
+    rw (goes_on a.mode a.rule a.state.now a.sheets.now a.input.now a.replies.now a.report.now g c.if-report-ne-REPORT_BYTES.false are
+    c.if-input-gt-MOST_INPUT.false c.mode_of-part.ensures c.rule_of-way.ensures)
     c.run_good.ensures
 
 pub run_good-requires-2 : goal.run_good-requires-2
@@ -86,7 +97,6 @@ returns c =
     let door : c.number-refusal.result ≡ number_of (door_of a.mode a.rule a.state.now) = c.number-refusal.ensures.0 ∙ ap number_of c.admit.ensures in
     let g = admitted a.mode a.rule a.state.now (sym door ∙ c.if-refusal-ne0.false) in
     let are : is_sheets a.sheets.now ≡ true = sym c.is_sheets.ensures ∙ c.if-not-is_sheets.false in
-    rw (good a.mode a.rule a.state.now a.sheets.now a.input.now a.replies.now a.report.now c.if-report-ne-REPORT_BYTES.false g.mode_is g.rule_is g.state_is are
-    c.if-input-gt-MOST_INPUT.false ∙ ap₂ (λ (x : Mode) (y : Rule). ran_of (length a.state.now) (run_of (holding (card_in (given x y) a.state.now) a.sheets.now)
-    a.input.now (length a.replies.now)) a.replies.now) (sym c.mode_of-part.ensures) (sym c.rule_of-way.ensures))
+    rw (goes_on a.mode a.rule a.state.now a.sheets.now a.input.now a.replies.now a.report.now g c.if-report-ne-REPORT_BYTES.false are
+    c.if-input-gt-MOST_INPUT.false c.mode_of-part.ensures c.rule_of-way.ensures)
     c.run_good-2.ensures

@@ -4,36 +4,14 @@ use Prim.Native.Nat.{◌<◌}
 use Rattle.stack.proofs.TwoWords.{is_stack}
 use Rattle.chip.specs.Held.{state_in}
 use Rattle.chip.proofs.Ready.{Ready}
-use Rattle.record_runs.proofs.Looping.{starts, in_input, in_replies_lem, begins, stands, stops, less, goes_on, ends}
+use Rattle.record_runs.proofs.Looping.{starts, stops, less, goes_on, ends}
 use Rattle.sheets.specs.Step.{Held}
 use Rattle.sheets.proofs.Lines.{lawful}
 use Rattle.sheets.proofs.Turning.{calm_line}
 use Rattle.sheets.proofs.run.run_lines.Goals as goal
 
-pub begin-place-requires : goal.begin-place-requires
-begin-place-requires c = c.requires.2
-
 pub loop-place-init : goal.loop-place-init
 loop-place-init c = let h = c.requires in (h.1, h.0, (_, starts lawful refl c.begin-place.ensures))
-
-pub slice_bounds-rest-count : goal.slice_bounds-rest-count
-slice_bounds-rest-count c = in_input lawful c.loop-place.invariant.2.1
-
-pub slice_bounds-rest-start : goal.slice_bounds-rest-start
-slice_bounds-rest-start c = in_input lawful c.loop-place.invariant.2.1
-
-pub slice_bounds-room-count : goal.slice_bounds-room-count
-slice_bounds-room-count c = in_replies_lem lawful c.loop-place.invariant.2.1
-
-pub slice_bounds-room-start : goal.slice_bounds-room-start
-slice_bounds-room-start c = in_replies_lem lawful c.loop-place.invariant.2.1
-
-pub pass_line-t-requires : goal.pass_line-t-requires
-pass_line-t-requires c =
-    let fits = c.requires.2 in
-    let inv = c.loop-place.invariant in
-    let test = c.loop-place-test.true in
-    (inv.1, inv.0, begins lawful inv.2.1 fits test, stands lawful inv.2.1 fits test)
 
 pub returns-then-refusal-ne0 : goal.returns-then-refusal-ne0
 returns-then-refusal-ne0 c =
