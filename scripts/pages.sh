@@ -15,8 +15,8 @@ page_modules() {
     done
 }
 
-# wasm_module NAME STACK EXPORT: NAME, fit to be compiled, for size. What it asks of its machine is asked of the page; too
-# little stack ends the call, since nothing lies below it.
+# wasm_module NAME STACK EXPORT: NAME, of a program what its main reaches, fit to be compiled, for size. What it asks of its
+# machine is asked of the page; too little stack ends the call, since nothing lies below it.
 wasm_module() {
     take_module "$1" || return 1
     compile_module "$1" wasm32 small "$work/$1.o" &&

@@ -6,10 +6,15 @@
 # places (an object and an offset, ? for any) it can hold, by following it through copies, calls and memory to a fixed
 # point. The module is indifferent if:
 #   - each instruction has one of the forms below; none makes a number of a pointer or a pointer of a number, compares or
-#     chooses pointers, or returns one; there is no global; steps along memory are counted in bytes;
+#     chooses pointers, or returns one by itself, but that an exported function may ask whether what it is lent is null; steps
+#     along memory are counted in bytes;
+#   - there is no global but constant bytes, which nothing is stored to;
+#   - a pair, { A, B }, is loaded and stored as its two parts, the second at its place on a machine of 64 bits
+#     (scripts/pairs.awk), and an exported function returns none that has a pointer;
 #   - no object's size rests on a pointer's, but that of `alloca ptr`, which is only stored to and loaded from as a pointer;
 #   - a pointer is stored and loaded in allocas alone, at a constant offset, and no other access, set or move touches the
-#     eight bytes from there on in part or as anything else: so a pointer of four bytes has the place of one of eight;
+#     eight bytes from there on in part or as anything else, but that all eight may be set to zero, which is null: so a pointer
+#     of four bytes has the place of one of eight;
 #   - no object that holds a pointer is lent to the host;
 #   - every pointer that is used has a place: none came from nowhere.
 BEGIN {
@@ -50,7 +55,38 @@ function add_cell(object, offset) {
     more = 1
 }
 
-function node(value) { return fn SUBSEP value }
+# the pointer that a line compares with null
+function word_of(line) {
+    sub(/^icmp eq ptr /, "", line)
+    sub(/,.*/, "", line)
+    return line
+}
+
+# a constant is the same in every function; a part of a pair is named by its number
+function node(value) { return value ~ /^@/ ? value : fn SUBSEP value }
+function part_of(n, k) { return n SUBSEP "part" k }
+function returned(f, k) { return part_of(f SUBSEP "returned", k) }
+
+# sets first, second and behind, the parts of a pair's type and the place of the second
+function parts_of(pair) {
+    gsub(/[{},]/, " ", pair)
+    split(pair, parts, " ")
+    first = parts[1]; second = parts[2]
+    behind = size[first] > size[second] ? size[first] : size[second]
+}
+
+# an access of a pair at p, whose parts are those of n
+function pair_access(how, pair, p, n,    k) {
+    parts_of(pair)
+    for (k = 0; k < 2; k++) {
+        copies++
+        from[copies] = p; into[copies] = part_of(p, "at" (k ? behind : 0)); by[copies] = k ? behind : 0
+        accesses++
+        where[accesses] = NR; what[accesses] = how; type[accesses] = k ? second : first
+        through[accesses] = into[copies]; value[accesses] = part_of(n, k)
+    }
+}
+
 function in_cell(object, offset) { return "cell" SUBSEP object SUBSEP offset }
 
 # ---- reading the module: each instruction that has to do with pointers becomes a rule
@@ -62,7 +98,7 @@ function in_cell(object, offset) { return "cell" SUBSEP object SUBSEP offset }
     head = substr($0, 1, RSTART - 1)
     rest = substr($0, RSTART + RLENGTH)
     exported = head !~ / internal /
-    if (head ~ / ptr /) finding(NR, "a function returns a pointer")
+    if (head ~ / ptr / || exported && head ~ /[{ ]ptr[, ]/) finding(NR, "a function returns a pointer")
     sub(/\) .*/, "", rest)
     given = split(rest, parameter, ", ")
     defined[fn] = 1
@@ -79,6 +115,11 @@ function in_cell(object, offset) { return "cell" SUBSEP object SUBSEP offset }
             add(fn SUBSEP word[last], object, 0)
         }
     }
+    next
+}
+/^@static\.[0-9]+ = private unnamed_addr constant \[[0-9]+ x i8\] (c".*"|zeroinitializer), align 1$/ {
+    constant[$1] = 1
+    add($1, "constant " $1, 0)
     next
 }
 /^@/ { finding(NR, "a global") }
@@ -118,6 +159,32 @@ op == "getelementptr" {
     by[copies] = word[2] ~ /^-?[0-9]+$/ ? word[2] : "?"
     next
 }
+op == "load" && line ~ /^load \{ (i8|i16|i32|i64|ptr), (i8|i16|i32|i64|ptr) \}, ptr %[^ ,]+, align [0-9]+$/ {
+    match(line, /\{[^}]*\}/)
+    pair = substr(line, RSTART, RLENGTH)
+    split(substr(line, RSTART + RLENGTH), word, /[ ,]+/)
+    pair_access("load", pair, node(word[3]), node(to))
+    next
+}
+op == "store" && line ~ /^store \{ (i8|i16|i32|i64|ptr), (i8|i16|i32|i64|ptr) \} %[^ ,]+, ptr %[^ ,]+, align [0-9]+$/ {
+    match(line, /\{[^}]*\}/)
+    pair = substr(line, RSTART, RLENGTH)
+    split(substr(line, RSTART + RLENGTH), word, /[ ,]+/)
+    pair_access("store", pair, node(word[4]), node(word[2]))
+    next
+}
+op == "extractvalue" && line ~ /^extractvalue \{ (i8|i16|i32|i64|ptr), (i8|i16|i32|i64|ptr) \} %[^ ,]+, [01]$/ {
+    sub(/^[^}]*\} /, "", line)
+    split(line, word, ", ")
+    copies++
+    from[copies] = part_of(node(word[1]), word[2]); into[copies] = node(to); by[copies] = 0
+    next
+}
+op == "ret" && line ~ /^ret \{ (i8|i16|i32|i64|ptr), (i8|i16|i32|i64|ptr) \} %[^ ,]+$/ {
+    sub(/^.*\} /, "", line)
+    for (k = 0; k < 2; k++) { copies++; from[copies] = part_of(node(line), k); into[copies] = returned(fn, k); by[copies] = 0 }
+    next
+}
 op == "load" {
     if (line !~ /^load [a-z0-9]+, ptr %[^ ,]+, align [0-9]+$/) { finding(NR, "a load of another form: " line); next }
     gsub(/,/, "", line)
@@ -130,7 +197,7 @@ op == "store" {
     if (line !~ /^store [a-z0-9]+ [^ ,]+, ptr %[^ ,]+, align [0-9]+$/) { finding(NR, "a store of another form: " line); next }
     gsub(/,/, "", line)
     split(line, word, " ")
-    if (word[2] == "ptr" && word[3] !~ /^%/) { finding(NR, "a pointer that is a constant: " line); next }
+    if (word[2] == "ptr" && word[3] !~ /^%/ && !(word[3] in constant)) { finding(NR, "a pointer that is a constant: " line); next }
     accesses++
     where[accesses] = NR; what[accesses] = "store"; type[accesses] = word[2]; through[accesses] = node(word[5]); value[accesses] = node(word[3])
     next
@@ -145,19 +212,20 @@ op == "call" && /@llvm\./ {
         gsub(/[(),]/, " ", line)
         split(line, word, " ")
         accesses++
-        where[accesses] = NR; what[accesses] = "set"; type[accesses] = word[9] " bytes"; size[word[9] " bytes"] = word[9]; through[accesses] = node(word[5])
+        where[accesses] = NR; what[accesses] = word[7] == "0" ? "clearing" : "set"
+        type[accesses] = word[9] " bytes"; size[word[9] " bytes"] = word[9]; through[accesses] = node(word[5])
     } else if (line !~ /^call (void @llvm\.trap\(\)|i64 @llvm\.ctlz\.i64\(i64 [^ ,]+, i1 (true|false)\))$/)
         finding(NR, "an intrinsic of another form: " line)
     next
 }
 op == "call" {
-    if (line !~ /^call [a-z0-9]+ @("[^"]+"|[A-Za-z0-9_.$]+)\(.*\)$/ || line ~ /^call ptr /) { finding(NR, "a call of another form: " line); next }
+    if (line !~ /^call ([a-z0-9]+|\{ (i8|i16|i32|i64|ptr), (i8|i16|i32|i64|ptr) \}) @("[^"]+"|[A-Za-z0-9_.$]+)\(.*\)$/ || line ~ /^call ptr /) { finding(NR, "a call of another form: " line); next }
     match(line, /@("[^"]+"|[A-Za-z0-9_.$]+)\(/)
     callee = substr(line, RSTART + 1, RLENGTH - 2)
     line = substr(line, RSTART + RLENGTH)
     sub(/\)$/, "", line)
     calls++
-    called[calls] = NR; callees[calls] = callee
+    called[calls] = NR; callees[calls] = callee; answers[calls] = $0 ~ /call \{ / ? node(to) : ""
     passed[calls] = split(line, word, ", ")
     for (i = 1; i <= passed[calls]; i++) {
         split(word[i], part, " ")
@@ -167,6 +235,7 @@ op == "call" {
     }
     next
 }
+op == "icmp" && exported && line ~ /^icmp eq ptr %[^ ,]+, null$/ && ("lent " fn " " word_of(line)) in lent { next }
 {
     if (!(op in plain)) finding(NR, "an instruction of another form: " line)
     else if (line ~ /(^|[ (])ptr([ ,]|$)/) finding(NR, "a pointer where only numbers stand: " line)
@@ -219,11 +288,12 @@ function lends(i,    k) {
 
 # ---- what must hold at the fixed point
 
-# n bytes at offset f of object o are touched as something that is no pointer
+# n bytes at offset f of object o are touched as something that is no pointer; a clearing may take whole pointers
 function touched(line, o, f, n, how,    k, c) {
     for (k = 1; k <= cells[o]; k++) {
         c = cell[o, k]
         if (f == "?") finding(line, how " at any place of an object that holds a pointer: " o)
+        else if (how ~ /^a clearing / && f <= c && c + 8 <= f + n) continue
         else if (f < c + 8 && c < f + n) finding(line, how " over a pointer: " o " at " c)
     }
     if (o in bare) finding(line, how " over an `alloca ptr`: " o)
@@ -232,6 +302,7 @@ function touched(line, o, f, n, how,    k, c) {
 # of the n bytes from f of o on that a move takes to g of p: the pointers here are the pointers there
 function moves_pointers(line, o, f, p, g, n,    k, c) {
     if (o in bare || p in bare) finding(line, "a move of an `alloca ptr`")
+    if (p ~ /^constant /) finding(line, "a move to a constant")
     if (f == "?" || g == "?") {
         if (cells[o] || cells[p]) finding(line, "a move at any place of an object that holds a pointer")
         return
@@ -255,11 +326,16 @@ END {
         for (k = 1; k <= passed[i]; k++) {
             if (passed_kind[i, k] != kind[callee, k]) finding(called[i], "an argument of another type: " callee)
             if (kind[callee, k] != "ptr") continue
-            if (passed_value[i, k] !~ /^%/) finding(called[i], "a pointer that is a constant, given to " callee)
+            if (passed_value[i, k] !~ /^%/ && !(passed_value[i, k] in constant)) finding(called[i], "a pointer that is a constant, given to " callee)
             copies++
             from[copies] = passed_node[i, k]; into[copies] = named[callee, k]; by[copies] = 0
         }
     }
+    for (i = 1; i <= calls; i++)
+        if (answers[i] != "") {
+            if (!(callees[i] in defined)) finding(called[i], "a function that is not here hands back a pair: " callees[i])
+            for (k = 0; k < 2; k++) { copies++; from[copies] = returned(callees[i], k); into[copies] = part_of(answers[i], k); by[copies] = 0 }
+        }
     do { more = 0; walk(); rounds++ } while (more)
 
     for (i = 1; i <= accesses; i++) {
@@ -268,6 +344,7 @@ END {
         if (type[i] == "ptr" && what[i] == "load" && !places[value[i]]) finding(where[i], "a pointer is loaded where none was stored")
         for (k = 1; k <= places[through[i]]; k++) {
             object = place[through[i], k]; offset = at[through[i], k]
+            if (object ~ /^constant / && what[i] ~ /^(store|set|clearing)$/) finding(where[i], "a store to a constant")
             if (what[i] == "lending") offset = "?"
             if (type[i] != "ptr") { touched(where[i], object, offset, size[type[i]], "a " what[i] " of " type[i]); continue }
             if (object in lent) finding(where[i], "a pointer in lent memory: " object)

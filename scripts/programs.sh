@@ -118,7 +118,7 @@ stands() {
         [ -x "$program" ]
         return
     fi
-    program=$top/target/bin/$1
+    program=$(program_of "$1")
     command -v rt >/dev/null 2>&1 && current "$program"
 }
 
@@ -130,7 +130,7 @@ ready() {
         start() { case $(uname -m) in x86_64 | amd64) "$@" ;; *) qemu-x86_64 "$@" ;; esac; }
     else
         toolchain
-        stands "$1" || build "$program" rt check "$1" || exit 1
+        stands "$1" || build_program "$1" || exit 1
     fi
 }
 

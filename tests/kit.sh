@@ -1,6 +1,6 @@
 # To be read by a script that has set `top`, the repository's folder: what scripts/build.sh has (kit, tools, parts, clang,
-# lld, start, contents, current, build, make_library), and how C is compiled: compile, link.
-# Needs the toolchain and a POSIX shell with the usual tools, on x86-64 or Arm.
+# lld, start, contents, current, build, build_program, make_library), and how C is compiled: compile, link.
+# Needs the toolchain and a POSIX shell with the usual tools, on x86-64.
 . "$top/scripts/build.sh"
 toolchain
 

@@ -22,7 +22,7 @@ const programs = (() => {
 
   // What a program asks of its machine: input to read, output to write, and the words of its call.
   const machine = (input, words, written, memory) => {
-    let at = 0;
+    let at = 0, errno = 0;
     const bytes = (from, n) => new Uint8Array(memory(), from, Number(n));
     return {
       read: (file, to, n) => {
@@ -32,14 +32,14 @@ const programs = (() => {
         return BigInt(part.length);
       },
       write: (file, from, n) => { written.push(bytes(from, n).slice()); return n; },
-      rattle_arg_count: () => BigInt(words.length),
       rattle_arg: (i, to, n) => {
         if (i >= BigInt(words.length)) return -1n;
         const word = new TextEncoder().encode(words[Number(i)]);
         bytes(to, n).set(word.subarray(0, Number(n)));
         return word.length > Number(n) ? -2n : BigInt(word.length);
       },
-      rattle_set_errno: () => {},
+      rattle_errno: () => errno,
+      rattle_set_errno: error => { errno = error; },
     };
   };
 

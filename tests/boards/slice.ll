@@ -1,9 +1,10 @@
 ; A module of the toolchain's forms, small enough to plant faults in: an exported function makes a pair of the lent slice, a
-; pointer and a length, and a worker copies the pair, steps to a byte and loads it; the host reads bytes to an array. It is
-; indifferent to a pointer's width.
+; pointer and a length, where null stands for an address that no one uses, and a worker clears a pair, copies that one to it,
+; steps to a byte and loads it; the host reads bytes to an array. It is indifferent to a pointer's width.
 define internal noundef i8 @"slice::byte"(ptr noundef %a0, i64 noundef %a1) #0 {
 start:
   %copy = alloca [16 x i8], align 8
+  call void @llvm.memset.p0.i64(ptr %copy, i8 0, i64 16, i1 false)
   %place = alloca ptr, align 8
   call void @llvm.memmove.p0.p0.i64(ptr %copy, ptr %a0, i64 16, i1 false)
   %behind = getelementptr i8, ptr %copy, i64 8
@@ -26,7 +27,11 @@ past:
 define noundef i32 @slice(ptr noundef %a0, i64 noundef %a1) #0 {
 start:
   %pair = alloca [16 x i8], align 8
-  store ptr %a0, ptr %pair, align 8
+  %none = icmp eq ptr %a0, null
+  %one = zext i1 %none to i64
+  %page = mul i64 %one, 4096
+  %lent = getelementptr i8, ptr %a0, i64 %page
+  store ptr %lent, ptr %pair, align 8
   %second = getelementptr i8, ptr %pair, i64 8
   store i64 %a1, ptr %second, align 8
   %room = alloca [16 x i8], align 1

@@ -22,7 +22,7 @@ export const machine = async (path, change = data => data) => {
 
 // START and a folder of programs: what a native program writes.
 export const native = (top, name, input, words = []) => {
-  const program = join(top, 'target/bin', name), given = { input, maxBuffer: 1 << 25 };
+  const program = join(top, 'crates', name, 'out', name), given = { input, maxBuffer: 1 << 25 };
   const { stdout, status, error } = spawnSync(process.env.START, [program, ...words], given);
   if (error || status !== 0) throw Error(`${name} ended with ${error || status}`);
   return stdout;

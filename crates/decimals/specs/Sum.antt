@@ -4,7 +4,7 @@ use Rattle.listing.specs.Listing.{newline}
 use Rattle.listing.specs.declared.hex.Hex.{Hex}
 use Rattle.listing.specs.declared.hex.Hex.TheVariants.{Number, Nothing}
 use Rattle.decimals.specs.declared.sum.Sum.{Sum}
-use Rattle.decimals.specs.declared.sum.Sum.TheVariants.{Signed, Nothing as None}
+use Rattle.decimals.specs.declared.sum.Sum.TheVariants.{Signed, Nothing as NoSum}
 use Rattle.decimals.specs.Magnitude.{size_in, Fits, bytes_at}
 use Rattle.decimals.specs.Exact.{minus, exact_text}
 use Rattle.listing.specs.Hex.{hex_of}
@@ -42,4 +42,4 @@ Bytes·Of digits false bytes = hex_of digits ≡ Nothing
 -- a sum with its line, or none
 abbrev pub SumOf : List ℕ → Sum → Type 0
 SumOf text (Signed neg size) = (exact_text neg (size_in size) ++ (newline ∷ []) ≡ sum_line text) × Fits size
-SumOf text None = no_sum ≡ sum_line text
+SumOf text NoSum = no_sum ≡ sum_line text

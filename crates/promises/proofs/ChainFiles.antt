@@ -20,7 +20,6 @@ use Rattle.chip.specs.State.{Answer}
 use Rattle.chip.specs.Event.{Push, Pop, Command, Status, Reset, Acknowledge}
 use Rattle.chip.specs.Step.{push_of, carried, command_under}
 use Rattle.record_files.proofs.Append.{nothing}
-use Rattle.record_files.proofs.Through.{tally}
 use Rattle.terms.specs.Settings.{Settings}
 use Rattle.terms.specs.Refusal.{number_of}
 use Rattle.record_runs.specs.Record.{push_all, before, reply_of}
@@ -39,7 +38,7 @@ use Rattle.promises.specs.FloatWords.{Le}
 use Rattle.promises.specs.Given.{Given, Chosen, settings_in, run_call}
 use Rattle.promises.specs.RecordFiles.{IsRecord, push, pop, command, status, reset, acknowledge, recall, forget}
 use Rattle.promises.specs.Records.{joined, EachTaken, replies_of, in_turn}
-use Rattle.promises.specs.Chains.{Step, Add, Subtract, Multiply, Divide, TakeFrom, Change, Constants, chain_of, run_events}
+use Rattle.promises.specs.Chains.{Step, Add, Subtract, Multiply, Divide, TakeFrom, Change, Constants, commands_in, chain_of, run_events}
 use Rattle.promises.specs.Cores.{Core, Meets, driven, answers_of, all_zero, on_bus, bus_run, word_left}
 use Rattle.promises.specs.ErrorMemory.{record_events, events_of_records}
 use Rattle.promises.specs.ChainFiles.{Carries, all_answered, word_at_end, Demand3Records, ChainMet}
@@ -69,12 +68,12 @@ Silent (Forget ∷ es) = ⊥
 
 chain_silent : (sr : ℕ → Bool) (ks : List Step) → Silent (on_bus (chain_of sr ks))
 chain_silent sr [] = tt
-chain_silent sr (Add c ∷ ks) = chain_silent _ ks
-chain_silent sr (Subtract c ∷ ks) = chain_silent _ ks
-chain_silent sr (Multiply c ∷ ks) = chain_silent _ ks
-chain_silent sr (Divide c ∷ ks) = chain_silent _ ks
-chain_silent sr (TakeFrom c ∷ ks) = chain_silent _ ks
-chain_silent sr (Change ∷ ks) = chain_silent _ ks
+chain_silent sr (Add c ∷ ks) = chain_silent (λ (x : ℕ). sr (commands_in (Add c) + x)) ks
+chain_silent sr (Subtract c ∷ ks) = chain_silent (λ (x : ℕ). sr (commands_in (Subtract c) + x)) ks
+chain_silent sr (Multiply c ∷ ks) = chain_silent (λ (x : ℕ). sr (commands_in (Multiply c) + x)) ks
+chain_silent sr (Divide c ∷ ks) = chain_silent (λ (x : ℕ). sr (commands_in (Divide c) + x)) ks
+chain_silent sr (TakeFrom c ∷ ks) = chain_silent (λ (x : ℕ). sr (commands_in (TakeFrom c) + x)) ks
+chain_silent sr (Change ∷ ks) = chain_silent (λ (x : ℕ). sr (commands_in Change + x)) ks
 
 -- the first of some answers is 0, and so are the others
 first_zero : (refusal byte : ℕ) (rest : Bool) → (eqb (256 * refusal + byte) 0 && rest) ≡ true → (refusal ≡ 0) × (rest ≡ true)
@@ -159,16 +158,16 @@ module _ (g : Given) (C : Chosen g) (c : Core) (M : Meets g c) (state : List ℕ
 
   result_is : (c.run state (joined rs) replies report).result ≡ 0
   result_is =
-      (M.run state (joined rs) replies report K.begins.bytes K.bytes-lent.0 K.bytes-lent.1 K.bytes-lent.2).result_is
+      (M.run state (joined rs) replies report K.begins.bytes K.bytes_lent.0 K.bytes_lent.1 K.bytes_lent.2).result_is
       ∙ ap (λ (x : Called). x.result) call_is
       ∙ ap (λ (l : List ℕ). (run_of card l (length replies)).refusal) (sym (append-nil (joined rs)))
       ∙ ap (λ (o : Outcome). o.refusal) (in_turn_lem card rs [] (length replies) K.each) ∙ taken_end rs card (length replies) K.each
 
   state_is : (c.run state (joined rs) replies report).state ≡ driven c state (bus_run w sr ks)
   state_is =
-      (M.run state (joined rs) replies report K.begins.bytes K.bytes-lent.0 K.bytes-lent.1 K.bytes-lent.2).state_is
+      (M.run state (joined rs) replies report K.begins.bytes K.bytes_lent.0 K.bytes_lent.1 K.bytes_lent.2).state_is
       ∙ ap (λ (x : Called). x.state) call_is
-      ∙ ap (laid_out (length state)) (records_are_events card rs (length replies) K.each ∙ ap (after_all card) K.events-are)
+      ∙ ap (laid_out (length state)) (records_are_events card rs (length replies) K.each ∙ ap (after_all card) K.events_are)
       ∙ sym ((cores g C c M).states state (bus_run w sr ks) K.begins.bytes K.begins.good (sent w sr ks))
 
   -- the run writes the replies of its records
@@ -184,12 +183,12 @@ module _ (g : Given) (C : Chosen g) (c : Core) (M : Meets g c) (state : List ℕ
       ap (λ (l : List ℕ). (run_of card l (length replies)).written) (sym (append-nil (joined rs)))
       ∙ ap (λ (o : Outcome). o.written) (in_turn_lem card rs [] (length replies) K.each)
       ∙ written_is rs card (length replies) K.each
-      ∙ all_zero_lem rs card (length replies) K.each (subst Silent (sym K.events-are) (chain_silent sr ks))
-      (subst (λ (es : List Event). all_zero (answers_of card es) ≡ true) (sym K.events-are) zero)
+      ∙ all_zero_lem rs card (length replies) K.each (subst Silent (sym K.events_are) (chain_silent sr ks))
+      (subst (λ (es : List Event). all_zero (answers_of card es) ≡ true) (sym K.events_are) zero)
 
   replies_are : Constants ks → (c.run state (joined rs) replies report).replies ≡ all_answered rs ++ drop (length (all_answered rs)) replies
   replies_are T =
-      (M.run state (joined rs) replies report K.begins.bytes K.bytes-lent.0 K.bytes-lent.1 K.bytes-lent.2).replies_is
+      (M.run state (joined rs) replies report K.begins.bytes K.bytes_lent.0 K.bytes_lent.1 K.bytes_lent.2).replies_is
       ∙ ap (λ (x : Called). x.replies) call_is
       ∙ ap (λ (l : List ℕ). l ++ drop (length l) replies) (replies_zero T)
 

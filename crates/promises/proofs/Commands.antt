@@ -42,7 +42,7 @@ use Rattle.codes.specs.Command.{Nop, Add, Sub, Mul, Muu, Div, Chs, Float, Chsf, 
 use Rattle.codes.specs.declared.FloatOp.{FloatOp}
 use Rattle.codes.specs.declared.FloatOp.TheVariants.{Add as FAdd, Sub as FSub, Mul as FMul, Div as FDiv}
 use Rattle.chip.specs.Status.{status_of}
-use Rattle.chip.specs.Commands.{base_rule, pi_of, word_a, word_b, ends, moves, keeps_a, loses_a, changes_a, floats, converts, widens, narrows, float_of, outcome_of}
+use Rattle.chip.specs.Commands.{pi_of, word_a, word_b, ends, moves, keeps_a, loses_a, changes_a, floats, converts, widens, narrows, float_of, outcome_of}
 use Rattle.chip.specs.Commands.{proper_operands}
 use Rattle.chip.specs.Step.{done, carried, command_under}
 use Rattle.codes.specs.Command.{Known}

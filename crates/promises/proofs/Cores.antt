@@ -22,7 +22,6 @@ use Rattle.chip.specs.Event.{Event as ChipEvent}
 use Rattle.chip.specs.Event.{Push, Pop, Command, Status, Reset, Acknowledge}
 use Rattle.chip.specs.State.{busy, moved}
 use Rattle.chip.specs.Status.{error_of}
-use Rattle.chip.specs.Commands.{base_rule}
 use Rattle.chip.specs.Step.{done, refused, push_of, command_under, answer_to}
 use Rattle.promises.specs.BusEvents.{answered, pushes_of, leaves_clear, quiet}
 use Rattle.chip.proofs.Rows.{both_of_lem}

@@ -45,11 +45,11 @@ use Rattle.promises.specs.DecimalNumbers.{ReadRightly, ReadingIsOfTheValue, Read
 use Rattle.promises.proofs.Measures.{size_is, ours_word}
 
 -- ---- the book's digits are the crate's
-same_digits : (l : List ℕ) → theirs.allDigits l ≡ all_digits l
+same_digits : (l : List ℕ) → theirs.all_digits l ≡ all_digits l
 same_digits [] = refl
 same_digits (c ∷ l) = rw (same_digits l)
 
-same_number : (n : ℕ) (l : List ℕ) → theirs.numberFrom n l ≡ number_from n l
+same_number : (n : ℕ) (l : List ℕ) → theirs.number_from n l ≡ number_from n l
 same_number n [] = refl
 same_number n (c ∷ l) = same_number (n * 10 + (c - 48)) l
 
@@ -173,13 +173,13 @@ number_read rule neg k p most = go (eqb k 0) (ltb (k * 2 ^ 65) (10 ^ p)) refl re
         judged_rightly rule neg k p some (ltb-false _ _ y) most _ _ refl refl
 
 -- digits stay below 10 to their number
-number_bound : (n : ℕ) (l : List ℕ) → theirs.allDigits l ≡ true → theirs.numberFrom n l < (n + 1) * 10 ^ length l
+number_bound : (n : ℕ) (l : List ℕ) → theirs.all_digits l ≡ true → theirs.number_from n l < (n + 1) * 10 ^ length l
 number_bound n [] a = omega arith
 number_bound n (c ∷ l) a = go (is_digit c) refl a (number_bound (n * 10 + (c - 48)) l)
   where
-    go : (t : Bool) → is_digit c ≡ t → cond t (theirs.allDigits l) false ≡ true
-        → (theirs.allDigits l ≡ true → theirs.numberFrom (n * 10 + (c - 48)) l < (n * 10 + (c - 48) + 1) * 10 ^ length l)
-        → theirs.numberFrom (n * 10 + (c - 48)) l < (n + 1) * 10 ^ suc (length l)
+    go : (t : Bool) → is_digit c ≡ t → cond t (theirs.all_digits l) false ≡ true
+        → (theirs.all_digits l ≡ true → theirs.number_from (n * 10 + (c - 48)) l < (n * 10 + (c - 48) + 1) * 10 ^ length l)
+        → theirs.number_from (n * 10 + (c - 48)) l < (n + 1) * 10 ^ suc (length l)
     go true x y h =
         let d = digit_within c x in
         let m : (n * 10 + (c - 48) + 1) * 10 ^ length l ≤ (n + 1) * 10 * 10 ^ length l = mul-le-mul_right (10 ^ length l) (omega arith) in
@@ -189,7 +189,7 @@ number_bound n (c ∷ l) a = go (is_digit c) refl a (number_bound (n * 10 + (c -
         lt_of_lt_of_le (h y) (le_trans m (le_of_eq e))
     go false x y h = let z : ◌≡◌ {A = ℕ} 0 1 = cc in absurd (omega arith)
 
-number_below : (l : List ℕ) → theirs.allDigits l ≡ true → theirs.number_in l < 10 ^ length l
+number_below : (l : List ℕ) → theirs.all_digits l ≡ true → theirs.number_in l < 10 ^ length l
 number_below l a = let h = number_bound 0 l a in omega arith
 
 -- the digits of a text that is read are at most 10 ^ 19 times 10 to its places

@@ -1,8 +1,8 @@
 -- The error memory is what the history says: a call's history is that of the card that its bytes stand for, a record's events are the record, and 19 bytes are
 -- 21 with an
 -- empty memory. Assumes nothing.
-use mathlib.Core.Path.{◌≡◌, refl, sym, ap, ap₂, subst, ◌∙◌}
-use mathlib.Core.Logic.{inl, inr, ⊎_elim}
+use mathlib.Core.Path.{◌≡◌, refl, sym, ap, ap₂, ◌∙◌}
+use mathlib.Core.Logic.{inr}
 use mathlib.Core.Bool.{Bool, true, false, cond}
 use mathlib.Core.List.{List, [], ◌∷◌, ◌++◌, append_assoc, append-nil, map}
 use Prim.Native.Nat.{ℕ, zero, suc, ◌+◌, ◌*◌, ◌-◌, ◌≤◌, ◌<◌}
@@ -13,11 +13,10 @@ use lib.ListN.{length, take, drop, get_or, replicate, length-append, get_or-appe
 use lib.Seq.{take_at, drop-append_seam, take-append-le, get_or-append-add}
 use Rattle.terms.specs.Settings.{Settings}
 use Rattle.terms.specs.declared.Refusal.{Refusal}
-use Rattle.terms.specs.declared.Refusal.TheVariants.{Done, InputTooLong, BadState}
+use Rattle.terms.specs.declared.Refusal.TheVariants.{InputTooLong, BadState}
 use Rattle.terms.specs.Refusal.{number_of}
 use Rattle.stack.specs.Stack.{Bytes}
 use Rattle.stack.proofs.Words.{bytes_append}
-use Rattle.chip.specs.State.{State}
 use Rattle.chip.specs.State.{Answer}
 use Rattle.chip.specs.Event.{Push, Pop, Command, Status, Reset, Acknowledge}
 use Rattle.chip.specs.Step.{push_of, pop_of, reset_of, command_under}

@@ -1,15 +1,14 @@
 -- The file of events leaves what the events leave: each record does what its event does, the append law joins them, and the event call's contract gives the
 -- same states and answers. Assumes nothing.
 use mathlib.Core.Path.{◌≡◌, refl, sym, ap, ap₂, subst, subst₂, ◌∙◌}
-use mathlib.Core.Logic.{inl, inr, ⊎_elim}
+use mathlib.Core.Logic.{inr, ⊎_elim}
 use mathlib.Core.Bool.{Bool, true, false}
 use mathlib.Core.List.{List, [], ◌∷◌, ◌++◌}
 use Prim.Native.Nat.{ℕ, ◌-◌, ◌/◌, ◌%◌, ◌≤◌, ◌<◌}
 use native.Mathlib.Omega.{arith}
 use borrow.Author.Tests.{lt-leb, eqb-true}
-use lib.Dec.{eqb, lit<, lit≤}
+use lib.Dec.{eqb, lit<}
 use lib.ListN.{length, take, drop, get_or, length-append}
-use Rattle.terms.specs.declared.Mode.TheVariants.{Am9511A}
 use Rattle.terms.specs.Refusal.{number_of}
 use Rattle.promises.specs.FloatWords.{Le}
 use Rattle.stack.specs.Stack.{Bytes, tos}
@@ -26,7 +25,7 @@ use Rattle.chip.proofs.Rows.{both_of_lem}
 use Rattle.error_memory.specs.declared.Memory.{Memory}
 use Rattle.error_memory.specs.Event.{Event}
 use Rattle.error_memory.specs.Event.{Chip, Recall, Forget}
-use Rattle.error_memory.specs.Memory.{empty_memory, Card, card_with, CardAnswer, kept_after, answer_with, event_in}
+use Rattle.error_memory.specs.Memory.{Card, card_with, kept_after, answer_with, event_in}
 use Rattle.promises.specs.Remembered.{after_all}
 use Rattle.error_memory.proofs.Good.{memory_cases, ReadyCard}
 use Rattle.record_runs.specs.Record.{turn_of}
@@ -34,7 +33,7 @@ use Rattle.record_runs.specs.Run.{Outcome, took, after as joinedTo, run_of as fi
 use Rattle.record_files.proofs.Append.{nothing, onward, appended}
 use Rattle.record_runs.proofs.Prefix.{lawful}
 use Rattle.promises.proofs.Single.{reset_is}
-use Rattle.state_bytes.specs.Bytes.{is_state, card_in, laid_out}
+use Rattle.state_bytes.specs.Bytes.{card_in, laid_out}
 use Rattle.state_bytes.proofs.Cards.{card_returns, card_ready, laid_at_lem}
 use Rattle.state_bytes.specs.Calls.{Called, ran_of, joined_of}
 use Rattle.state_bytes.proofs.Calling.{good}
@@ -43,8 +42,8 @@ use Rattle.promises.specs.StateBytes.{IsState}
 use Rattle.promises.specs.Given.{Given, Chosen, settings_in, run_call}
 use Rattle.promises.specs.Records.{count_at}
 use Rattle.promises.specs.Chains.{Step, run_events}
-use Rattle.promises.specs.Cores.{Core, Meets, byte_of, Sendable, NoRecall, KeepsMemory, driven, returned, answers_of, all_zero, kind_number, bus_run, word_left}
-use Rattle.promises.specs.EventFiles.{record_of, file_of, codes_before, reply_to, replies_to, FileOfEvents, FileLent, EventFiles, chain_file, zeros_for}
+use Rattle.promises.specs.Cores.{Core, Meets, byte_of, Sendable, NoRecall, KeepsMemory, returned, answers_of, all_zero, kind_number, bus_run, word_left}
+use Rattle.promises.specs.EventFiles.{record_of, file_of, codes_before, reply_to, replies_to, FileLent, EventFiles, chain_file, zeros_for}
 use Rattle.promises.specs.EventFiles.{Demand3Files}
 use Rattle.promises.proofs.Records.{counts_exact, push_record_lem, pop_record, command_record_lem, status_record, reset_record_lem, acknowledge_record}
 use Rattle.promises.proofs.Records.{recall_record, forget_record}
@@ -118,7 +117,7 @@ module _ (on : Settings) (s : State) (m : Memory) (G : ReadyCard (card_with on s
   acknowledges : 5 ≤ room → Alike (card_with on s m) (Chip Acknowledge) room
   acknowledges h =
       let g = (bus_events on).acknowledge_leaves s.stack s.pending s.status s.service G.chip.ready in
-      let y = g.byte-read in
+      let y = g.byte_read in
       acknowledge_record on s m room calm h
       ∙ ap (λ (t : State). took (card_with on t m) 4 (3 ∷ 0 ∷ 134 ∷ 0 ∷ 0 ∷ [])) (sym g.state)
       ∙ ap (λ (n : ℕ). took (card_with on (acknowledge_of s).state m) 4 (3 ∷ 0 ∷ 134 ∷ 0 ∷ n ∷ [])) (sym (refusal_in (number_of (acknowledge_of s).refusal)

@@ -1,7 +1,7 @@
 -- The book's trees are the crate's, one for one: the same text, need, nesting, words, and file. Assumes nothing.
 use mathlib.Core.Path.{◌≡◌, refl, sym, ap, ap₂, ◌∙◌, subst}
-use mathlib.Core.Bool.{Bool, ◌&&◌}
-use mathlib.Core.List.{List, [], ◌∷◌, ◌++◌}
+use mathlib.Core.Bool.{◌&&◌}
+use mathlib.Core.List.{List, ◌++◌}
 use Prim.Native.Nat.{ℕ, suc, max, ◌≤◌}
 use Rattle.formula.specs.Formula as theirs
 use Rattle.formula.specs.Formula.{nested as their-nested, need_of as their-need}

@@ -30,8 +30,7 @@ use Rattle.chip.proofs.Outcomes.{status_lt}
 use Rattle.promises.proofs.OnTop.{idle, floated, sign_changed}
 use Rattle.promises.proofs.Events.{at_rest_lt}
 use Rattle.error_memory.specs.declared.Memory.{Memory}
-use Rattle.error_memory.specs.Memory.{Card, card_with, kept_after}
-use Rattle.record_files.specs.Run as files
+use Rattle.error_memory.specs.Memory.{card_with, kept_after}
 use Rattle.record_files.proofs.Append.{onward, appended}
 use Rattle.record_runs.specs.Record.{turn_of}
 use Rattle.record_runs.specs.Run.{Outcome, took, after, run_of}

@@ -1,34 +1,30 @@
 -- Formulas: what the book says of its own trees is what the translator does with the crate's; the examples are computed. Assumes nothing.
-use mathlib.Core.Path.{◌≡◌, refl, sym, ap, ap₂, ◌∙◌, subst, subst₂}
+use mathlib.Core.Path.{◌≡◌, refl, sym, ap, ◌∙◌, subst}
 use mathlib.Core.Logic.{◌⊎◌, inl, inr, ⊎_elim}
 use mathlib.Core.Bool.{Bool, true, false}
 use mathlib.Core.List.{List, [], ◌∷◌, ◌++◌}
-use Prim.Native.Nat.{ℕ, ◌+◌, ◌*◌, ◌≤◌, ◌<◌}
+use Prim.Native.Nat.{ℕ, ◌*◌, ◌≤◌, ◌<◌}
 use native.Mathlib.Omega.{arith}
 use borrow.Author.Tests.{ltb-true, ltb-false}
 use lib.Dec.{ltb, lit≤}
 use lib.Ieee.{size}
 use lib.ListN.{length, drop, get_or, replicate}
-use Rattle.terms.specs.declared.Rule.{Rule}
 use Rattle.float.specs.Word.{value}
 use Rattle.float.specs.Float.{sub, mul, div}
 use Rattle.float.specs.Convert.{chsf}
 use Rattle.formula.specs.Formula as trees
 use Rattle.formula.specs.Formula.{need_of as their-need}
-use Rattle.formula.specs.Reader.{Read, Found, Outside, formula_of, factor_of, more, leaf_of}
+use Rattle.formula.specs.Reader.{Found, formula_of, factor_of, more, leaf_of}
 use Rattle.formula.specs.File.{letter_word, proper_in, file_of}
 use Rattle.formula.specs.Translation.{translation_of}
 use Rattle.formula.proofs.Texts.{read_is, one_tree}
 use Rattle.promises.specs.Subjects.{Wrote, formula_call}
-use Rattle.promises.specs.FloatWords.{FloatWord}
-use Rattle.promises.specs.PrintedText.{written}
 use Rattle.promises.specs.FormulaText as book
 use Rattle.promises.specs.FormulaText.{Formula, IsText, need_of}
-use Rattle.promises.specs.Given.{settings_in, run_call}
 use Rattle.promises.specs.Formulas.{FormulaDetermined, OneTree, Stated, Refuses, no_formula, improper, needs_more, no_room_lem, Takes, FormulaRefusals}
-use Rattle.promises.specs.Formulas.{file_in, FormulaRuns}
-use Rattle.promises.specs.Formulas.{WrongTranslators, letters_given, FormulaExamples}
-use Rattle.promises.proofs.FormulaText.{tree, leaf, tree_back, leaf_back, need_is, proper_is, file_is, theirs_sum, theirs_text}
+use Rattle.promises.specs.Formulas.{FormulaRuns}
+use Rattle.promises.specs.Formulas.{WrongTranslators, FormulaExamples}
+use Rattle.promises.proofs.FormulaText.{tree, leaf, leaf_back, need_is, proper_is, file_is, theirs_sum, theirs_text}
 use Rattle.promises.proofs.FormulaText.{ours_text}
 use Rattle.promises.proofs.FormulaRuns.{replies_few}
 use Rattle.promises.proofs.Translations as crate
@@ -59,25 +55,25 @@ theirs_takes {text} {letters} {room} {f} T = record {
 is_refused : (text letters file : List ℕ) (n : ℕ) → Refuses text letters (length file) n
     → formula_call text letters file ≡ record { result = 65536 * n; file = file }
 is_refused text letters file n (no_formula h) =
-    ⊎_elim (λ x. absurd (h (leaf x.0) (ours_stated x.1))) (λ z. crate.written-so text letters file (z.says_30 (length file))) (crate.looked text letters)
+    ⊎_elim (λ x. absurd (h (leaf x.0) (ours_stated x.1))) (λ z. crate.written_so text letters file (z.says_30 (length file))) (crate.looked text letters)
 is_refused text letters file n (improper f S p) =
-    crate.written-so text letters file (crate.says-31 text letters (length file) (tree f) (theirs_stated S) (proper_is letters f ∙ p))
+    crate.written_so text letters file (crate.says_31 text letters (length file) (tree f) (theirs_stated S) (proper_is letters f ∙ p))
 is_refused text letters file n (needs_more f S p m) =
-    crate.written-so text letters file (crate.says-32 text letters (length file) (tree f) (theirs_stated S) (proper_is letters f ∙ p)
+    crate.written_so text letters file (crate.says_32 text letters (length file) (tree f) (theirs_stated S) (proper_is letters f ∙ p)
     (subst (λ (n : ℕ). 4 < n) (sym (need_is f)) m))
 is_refused text letters file n (no_room_lem f S p m r) =
-    crate.written-so text letters file (crate.says-33 text letters (length file) (tree f) (theirs_stated S) (proper_is letters f ∙ p)
+    crate.written_so text letters file (crate.says_33 text letters (length file) (tree f) (theirs_stated S) (proper_is letters f ∙ p)
     (subst (λ (n : ℕ). n ≤ 4) (sym (need_is f)) m) (subst (λ (l : List ℕ). length file < length l) (sym (file_is letters f)) r))
 
 is_translated : (text letters file : List ℕ) (f : Formula) → Takes text letters (length file) f
     → formula_call text letters file ≡ record {
-      result = length (book.fileOf letters f);
-      file = book.fileOf letters f ++ drop (length (book.fileOf letters f))
+      result = length (book.file_of letters f);
+      file = book.file_of letters f ++ drop (length (book.file_of letters f))
           file;
     }
 is_translated text letters file f T =
     subst (λ (l : List ℕ). formula_call text letters file ≡ record { result = length l; file = l ++ drop (length l) file }) (file_is letters f)
-    (crate.is-translated text letters file (tree f) (theirs_takes T))
+    (crate.is_translated text letters file (tree f) (theirs_takes T))
 
 either_way : (text letters file : List ℕ) → ((n : ℕ) × Refuses text letters (length file) n) ⊎ ((f : Formula) × Takes text letters (length file) f)
 either_way text letters file =
@@ -85,13 +81,13 @@ either_way text letters file =
     (crate.looked text letters)
   where
     by : (f : Formula) → Stated text letters f → ((n : ℕ) × Refuses text letters (length file) n) ⊎ ((f : Formula) × Takes text letters (length file) f)
-    by f S = go (book.properIn letters f) refl (ltb 4 (need_of f)) refl (ltb (length file) (length (book.fileOf letters f))) refl
+    by f S = go (book.proper_in letters f) refl (ltb 4 (need_of f)) refl (ltb (length file) (length (book.file_of letters f))) refl
       where
-        go : (p : Bool) → book.properIn letters f ≡ p → (q : Bool) → ltb 4 (need_of f) ≡ q → (r : Bool) → ltb (length file) (length (book.fileOf letters f)) ≡ r
+        go : (p : Bool) → book.proper_in letters f ≡ p → (q : Bool) → ltb 4 (need_of f) ≡ q → (r : Bool) → ltb (length file) (length (book.file_of letters f)) ≡ r
             → ((n : ℕ) × Refuses text letters (length file) n) ⊎ ((f : Formula) × Takes text letters (length file) f)
         go false a q b r c = inl (31, improper f S a)
         go true a true b r c = inl (32, needs_more f S a (ltb-true 4 (need_of f) b))
-        go true a false b true c = inl (33, no_room_lem f S a (ltb-false 4 (need_of f) b) (ltb-true (length file) (length (book.fileOf letters f)) c))
+        go true a false b true c = inl (33, no_room_lem f S a (ltb-false 4 (need_of f) b) (ltb-true (length file) (length (book.file_of letters f)) c))
         go true a false b false c = inr (
           f,
           record {
@@ -99,14 +95,14 @@ either_way text letters file =
             proper = a;
             need = ltb-false 4 (need_of f) b;
             fits = ltb-false (length file)
-                (length (book.fileOf letters f)) c;
+                (length (book.file_of letters f)) c;
           },
         )
 
 -- a file has less than 65,536 bytes, and a refusal is of at least 30
-short_file : {text letters : List ℕ} {room : ℕ} {f : Formula} → Takes text letters room f → length (book.fileOf letters f) ≤ 1664
+short_file : {text letters : List ℕ} {room : ℕ} {f : Formula} → Takes text letters room f → length (book.file_of letters f) ≤ 1664
 short_file {text} {letters} {room} {f} T =
-    subst (λ (l : List ℕ). length l ≤ 1664) (file_is letters f) (crate.file-short text letters room (tree f) (theirs_takes T))
+    subst (λ (l : List ℕ). length l ≤ 1664) (file_is letters f) (crate.file_short text letters room (tree f) (theirs_takes T))
 
 least : {text letters : List ℕ} {room n : ℕ} → Refuses text letters room n → 30 ≤ n
 least (no_formula h) = omega arith
@@ -142,12 +138,12 @@ formula_refusals = record {
 -- ---- the run
 pub formula_runs : FormulaRuns
 formula_runs = record {
-  records = λ on s m text letters file f room T B six R h. crate.as-records on s m text letters file f room (theirs_takes T) B six R h;
+  records = λ on s m text letters file f room T B six R h. crate.as_records on s m text letters file f room (theirs_takes T) B six R h;
   calls = λ g C state replies report text letters file f T B. crate.as_call g C state replies report text letters file f (theirs_takes T) B;
-  proper = λ rule text letters file f T B. crate.word-proper rule text letters file f (theirs_takes T) B;
+  proper = λ rule text letters file f T B. crate.word_proper rule text letters file f (theirs_takes T) B;
   short = λ text letters file f T.
       let t = theirs_takes T in
-      let n = crate.file-short text letters (length file) (tree f) t in (
+      let n = crate.file_short text letters (length file) (tree f) t in (
         rw (crate.file_is text letters file (tree f) t) n,
         omega (arith, replies_few letters f),
       );

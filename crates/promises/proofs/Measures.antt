@@ -40,7 +40,7 @@ pub value_is : (w : ℕ) → word.value w ≡ value w
 unfolding value_of_lem
 value_is w = refl
 
-pub whole_is : (w : ℕ) → convert.wholePart w ≡ whole_part w
+pub whole_is : (w : ℕ) → convert.whole_part w ≡ whole_part w
 unfolding whole_of
 whole_is w = refl
 

@@ -2,13 +2,13 @@
 -- stops a run stops it on any card. Assumes nothing.
 use mathlib.Core.Path.{◌≡◌, refl, sym, ap, ap₂, subst, ◌∙◌}
 use mathlib.Core.Bool.{Bool, true, false, cond, not}
-use mathlib.Core.List.{List, [], ◌∷◌, ◌++◌}
+use mathlib.Core.List.{List, [], ◌∷◌}
 use Prim.Native.Nat.{ℕ, zero, suc, ◌+◌, ◌*◌, ◌-◌, ◌<◌}
 use native.Mathlib.Nat.{sub-zero}
 use native.Mathlib.Omega.{arith}
 use lib.Dec.{eqb, ltb}
 use lib.ListN.{length, drop, get_or}
-use borrow.Author.Tests.{lt-leb, ne_eqb, leb-false}
+use borrow.Author.Tests.{leb-false}
 use Rattle.terms.specs.declared.Mode.{Mode}
 use Rattle.terms.specs.declared.Mode.TheVariants.{Am9511}
 use Rattle.terms.specs.declared.Refusal.TheVariants.{InputTooLong, BadState}
@@ -19,16 +19,14 @@ use Rattle.stack.specs.Stack.{tos, pushed, popped}
 use Rattle.stack.proofs.Elems.{spelled}
 use Rattle.chip.specs.State.{State}
 use Rattle.chip.specs.State.{Answer}
-use Rattle.chip.specs.Event.{Event as ChipEvent}
-use Rattle.chip.specs.Event.{Push as PushEvent, Pop as PopEvent, Command as CommandEvent, Status as StatusEvent, Reset as ResetEvent}
+use Rattle.chip.specs.Event.{Command as CommandEvent, Reset as ResetEvent}
 use Rattle.chip.specs.State.{busy, moved, kept_stack, after_reset}
-use Rattle.chip.specs.Step.{push_of, pop_of, reset_of, command_under}
+use Rattle.chip.specs.Step.{command_under}
 use Rattle.promises.specs.BusEvents.{after_events}
 use Rattle.chip.proofs.InTurn.{push_done, pop_done}
-use Rattle.error_memory.specs.declared.Memory.{Memory}
 use Rattle.error_memory.specs.Memory.{Card, CardAnswer, card_with, answer_with}
 use Rattle.error_memory.proofs.Kept.{settings_stay}
-use Rattle.error_memory.specs.Event.{Chip, Recall as RecallEvent, Forget as ForgetEvent}
+use Rattle.error_memory.specs.Event.{Recall as RecallEvent, Forget as ForgetEvent}
 use Rattle.record_files.proofs.Append.{nothing, room_after_lem}
 use Rattle.record_files.proofs.Tests.{either_eq}
 use Rattle.record_runs.specs.Record.{Event}
@@ -37,15 +35,15 @@ use Rattle.record_runs.specs.Record.{kind_of, answer_of, reply_of}
 use Rattle.record_runs.specs.Run.{Outcome, took, after, run_of}
 use Rattle.record_runs.proofs.Prefix.{lawful}
 use Rattle.promises.proofs.Single.{reset_is}
-use Rattle.state_bytes.specs.Bytes.{is_state, state_of, memory_in, card_in}
+use Rattle.state_bytes.specs.Bytes.{is_state, card_in}
 use Rattle.terms.specs.declared.EventKind.{EventKind}
-use Rattle.state_bytes.specs.Calls.{Called, Signal, ran_of, away, call_under, signal_by, signal_under, unsent, answer_to_kind, answered_by}
+use Rattle.state_bytes.specs.Calls.{ran_of, away, signal_by, unsent, answer_to_kind, answered_by}
 use Rattle.state_bytes.proofs.Calling.{run_chosen, event_chosen, bad_mode, no_mode}
 use Rattle.promises.specs.Given.{Given, Chosen, settings_in, run_call, event_call}
 use Rattle.promises.specs.RecordFiles.{IsRecord}
 use Rattle.promises.proofs.RecordFiles.{theirs_record}
 use Rattle.promises.specs.Records.{joined, EachTaken, replies_of, in_turn, Split}
-use Rattle.promises.specs.Modes.{NoMode, word_of, Stood, OlderReset, OlderResets, NoReset, SameRun, ModesAlike}
+use Rattle.promises.specs.Modes.{NoMode, word_of, OlderReset, OlderResets, NoReset, ModesAlike}
 use Rattle.promises.proofs.Records.{in_turn_lem, recorded, record_run, record_runs}
 use Rattle.promises.proofs.RunCall.{after_joined, stops_on}
 

@@ -1,7 +1,5 @@
 -- The crate's own statement in the book's measures, kind by kind, each by the place of its name; the rows compute. Assumes nothing.
-use mathlib.Core.Path.{◌≡◌, refl}
-use mathlib.Core.List.{List}
-use Prim.Native.Nat.{ℕ}
+use mathlib.Core.Path.{refl}
 use native.Mathlib.Omega.{arith}
 use Rattle.numbers.proofs.Exact.{four_lt}
 use Rattle.record_text.specs.Kinds.{Push, Pop, Command, Status, Reset, Acknowledge, Recall, Forget}

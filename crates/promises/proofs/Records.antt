@@ -18,7 +18,6 @@ use Rattle.record_files.proofs.Append.{room_after_lem, first_stops, alone, appen
 use Rattle.record_files.proofs.Through.{through, tally}
 use Rattle.record_runs.specs.Record.{Event}
 use Rattle.record_runs.specs.Record.{Head}
-use Rattle.record_runs.specs.Record.{Whole, Stop}
 use Rattle.record_runs.specs.Record.{kind_of, payload_of, answered_of, head_of, answer_of, data_of, reply_of, stopped, turn_of}
 use Rattle.record_runs.specs.Run.{Outcome, ended, took, after, run_of}
 use Rattle.terms.specs.Limits.{most_payload}

@@ -12,7 +12,7 @@ use Rattle.chip.specs.Event.{Event}
 use Rattle.chip.specs.Event.{Push, Pop, Command as CommandEvent, Status, Reset, Acknowledge}
 use Rattle.chip.specs.State.{busy}
 use Rattle.chip.specs.Commands.{proper_operands}
-use Rattle.chip.specs.Step.{push_of, pop_of, read_of, reset_of, acknowledge_of, carried, command_under, answer_to, under}
+use Rattle.chip.specs.Step.{push_of, pop_of, read_of, reset_of, acknowledge_of, carried, command_under, answer_to}
 use Rattle.promises.specs.Refusals.{TurnedAway, Numbers, Refusals}
 
 module _ (on : Settings) (s : State) where

@@ -36,7 +36,7 @@ use Rattle.bit_serial.specs.declared.tasks.Task.TheVariants.{Nothing}
 use Rattle.bit_serial.specs.UpTo.{up_to}
 use Rattle.bit_serial.specs.Answer.{steps_in}
 use Rattle.bit_serial.specs.Engine.{mul_answer, muu_answer, div_answer, fmul_answer, fdiv_answer}
-use Rattle.bit_serial.specs.Work.{width_of, Operands, answer_of, mul_task, div_task, fmul_task, fdiv_task, task_of}
+use Rattle.bit_serial.specs.Work.{width_of, Operands, answer_of, mul_task, div_task, fmul_task, fdiv_task}
 use Rattle.bit_serial.proofs.Cases.{words as words_of}
 use Rattle.bit_serial.proofs.Same.{same_mul, same_muu, same_div, same_fmul, same_fdiv}
 use Rattle.step_text.specs.declared.asked.Found.{Found}
@@ -176,7 +176,7 @@ status_is w r error = same_bits (cond (leb (least w) r) 64 0) (cond (eqb r 0) 32
     same_bits : (x y : ℕ) → 2 * error + x + y ≡ x + y + error * 2 + 0
     same_bits x y = omega arith
 
-answer_is : (w : Width) (r : Answer) → answer_line w r ≡ book.answerLine w r
+answer_is : (w : Width) (r : Answer) → answer_line w r ≡ book.answer_line w r
 answer_is w (Word r error n) =
     ap (λ (t : List ℕ). written "word " ++ (t ++ (written " error"
     ++ ((32 ∷ their-decimal error) ++ (written " status " ++ (digits_to 16 2 (status_for w r error) ++ (10 ∷ [])))))))
@@ -187,7 +187,7 @@ answer_is w (Word r error n) =
 answer_is w (Refused refusal) = ap (λ (t : List ℕ). written "refused" ++ ((32 ∷ t) ++ (10 ∷ []))) (decimal_is (number_of refusal))
 
 told_lines : (op : Operation) (rule : Rule) (b a : ℕ) → Operands op b a
-    → workings_of op rule b a ≡ book.linesAfter (book.task_of op b a) (steps_in (answer_of op rule b a)) 0 ++ book.answerLine (width_of op) (answer_of op rule b a)
+    → workings_of op rule b a ≡ book.lines_after (book.task_of op b a) (steps_in (answer_of op rule b a)) 0 ++ book.answer_line (width_of op) (answer_of op rule b a)
 told_lines op rule b a l = ap₂ (λ (s t : List ℕ). s ++ t) (numbered op rule b a l) (answer_is (width_of op) (answer_of op rule b a))
 
 eight : map operation_at (from 256 0) ≡ eight_codes

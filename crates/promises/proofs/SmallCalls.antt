@@ -22,7 +22,7 @@ use Rattle.error_memory.specs.declared.Memory.{Memory}
 use Rattle.error_memory.specs.Memory.{empty_memory, Card, CardAnswer, card_with, card_answer, answer_with}
 use Rattle.host_floats.specs.declared.Reply.{Reply}
 use Rattle.terms.specs.declared.Refusal.TheVariants.{Done, BadState, BadMode, BadRule}
-use Rattle.state_bytes.specs.Bytes.{is_state, state_of, memory_in, card_in, flag_of, laid_out}
+use Rattle.state_bytes.specs.Bytes.{is_state, state_of, memory_in, card_in, flag_of}
 use Rattle.record_files.proofs.Tests.{either_eq}
 use Rattle.state_bytes.proofs.States.{short_memory, long_memory}
 use Rattle.state_bytes.proofs.Cards.{flag_back, laid_is}
@@ -36,7 +36,6 @@ use Rattle.promises.specs.Host.{number, outward, inward}
 use Rattle.promises.specs.Remembered.{Remembers}
 use Rattle.promises.specs.SmallCalls.{signalled, Tail, none as no-tail, two, Parts, EventCallUnder, EventCall, ConversionCall, ConversionCalls}
 use Rattle.promises.proofs.Fronts.{unnamed}
-use Rattle.promises.proofs.Kept.{good_states}
 
 -- ---- turned away
 bad_state_lem : (on : Settings) (state : List ℕ) (kind byte : ℕ) → is_state state ≡ false → signal_under on state kind byte ≡ signalled 3328 state
@@ -90,11 +89,15 @@ behind_is t = record { bits = get_or t 0 0; code = get_or t 1 0 }
 -- how many they are
 tail_size : (t : List ℕ) → Tail t → (length t ≡ 0) ⊎ (length t ≡ 2)
 tail_size [] no-tail = inl refl
+tail_size (b ∷ []) T = elim T [ ]
 tail_size (b ∷ k ∷ []) (two bits code h) = inr refl
+tail_size (b ∷ (k ∷ (_ ∷ _))) T = elim T [ ]
 
 tail_remembers : (t : List ℕ) → Tail t → length t ≡ 2 → Remembers (get_or t 0 0) (get_or t 1 0)
 tail_remembers [] no-tail n = absurd (let y : ⊥ = omega arith in y)
+tail_remembers (b ∷ []) T n = elim T [ ]
 tail_remembers (b ∷ k ∷ []) (two bits code h) n = h
+tail_remembers (b ∷ (k ∷ (_ ∷ _))) T n = elim T [ ]
 
 module _ (l : List ℕ) (p u v : ℕ) (t : List ℕ) (P : Parts l p u v t) where
   at : (i : ℕ) → get_or (laid l p u v t) (16 + i) 0 ≡ get_or (p ∷ u ∷ v ∷ t) i 0
@@ -140,14 +143,18 @@ module _ (l : List ℕ) (p u v : ℕ) (t : List ℕ) (P : Parts l p u v t) where
     where
       by : (k : List ℕ) → Tail k → cond (eqb (19 + length k) 19) [] (get_or k 0 0 ∷ get_or k 1 0 ∷ []) ≡ k
       by [] no-tail = refl
+      by (b ∷ []) T = elim T [ ]
       by (b ∷ k ∷ []) (two bits code h) = refl
+      by (b ∷ (k ∷ (_ ∷ _))) T = elim T [ ]
 
   tail_gone : cond (eqb (length (laid l p u v t)) 19) [] (0 ∷ 0 ∷ []) ≡ zeros (length t)
   tail_gone = rw size (by t P.tail)
     where
       by : (k : List ℕ) → Tail k → cond (eqb (19 + length k) 19) [] (0 ∷ 0 ∷ []) ≡ zeros (length k)
       by [] no-tail = refl
+      by (b ∷ []) T = elim T [ ]
       by (b ∷ k ∷ []) (two bits code h) = refl
+      by (b ∷ (k ∷ (_ ∷ _))) T = elim T [ ]
 
   -- an event that is done
   signals : (on : Settings) (kind byte b : ℕ) (s : State) (m : Memory) {after : List ℕ} → answer_to_kind (card_with on (stood l p u v) (behind_is t)) kind

@@ -3,18 +3,18 @@
 use mathlib.Core.Path.{◌≡◌, refl, sym, ap, ◌∙◌, subst}
 use mathlib.Core.Logic.{◌⊎◌, inl, inr, ⊎_elim}
 use mathlib.Core.Bool.{Bool, true, false, cond}
-use mathlib.Core.List.{List, [], ◌∷◌, ◌++◌}
+use mathlib.Core.List.{List, [], ◌++◌}
 use Prim.Native.Nat.{ℕ, ◌+◌, ◌*◌, ◌≤◌, ◌<◌}
 use native.Mathlib.Omega.{arith}
 use native.Mathlib.Nat.{pos_of_ne-zero}
 use borrow.Author.Tests.{eqb-true, eqb-false, ltb-true, ltb-false, eq-eqb, lt-ltb, le-ltb, lt-leb}
-use lib.Dec.{eqb, ltb, lit≤}
-use lib.ListN.{length, take, drop, get_or, replicate}
+use lib.Dec.{eqb, ltb}
+use lib.ListN.{length, take, drop, get_or}
 use lib.Seq.{take_at, take-append-le, get_or_at, length-take-le}
 use Rattle.terms.specs.Settings.{Settings}
 use Rattle.terms.specs.declared.Rule.{Rule}
 use Rattle.terms.specs.declared.Mode.TheVariants.{Am9511A}
-use Rattle.stack.specs.Stack.{Bytes, bytes_of, number_from}
+use Rattle.stack.specs.Stack.{Bytes, number_from}
 use Rattle.stack.proofs.Words.{number_bytes}
 use Rattle.chip.specs.State.{State}
 use Rattle.chip.specs.State.{reset_state}
@@ -25,13 +25,13 @@ use Rattle.record_runs.specs.Run.{Outcome}
 use Rattle.state_bytes.specs.Bytes.{is_state, state_of, memory_in, card_in, laid_out}
 use Rattle.state_bytes.proofs.Cards.{laid_is, card_returns}
 use Rattle.state_bytes.proofs.States.{state_ready}
-use Rattle.formula.specs.Formula.{Plus, Less, Times, Over, Formula, Letter, Constant, Minus, Brackets, Joined, nested, need_of}
-use Rattle.formula.specs.Grammar.{IsSum, product, plus, less, IsProduct, factor, times, over, IsFactor, letter, constant, minus, brackets, IsText}
-use Rattle.formula.specs.Reader.{Read, Found, Outside, formula_of, factor_of, more, leaf_of}
-use Rattle.formula.specs.File.{letter_word, proper_in, file_of}
-use Rattle.formula.specs.Translation.{Translated, turned_away as refusing, judged, translation_of, number_of}
+use Rattle.formula.specs.Formula.{Formula, need_of}
+use Rattle.formula.specs.Grammar.{IsText}
+use Rattle.formula.specs.Reader.{Read, Found, Outside, formula_of}
+use Rattle.formula.specs.File.{proper_in, file_of}
+use Rattle.formula.specs.Translation.{Translated, turned_away as refusing, judged, translation_of}
 use Rattle.formula.specs.declared.Refusal.TheVariants.{Done, NoFormula, Improper, NeedsMore, NoRoom}
-use Rattle.formula.proofs.Texts.{read_is, is_read, one_tree}
+use Rattle.formula.proofs.Texts.{read_is, is_read}
 use Rattle.formula.proofs.Translating.{letters_wrong, text_empty, text_long, text_fits}
 use Rattle.formula.proofs.Sizes.{file_most, file_bytes}
 use Rattle.promises.specs.FormulaText as book
@@ -39,7 +39,7 @@ use Rattle.promises.specs.FormulaText.{replies_to, evaluated}
 use Rattle.promises.proofs.FormulaText.{tree}
 use Rattle.promises.proofs.FormulaLeaves.{leaves}
 use Rattle.promises.proofs.FormulaRuns.{AfterFile, evaluates}
-use Rattle.pundaliket.specs.FormulaCall.{Wrote, wrote_by, formula_call}
+use Rattle.pundaliket.specs.FormulaCall.{wrote_by, formula_call}
 use Rattle.promises.proofs.Measures.{ours_word, ours_state, theirs_state}
 use Rattle.promises.specs.Given.{Given, Chosen, settings_in, run_call}
 use Rattle.promises.specs.RunCall.{Laid, StandsFor, Reports}

@@ -359,7 +359,7 @@ pub looks : Looks
 looks = record {
   two_bytes = λ on s bit R S. stack_read 2 s R ∙ sym (pops_block 2 s.stack S.sixteen (lit≤ tt))
       ∙ sym (worked on (POPS ∷ []) bit s R).stack_is;
-  four_bytes = λ on s bit R S. stack_read 4 s R ∙ sym (pops_block 4 s.stack S.sixteen (lit≤ tt))
+  four_bytes_lem = λ on s bit R S. stack_read 4 s R ∙ sym (pops_block 4 s.stack S.sixteen (lit≤ tt))
       ∙ sym (worked on (POPD ∷ []) bit s R).stack_is;
   sixteen_bytes = λ s R S.
       pops_state 16 s (at_rest_lt R)

@@ -22,7 +22,7 @@ use Rattle.chip.specs.State.{State}
 use Rattle.chip.specs.State.{Answer}
 use Rattle.chip.specs.Event.{Event}
 use Rattle.chip.specs.State.{busy, moved}
-use Rattle.chip.specs.Step.{refused, carried, command_under, under}
+use Rattle.chip.specs.Step.{refused, carried, command_under}
 use Rattle.promises.specs.BusEvents.{after_events}
 use Rattle.chip.proofs.Accepted.{accepted}
 use Rattle.chip.proofs.InTurn.{push_done, pop_done}

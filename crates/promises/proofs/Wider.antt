@@ -1,7 +1,7 @@
 -- Two steps that differ only where the first stops with one refusal run every file alike up to the record that stops it. Under a wider limit a record that did
 -- not stop with 7 is the record that it was: only a length or a count over the narrower limit tells them apart, and that is 7. Assumes nothing.
 use mathlib.Core.Path.{◌≡◌, refl, sym, ap, ◌∙◌}
-use mathlib.Core.List.{List, ◌++◌}
+use mathlib.Core.List.{List}
 use Prim.Native.Nat.{ℕ, ◌+◌, ◌-◌, ◌≤◌, ◌<◌}
 use native.Mathlib.Omega.{arith}
 use lib.Dec.{lit<}

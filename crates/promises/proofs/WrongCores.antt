@@ -15,7 +15,6 @@ use Rattle.chip.specs.Step.{push_of, reset_of}
 use Rattle.chip.proofs.Rows.{both_of_lem}
 use Rattle.host_floats.specs.Host.{host_of, taken_of}
 use Rattle.record_files.specs.Run.{run, run_by}
-use Rattle.record_runs.specs.Record.{Push, Reset}
 use Rattle.record_runs.specs.Record.{frame_under, turn_under}
 use Rattle.state_bytes.specs.Bytes.{is_state, card_in}
 use Rattle.record_runs.specs.Run.{run_of}

@@ -1,7 +1,6 @@
 -- Demand 3: chains of steps on one float word. Definitions and the statement only: proofs/Chains.antt proves it.
 -- Assumes nothing.
 use Rattle.std.specs.Prelude.{ℕ, ◌+◌, ◌%◌, ◌≡◌, Bool, true, false, cond, List, [], ◌∷◌, ◌++◌, replicate}
-use Rattle.terms.specs.declared.Mode.{Mode}
 use Rattle.terms.specs.declared.Mode.TheVariants.{Am9511A}
 use Rattle.float.specs.declared.Flagged.{Flagged}
 use Rattle.terms.specs.declared.Rule.{Rule}

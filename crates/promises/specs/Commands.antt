@@ -10,7 +10,6 @@ use Rattle.terms.specs.declared.Refusal.TheVariants.{Improper}
 use Rattle.terms.specs.declared.Width.{Width}
 use Rattle.terms.specs.declared.Width.TheVariants.{Single, Double}
 use Rattle.terms.specs.declared.Rule.{Rule}
-use Rattle.terms.specs.declared.Rule.TheVariants.{Cut, Nearest}
 use Rattle.float.specs.Float.{add, sub, mul, div}
 use Rattle.float.specs.Convert.{fltd, flts}
 use Rattle.codes.specs.Command.{Command}

@@ -21,7 +21,7 @@ out_table =
 -- an f64 by its bits, and what it says inward under cut, then under nearest: refusal, word, 1 where it was rounded
 pub record InRow : Type 0 where
   pub float : ℕ
-  pub by_cut_lem : Entry
+  pub by_cut : Entry
   pub by_nearest : Entry
 
 -- the same under both
@@ -29,10 +29,10 @@ abbrev pub gives : ℕ → ℕ → ℕ → Entry
 gives refusal word rounded = record { refusal = refusal; bits = word; rounded = rounded }
 
 abbrev pub under_both : ℕ → Entry → InRow
-under_both float e = record { float = float; by_cut_lem = e; by_nearest = e }
+under_both float e = record { float = float; by_cut = e; by_nearest = e }
 
 abbrev pub under_each : ℕ → Entry → Entry → InRow
-under_each float c n = record { float = float; by_cut_lem = c; by_nearest = n }
+under_each float c n = record { float = float; by_cut = c; by_nearest = n }
 
 -- exact ones; halfway between two words, the even one below and above; beside halfway; up to the next power of two; a
 -- third and its opposite;
@@ -112,6 +112,6 @@ expected =
 pub record DoublesBench : Type 0 where
   pub outward_rows : map (λ (r : OutRow). outward r.0) out_table
       ≡ map (λ (r : OutRow). gives r.1 r.2 0) out_table
-  pub cut_rows : map (λ (r : InRow). inward Cut r.float) in_table ≡ map (λ (r : InRow). r.by_cut_lem) in_table
+  pub cut_rows : map (λ (r : InRow). inward Cut r.float) in_table ≡ map (λ (r : InRow). r.by_cut) in_table
   pub nearest_rows : map (λ (r : InRow). inward Nearest r.float) in_table ≡ map (λ (r : InRow). r.by_nearest) in_table
   pub call_rows : called ≡ expected

@@ -1,7 +1,7 @@
 -- 02, ask 3: "The bits are to be proved equal to what the history of statuses says", through the event call and through
 -- files; and a state of 19 bytes.
 -- Definitions and the statements only: proofs/ErrorMemory.antt proves them. Assumes nothing.
-use Rattle.std.specs.Prelude.{ℕ, ◌+◌, ◌^◌, ◌≤◌, ◌<◌, ◌≡◌, true, cond, List, [], ◌∷◌, ◌++◌, map, eqb, ltb, length, take, drop, get_or, replicate}
+use Rattle.std.specs.Prelude.{ℕ, ◌+◌, ◌^◌, ◌≤◌, ◌<◌, ◌≡◌, cond, List, [], ◌∷◌, ◌++◌, map, eqb, ltb, length, take, drop, get_or, replicate}
 use Rattle.promises.specs.Subjects.{Push, Pop, Command, Status, Reset, Acknowledge, Memory, Event, Chip, Recall}
 use Rattle.promises.specs.Subjects.{Forget, Card, run_of}
 use Rattle.promises.specs.Stack.{Bytes}

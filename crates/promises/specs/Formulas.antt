@@ -1,7 +1,7 @@
 -- 02, ask 7: formulas as the engineers write them. One tree for each text, the number that each text gets, what the
 -- file does when it is run, and examples.
 -- Definitions and the statements only: proofs/Formulas.antt proves them. Assumes nothing.
-use Rattle.std.specs.Prelude.{ℕ, ◌+◌, ◌*◌, ◌≤◌, ◌<◌, ◌≡◌, ◌⊎◌, true, false, List, [], ◌∷◌, ◌++◌, length, take, drop, get_or, replicate}
+use Rattle.std.specs.Prelude.{ℕ, ◌*◌, ◌≤◌, ◌<◌, ◌≡◌, ◌⊎◌, true, false, List, [], ◌∷◌, ◌++◌, length, take, drop, get_or, replicate}
 use Prim.Native.String.{String}
 use Rattle.terms.specs.declared.Rule.{Rule}
 use Rattle.terms.specs.declared.Rule.TheVariants.{Cut}

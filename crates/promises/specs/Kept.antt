@@ -1,7 +1,7 @@
 -- Demand 1: what is turned away leaves all as it stood, and a bad or cut file keeps the records done before.
 -- Definitions and statements only:
 -- proofs/Kept.antt proves them. Assumes nothing.
-use Rattle.std.specs.Prelude.{ℕ, ◌-◌, ◌%◌, ◌≤◌, ◌<◌, ◌≡◌, ◌⊎◌, true, false, List, [], ◌∷◌, length, take, drop, get_or}
+use Rattle.std.specs.Prelude.{ℕ, ◌-◌, ◌≤◌, ◌<◌, ◌≡◌, List, [], ◌∷◌, length, take, drop, get_or}
 use Rattle.promises.specs.Subjects.{Card, Reply, run_of, Settings, Called, sent_of}
 use Rattle.promises.specs.Stack.{Bytes}
 use Rattle.promises.specs.RecordFiles.{ended}

@@ -1,13 +1,13 @@
 -- 02, ask 6: racks that count on the older reset. The mode turned away, what the older reset leaves, and that the modes
 -- differ there alone. Definitions
 -- and the statements only: proofs/Modes.antt proves them. Assumes nothing.
-use Rattle.std.specs.Prelude.{ℕ, suc, ◌+◌, ◌*◌, ◌≤◌, ◌<◌, ◌≡◌, true, false, List, [], ◌∷◌, ◌++◌, length, drop, get_or}
+use Rattle.std.specs.Prelude.{ℕ, suc, ◌+◌, ◌*◌, ◌<◌, ◌≡◌, true, false, List, [], ◌∷◌, length, drop, get_or}
 use Rattle.terms.specs.declared.Mode.TheVariants.{Am9511}
-use Rattle.promises.specs.Subjects.{Settings, State, Push, Pop, Reset, Memory, Outcome, run_of, Signal}
+use Rattle.promises.specs.Subjects.{Settings, State, Push, Pop, Reset, Memory, Outcome, run_of}
 use Rattle.promises.specs.Stack.{tos}
 use Rattle.promises.specs.BusEvents.{busy, after_events}
 use Rattle.promises.specs.Remembered.{card_with}
-use Rattle.promises.specs.StateBytes.{IsState, card_in}
+use Rattle.promises.specs.StateBytes.{card_in}
 use Rattle.promises.specs.Given.{Given, Chosen, settings_in, run_call, event_call}
 use Rattle.promises.specs.Records.{Split}
 

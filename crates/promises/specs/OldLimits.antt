@@ -1,7 +1,7 @@
 -- 02, ask 2: "Files within the old limits keep their meaning and their replies." A run under the old limit, 16 bytes to
 -- a record, beside today's. Definitions
 -- and the statement only: proofs/OldLimits.antt proves it. Assumes nothing.
-use Rattle.std.specs.Prelude.{ℕ, ◌+◌, ◌*◌, ◌-◌, ◌/◌, ◌%◌, ◌≤◌, ◌<◌, ◌≡◌, true, List, [], ◌∷◌, ◌++◌, length, drop}
+use Rattle.std.specs.Prelude.{ℕ, ◌+◌, ◌*◌, ◌-◌, ◌/◌, ◌%◌, ◌≤◌, ◌<◌, ◌≡◌, List, [], ◌∷◌, ◌++◌, length, drop}
 use Rattle.promises.specs.Subjects.{Called, Card, Outcome, run_under, run_of}
 use Rattle.promises.specs.StateBytes.{laid_out, IsState, card_in}
 use Rattle.promises.specs.Records.{joined, EachTaken}

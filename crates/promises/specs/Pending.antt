@@ -3,12 +3,11 @@
 -- Definitions and the statement only: proofs/Pending.antt proves it. Assumes nothing.
 use Rattle.std.specs.Prelude.{ℕ, suc, ◌%◌, ◌≤◌, ◌<◌, ◌≡◌, Bool, true, false, not, List, [], ◌∷◌, ◌++◌, length, take, get_or}
 use Rattle.terms.specs.declared.Mode.TheVariants.{Am9511A, Am9511}
-use Rattle.terms.specs.declared.Mode.{Mode}
 use Rattle.promises.specs.Subjects.{Settings, State, Answer, ChipEvent as Event, Push, Pop, Command, Status}
 use Rattle.promises.specs.Subjects.{Reset, Acknowledge, answer_to}
 use Rattle.promises.specs.Stack.{Bytes, IsStack}
 use Rattle.promises.specs.RefusalNumbers.{number_of}
-use Rattle.promises.specs.BusEvents.{under, after_events}
+use Rattle.promises.specs.BusEvents.{after_events}
 use Rattle.promises.specs.StateBytes.{IsState}
 use Rattle.promises.specs.Given.{Given, Chosen}
 use Rattle.promises.specs.Cores.{Core, Meets, Sendable, on_bus, driven}

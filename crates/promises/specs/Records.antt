@@ -1,8 +1,8 @@
 -- Demand 2 for files: every whole record of a file in turn, and the two counts as sums. Definitions and statements
 -- only: proofs/Records.antt proves
 -- them. Assumes nothing.
-use Rattle.std.specs.Prelude.{ℕ, ◌+◌, ◌*◌, ◌-◌, ◌≤◌, ◌<◌, ◌≡◌, true, false, List, [], ◌∷◌, ◌++◌, length, get_or}
-use Rattle.promises.specs.Subjects.{State, Command, Settings, command_under, Memory, Card, Outcome, run_of}
+use Rattle.std.specs.Prelude.{ℕ, ◌+◌, ◌*◌, ◌-◌, ◌≤◌, ◌<◌, ◌≡◌, false, List, [], ◌∷◌, ◌++◌, length, get_or}
+use Rattle.promises.specs.Subjects.{State, Settings, command_under, Memory, Card, Outcome, run_of}
 use Rattle.promises.specs.Stack.{Bytes, IsStack}
 use Rattle.promises.specs.RefusalNumbers.{number_of}
 use Rattle.promises.specs.BusEvents.{busy, after_reset, acknowledged, after_pushes, after_pops, bytes_popped}

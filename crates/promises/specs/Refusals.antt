@@ -2,14 +2,13 @@
 -- and the statement only:
 -- proofs/Refusals.antt proves it. Assumes nothing.
 use Rattle.std.specs.Prelude.{ℕ, ◌%◌, ◌≡◌, true, false}
-use Rattle.terms.specs.declared.Mode.{Mode}
 use Rattle.codes.specs.Command.{Command}
 use Rattle.codes.specs.Command.{Known, Derived, Unknown}
 use Rattle.codes.specs.Codes.{decoded}
 use Rattle.promises.specs.Subjects.{Settings, State, Answer, ChipEvent as Event, Push, Pop, Status, Reset}
 use Rattle.promises.specs.Subjects.{Acknowledge, command_under, answer_to}
 use Rattle.promises.specs.RefusalNumbers.{number_of}
-use Rattle.promises.specs.BusEvents.{busy, proper_operands, under}
+use Rattle.promises.specs.BusEvents.{busy, proper_operands}
 
 -- an answer with 01's number n, no byte read, and the very state
 pub record TurnedAway (s : State) (a : Answer) (n : ℕ) : Type 0 where

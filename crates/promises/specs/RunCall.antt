@@ -1,7 +1,7 @@
 -- 01, 'Record files': the exported run over the run of a file, byte by byte, and the record at which a bad file stops,
 -- said of the call. Definitions and
 -- the statement only: proofs/RunCall.antt proves it. Assumes nothing.
-use Rattle.std.specs.Prelude.{ℕ, ◌/◌, ◌%◌, ◌≤◌, ◌≡◌, true, cond, List, [], ◌∷◌, ◌++◌, length, drop, get_or}
+use Rattle.std.specs.Prelude.{ℕ, ◌/◌, ◌%◌, ◌≤◌, ◌≡◌, cond, List, [], ◌∷◌, ◌++◌, length, drop, get_or}
 use Rattle.promises.specs.Subjects.{Card, Outcome, run_of, Called}
 use Rattle.promises.specs.Stack.{Bytes}
 use Rattle.promises.specs.Remembered.{empty_memory}

@@ -1,7 +1,7 @@
 -- Request 10, the chip's own way of working: a second engine that works a bit at a time gives the chip's answers, how
 -- many steps it makes, and what ./steps tells of them. Definitions and statements only: proofs/Serial.antt proves them.
 -- Assumes nothing.
-use Rattle.std.specs.Prelude.{ℕ, ◌+◌, ◌≤◌, ◌≡◌, ◌⊎◌, false, ◌&&◌, cond, List, [], ◌∷◌, ◌++◌, map, eqb, replicate}
+use Rattle.std.specs.Prelude.{ℕ, ◌≤◌, ◌≡◌, ◌⊎◌, false, ◌&&◌, cond, List, [], ◌∷◌, ◌++◌, map, eqb, replicate}
 use Prim.Native.String.{String}
 use Rattle.terms.specs.declared.Refusal.TheVariants.{Improper}
 use Rattle.terms.specs.declared.Rule.{Rule}
@@ -31,7 +31,7 @@ use Rattle.promises.specs.SerialWork.{number_in, steps_in, width_of, Operands, t
 use Rattle.promises.specs.SerialWork.{lines_after, answer_line, Asks}
 use Rattle.promises.specs.PrintedText.{written}
 use Rattle.promises.specs.Figures.{from}
-use Rattle.promises.specs.Commands.{least, word, status_by, Two, Refuses}
+use Rattle.promises.specs.Commands.{least, word, Two, Refuses}
 
 -- ---- the same answers
 

@@ -1,7 +1,7 @@
 -- 01, 'Record files': the exported event and the two exported conversions, number by number and byte by byte.
 -- Definitions and the statements only:
 -- proofs/SmallCalls.antt proves them. Assumes nothing.
-use Rattle.std.specs.Prelude.{ℕ, ◌-◌, ◌/◌, ◌%◌, ◌≤◌, ◌<◌, ◌≡◌, ◌⊎◌, true, false, List, [], ◌∷◌, ◌++◌, length, take, get_or}
+use Rattle.std.specs.Prelude.{ℕ, ◌-◌, ◌/◌, ◌%◌, ◌≤◌, ◌<◌, ◌≡◌, ◌⊎◌, List, [], ◌∷◌, ◌++◌, length, take, get_or}
 use Rattle.promises.specs.Subjects.{Reply, Signal, sent_of}
 use Rattle.promises.specs.Stack.{zeros}
 use Rattle.promises.specs.StateBytes.{IsState}

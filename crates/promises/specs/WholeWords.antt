@@ -1,7 +1,6 @@
 -- The order's own fear, a word joined from two units: by which bytes a word goes in and comes out. Definitions and the
 -- statement only: proofs/WholeWords.antt proves it. Assumes nothing.
 use Rattle.std.specs.Prelude.{ℕ, zero, suc, ◌-◌, ◌%◌, ◌^◌, ◌<◌, ◌≡◌, Bool, true, false, not, List, [], ◌∷◌, ◌++◌, length, take}
-use Rattle.terms.specs.declared.Mode.{Mode}
 use Rattle.terms.specs.declared.Refusal.TheVariants.{Done, HalfWord}
 use Rattle.terms.specs.declared.Width.{Width}
 use Rattle.terms.specs.declared.Width.TheVariants.{Single, Double}
@@ -10,7 +9,7 @@ use Rattle.codes.specs.Command.{Known}
 use Rattle.codes.specs.Codes.{decoded}
 use Rattle.promises.specs.Subjects.{Settings, State, ChipEvent as Event, Push, Pop, push_of, pop_of, command_under}
 use Rattle.promises.specs.Stack.{size_of, bits_of, IsStack, bytes_of, low_first, top_byte, pushed, popped}
-use Rattle.promises.specs.BusEvents.{busy, moved, done, refused, under, after_events, after_pushes, bytes_popped}
+use Rattle.promises.specs.BusEvents.{busy, moved, done, refused, after_events, after_pushes, bytes_popped}
 use Rattle.promises.specs.BusEvents.{result_bytes}
 
 -- events that push or pop a byte, n in all

@@ -1,7 +1,7 @@
 -- The wrong cores of 01's section 'What the proofs have to say', each as a class of cores of the four calls' types,
 -- none of which meets the promises.
 -- Definitions and the statement only: proofs/WrongCores.antt proves it. Assumes nothing.
-use Rattle.std.specs.Prelude.{ℕ, ◌^◌, ◌≤◌, ◌<◌, ◌≡◌, ◌⊎◌, Bool, true, false, List, [], ◌∷◌, ◌++◌, length, take}
+use Rattle.std.specs.Prelude.{ℕ, ◌^◌, ◌≤◌, ◌<◌, ◌≡◌, ◌⊎◌, Bool, false, List, [], ◌∷◌, ◌++◌, length, take}
 use Rattle.promises.specs.Subjects.{run_of as fileRun}
 use Rattle.promises.specs.Stack.{Bytes, zeros}
 use Rattle.promises.specs.StateBytes.{IsState, card_in}

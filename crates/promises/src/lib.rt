@@ -1,3 +1,2 @@
 // The demands of the order as statements, each with its proof. No function.
 #![tactic(auto)]
-

@@ -8,7 +8,7 @@ use Rattle.record_text.specs.Told.{sr_word}
 use Rattle.record_text.specs.Kinds.{Command, kind_number, form_of, number_at, kind_at}
 use Rattle.record_text.specs.declared.kinds.Form.{Form}
 use Rattle.record_text.specs.declared.kinds.Form.TheVariants.{Bytes, Number as Numbered, Code, Alone, Unknown}
-use Rattle.record_text.specs.Words.{Word, word, words_of}
+use Rattle.record_text.specs.Words.{Word, words_of}
 use Rattle.record_text.specs.Named.{place_named}
 use Rattle.record_text.specs.Values.{value_of}
 use Rattle.record_text.specs.declared.values.Fault.{Fault}

@@ -1,5 +1,5 @@
 -- The names of commands: the rows of Figure 8 of document 001 with their codes, sr not counted. Definitions only. Assumes nothing.
-use Rattle.std.specs.Prelude.{ℕ, ◌+◌, cond, List, [], ◌∷◌, ◌++◌, eqb}
+use Rattle.std.specs.Prelude.{ℕ, cond, List, [], ◌∷◌, ◌++◌, eqb}
 use Prim.Native.String.{String}
 use Rattle.record_text.specs.Letters.{written}
 

@@ -1,5 +1,5 @@
 -- The text of a record: its words, parted by single blanks. Definitions only. Assumes nothing.
-use Rattle.std.specs.Prelude.{ℕ, ◌+◌, ◌*◌, ◌%◌, cond, List, [], ◌∷◌, ◌++◌, eqb, leb, length, get_or}
+use Rattle.std.specs.Prelude.{ℕ, ◌*◌, ◌%◌, cond, List, [], ◌∷◌, ◌++◌, eqb, leb, length, get_or}
 use Rattle.numbers.specs.Little.{four_at}
 use Rattle.listing.specs.Text.{decimal, hex}
 use Rattle.listing.specs.Listing.{blank}

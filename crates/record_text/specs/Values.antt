@@ -1,6 +1,6 @@
 -- The value of a word behind a name: two hex digits are a byte, four a word of 16 bits, eight one of 32, a number with a point a float word; a number; a code.
 -- Definitions only. Assumes nothing.
-use Rattle.std.specs.Prelude.{ℕ, ◌^◌, cond, List, eqb, ltb, length}
+use Rattle.std.specs.Prelude.{ℕ, cond, List, eqb, ltb, length}
 use Rattle.terms.specs.declared.Rule.{Rule}
 use Rattle.terms.specs.declared.Refusal.{Refusal}
 use Rattle.terms.specs.Refusal.{number_of}

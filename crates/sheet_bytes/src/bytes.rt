@@ -81,6 +81,7 @@ pub fn open(sheets: &mut [u8], serial: &[u8])
 }
 
 // A number with the bit of a slot set.
+#[tactic(auto, using(crate::proofs::Bits::has_room))]
 fn with_bit(slot: u8, n: u8) -> u8
     requires { slot < 4 }
     ensures { result ≡ with_bit slot n }

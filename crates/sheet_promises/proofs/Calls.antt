@@ -29,7 +29,6 @@ use Rattle.sheets.proofs.Growth.{good as stands, same, run_grows}
 use Rattle.sheets.proofs.Calling.{bad_mode, bad_rule, bad_state_lem, bad_sheets, too_long_lem, good}
 use Rattle.sheet_bytes.proofs.Ledgers.{good as good-sheets}
 use Rattle.sheet_promises.specs.Bytes.{four_at}
-use Rattle.sheet_promises.specs.Sheets.{is_sheets}
 use Rattle.sheet_promises.specs.Records.{is_own_kind, split, records_of, joined, struck, struck_replies}
 use Rattle.sheet_promises.specs.History.{Entry, history_from, sheets_in}
 use Rattle.sheet_promises.specs.SheetsCall.{SheetsAllowed, SheetsDetermined, SheetsTurnedAway, ReportsResult, replies_in, SheetsRepliesStay, Grown}
@@ -95,7 +94,7 @@ pub record Passed (mode rule : ℕ) (state sheets input report : List ℕ) : Typ
   pub mode_good : mode ≤ 1
   pub rule_good : rule ≤ 1
   pub state_good : storedState state ≡ true
-  pub sheets_good : ledger.isSheets sheets ≡ true
+  pub sheets_good : ledger.is_sheets sheets ≡ true
   pub input_fits : length input ≤ 12288
 
 -- what holds of a call that is turned away, with 14 whatever its report says, and of one that runs
@@ -115,7 +114,7 @@ calls P mode rule state sheets input replies report unwritten away runs =
     (λ q.
     either_bool P (storedState state) _ _
     (λ b.
-    either_bool P (ledger.isSheets sheets) _ _
+    either_bool P (ledger.is_sheets sheets) _ _
     (λ d.
     either_lt P 12288 (length input) _ _ (λ e. away 9 (λ z. omega arith))
     (λ e. runs (record { report_long = a; mode_good = leb-true mode 1 k; rule_good = leb-true rule 1 q; state_good = b; sheets_good = d; input_fits = e })))
@@ -148,7 +147,7 @@ grows old new long g = record {
 
 pub sheets_kept : SheetsKept
 sheets_kept mode rule state sheets input replies report g =
-    let e : ledger.isSheets sheets ≡ true = sym (sheets_is sheets) ∙ g in
+    let e : ledger.is_sheets sheets ≡ true = sym (sheets_is sheets) ∙ g in
     let s = stands sheets e in
     let stays = grows sheets sheets s.long (same sheets s) in
     calls (λ c. Grown sheets c.sheets) mode rule state sheets input replies report (λ w. stays) (λ r n. stays)

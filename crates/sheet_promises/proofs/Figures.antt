@@ -88,31 +88,31 @@ module _ (l : List (List ℕ)) where
   unfolding crate-figures.sum88 sum88
   sum_is = total_is (crate-figures.worths (crate-figures.words l)) ∙ ap total (worths_are (crate-figures.words l) ∙ ap (map worth) (words_are l))
 
-hex_is : (k n : ℕ) → digits.hexDigits k n ≡ hex_digits k n
+hex_is : (k n : ℕ) → digits.hex_digits k n ≡ hex_digits k n
 hex_is zero n = refl
-hex_is (suc k) n = ap (λ (t : List ℕ). t ++ (digits.hexDigit (n % 16) ∷ [])) (hex_is k (n / 16))
+hex_is (suc k) n = ap (λ (t : List ℕ). t ++ (digits.hex_digit (n % 16) ∷ [])) (hex_is k (n / 16))
 
 sign_is : (z : ℤ) → digits.sign_of z ≡ sign_of z
 sign_is (pos n) = refl
 sign_is (negsuc n) = refl
 
-text_is : (z : ℤ) → digits.sumText z ≡ sum_text z
+text_is : (z : ℤ) → digits.sum_text z ≡ sum_text z
 text_is z = ap₂ (λ (s : ℕ) (t : List ℕ). s ∷ t) (sign_is z) (hex_is 48 (nat_abs z))
 
 figures_are : (l : List (List ℕ)) → telling.written l ≡ figures_of l
 figures_are l =
-    ap (λ (n : ℕ). length l ∷ n ∷ crate-figures.repeated l ∷ crate-figures.improper l ∷ digits.sumText (crate-figures.sum88 l)) (different_is l)
-    ∙ ap (λ (n : ℕ). length l ∷ different l ∷ n ∷ crate-figures.improper l ∷ digits.sumText (crate-figures.sum88 l)) (repeated_is l)
-    ∙ ap (λ (n : ℕ). length l ∷ different l ∷ repeated l ∷ n ∷ digits.sumText (crate-figures.sum88 l)) (improper_is l)
+    ap (λ (n : ℕ). length l ∷ n ∷ crate-figures.repeated l ∷ crate-figures.improper l ∷ digits.sum_text (crate-figures.sum88 l)) (different_is l)
+    ∙ ap (λ (n : ℕ). length l ∷ different l ∷ n ∷ crate-figures.improper l ∷ digits.sum_text (crate-figures.sum88 l)) (repeated_is l)
+    ∙ ap (λ (n : ℕ). length l ∷ different l ∷ repeated l ∷ n ∷ digits.sum_text (crate-figures.sum88 l)) (improper_is l)
     ∙ ap (λ (t : List ℕ). length l ∷ different l ∷ repeated l ∷ improper l ∷ t) (text_is (crate-figures.sum88 l) ∙ ap sum_text (sum_is l))
 
 -- ---- the call
 
 pub figures_call_lem : FiguresCall
-unfolding telling.figuresOf
+unfolding telling.figures_of
 figures_call_lem sheets out =
     rw (sheets_is sheets)
-    (ap (λ (w : List ℕ). cond (eqb (length out) 53) (cond (ledger.isSheets sheets) (record { result = 0; out = w }) (record { result = 13; out = out }))
+    (ap (λ (w : List ℕ). cond (eqb (length out) 53) (cond (ledger.is_sheets sheets) (record { result = 0; out = w }) (record { result = 13; out = out }))
     (record { result = 8; out = out }))
     (figures_are (ledger.lines_of sheets) ∙ ap figures_of (closed_sheets_lem sheets)))
 
@@ -150,7 +150,7 @@ figures_same l m d =
 -- a slice that is a list of sheets
 told : (sheets out : List ℕ) → is_sheets sheets ≡ true
     → figures_call sheets out ≡ cond (eqb (length out) 53) (record { result = 0; out = figures_of (closed_sheets sheets) }) (record { result = 8; out = out })
-unfolding telling.figuresOf
+unfolding telling.figures_of
 told sheets out h =
     rw (sym (sheets_is sheets) ∙ h)
     (ap (λ (w : List ℕ). cond (eqb (length out) 53) (record { result = 0; out = w }) (record { result = 8; out = out }))

@@ -40,7 +40,7 @@ module _ (mode rule : ℕ) (state sheets : List ℕ) (s : Start mode rule state 
   laid : laid_out 21 stood.card ≡ state
   laid = ap (λ (n : ℕ). laid_out n stood.card) (sym s.long) ∙ card_returns (settings_of mode rule) state (sym (state_is state) ∙ s.state_taken)
 
-  good : ledger.isSheets sheets ≡ true
+  good : ledger.is_sheets sheets ≡ true
   good = sym (sheets_is sheets) ∙ s.sheets_taken
 
   -- the book's run of any file

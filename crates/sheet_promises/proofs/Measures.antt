@@ -24,8 +24,8 @@ pub state_is : (l : List ℕ) → is_state l ≡ storedState l
 unfolding storedState
 state_is l = refl
 
-pub sheets_is : (l : List ℕ) → is_sheets l ≡ ledger.isSheets l
-unfolding ledger.isSheets
+pub sheets_is : (l : List ℕ) → is_sheets l ≡ ledger.is_sheets l
+unfolding ledger.is_sheets
 sheets_is l = refl
 
 pub places_are : (n : ℕ) (l : List ℕ) → ledger.lines n l ≡ places n l
@@ -38,7 +38,7 @@ closed_sheets_lem l = places_are (number_in l) (drop 1 l)
 -- ---- the slice after a record, of 1,303 bytes
 
 -- bytes laid to the end of the slice
-to_end : (l : List ℕ) (at : ℕ) (vs : List ℕ) → at + length vs ≡ length l → ledger.laidAt l at vs ≡ take at l ++ vs
+to_end : (l : List ℕ) (at : ℕ) (vs : List ℕ) → at + length vs ≡ length l → ledger.laid_at l at vs ≡ take at l ++ vs
 to_end l at vs e =
     parts l at vs (omega arith)
     ∙ ap (λ (v : List ℕ). take at l ++ v) (ap (λ (v : List ℕ). vs ++ v) (drop_of_length-le l {i = at + length vs} (omega arith)) ∙ append-nil vs)
@@ -52,12 +52,12 @@ module _ (l : List ℕ) (long : length l ≡ 1303) where
       let n : length (1 ∷ (serial ++ replicate 17 0)) ≡ 22 = let a = length-append serial (replicate 17 0) in omega arith in
       to_end l 1281 (1 ∷ (serial ++ replicate 17 0)) (omega arith)
 
-  pub kept_is : (slot : ℕ) (word : List ℕ) → slot ≤ 3 → length word ≡ 4 → ledger.keptIn l slot word ≡ kept l slot word
+  pub kept_is : (slot : ℕ) (word : List ℕ) → slot ≤ 3 → length word ≡ 4 → ledger.kept_in l slot word ≡ kept l slot word
   kept_is slot word small four =
       let at : ℕ = 1287 + 4 * slot in
       let fits : at + length word ≤ length l = omega arith in
       let x : ℕ = with_bit slot (kept_bits l) in
-      let w : List ℕ = ledger.laidAt l at word in
+      let w : List ℕ = ledger.laid_at l at word in
       let lw : length w ≡ 1303 = length-laid l at word fits ∙ long in
       let e : at + length word ≡ 1291 + 4 * slot = omega arith in
       let p : w ≡ take at l ++ (word ++ drop (1291 + 4 * slot) l) = parts l at word fits ∙ ap (λ (n : ℕ). take at l ++ (word ++ drop n l)) e in
@@ -76,7 +76,7 @@ module _ (l : List ℕ) (long : length l ≡ 1303) where
       let ll : length line ≡ 20 = length-line l long in
       let at : ℕ = 1 + 20 * n in
       let fits : at + length line ≤ length l = omega arith in
-      let w : List ℕ = ledger.laidAt l at line in
+      let w : List ℕ = ledger.laid_at l at line in
       let lw : length w ≡ 1303 = length-laid l at line fits ∙ long in
       let e : at + length line ≡ 21 + 20 * n = omega arith in
       let rest : List ℕ = drop (21 + 20 * n) l in

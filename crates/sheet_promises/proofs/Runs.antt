@@ -74,19 +74,19 @@ line_ready h l room p r b =
     ways (λ t. ReadyCard t.state.card) h l room (λ o q. r) (λ o q g. r) (λ o q g. r) (λ n. core_ready h.card l room p r b)
 
 -- a list of sheets is one after a run, and after a turn
-pub run_sheets : (h : Held) (l : List ℕ) (room : ℕ) → ledger.isSheets h.sheets ≡ true → ledger.isSheets (run_of h l room).state.sheets ≡ true
+pub run_sheets : (h : Held) (l : List ℕ) (room : ℕ) → ledger.is_sheets h.sheets ≡ true → ledger.is_sheets (run_of h l room).state.sheets ≡ true
 run_sheets h l room g =
     let w = run_grows h l room g in
     sym (good-sheets (run_of h l room).state.sheets (w.same_length ∙ is_long h.sheets g) w.no_more w.flag_is w.bits_are)
 
-pub line_sheets : (h : Held) (l : List ℕ) (room : ℕ) → 0 < length l → ledger.isSheets h.sheets ≡ true → ledger.isSheets (sheet_step h l room).state.sheets
+pub line_sheets : (h : Held) (l : List ℕ) (room : ℕ) → 0 < length l → ledger.is_sheets h.sheets ≡ true → ledger.is_sheets (sheet_step h l room).state.sheets
     ≡ true
 line_sheets h l room p g =
-    either_eq (λ (x : ℕ). ledger.isSheets (sheet_step h l room).state.sheets ≡ true) (sheet_step h l room).refusal 0 0 0
+    either_eq (λ (x : ℕ). ledger.is_sheets (sheet_step h l room).state.sheets ≡ true) (sheet_step h l room).refusal 0 0 0
     (λ z.
-    subst (λ (o : Outcome Held). ledger.isSheets o.state.sheets ≡ true) (alone lawful h l room p z)
+    subst (λ (o : Outcome Held). ledger.is_sheets o.state.sheets ≡ true) (alone lawful h l room p z)
     (run_sheets h (take (sheet_step h l room).taken l) room g))
-    (λ z. subst (λ (t : Outcome Held). ledger.isSheets t.state.sheets ≡ true) (sym (lawful.stops h l room z).1) g)
+    (λ z. subst (λ (t : Outcome Held). ledger.is_sheets t.state.sheets ≡ true) (sym (lawful.stops h l room z).1) g)
 
 -- ---- the run
 
@@ -109,7 +109,7 @@ next_is t o = by (eqb t.refusal 0)
     by false = refl
 
 module _ (mode rule : ℕ) (m : mode ≤ 1) (q : rule ≤ 1) where
-  runs_so : (n : ℕ) (h : Held) (l : List ℕ) (room : ℕ) → ReadyCard h.card → h.card.on ≡ settings_of mode rule → ledger.isSheets h.sheets ≡ true
+  runs_so : (n : ℕ) (h : Held) (l : List ℕ) (room : ℕ) → ReadyCard h.card → h.card.on ≡ settings_of mode rule → ledger.is_sheets h.sheets ≡ true
       → StackBytes l
       → run_for mode rule n (laid_out 21 h.card) h.sheets l room ≡ seen (run sheet_step n h l room)
   unfolding run_for run
@@ -125,7 +125,7 @@ module _ (mode rule : ℕ) (m : mode ≤ 1) (q : rule ≤ 1) where
       (line_on h (x ∷ l) room ∙ on) (line_sheets h (x ∷ l) room p g) (bytes_drop t.taken (x ∷ l) b))
       ∙ next_is t (run sheet_step n t.state (drop t.taken (x ∷ l)) (room - length t.written))
 
-  pub run_is : (h : Held) (l : List ℕ) (room : ℕ) → ReadyCard h.card → h.card.on ≡ settings_of mode rule → ledger.isSheets h.sheets ≡ true → StackBytes l
+  pub run_is : (h : Held) (l : List ℕ) (room : ℕ) → ReadyCard h.card → h.card.on ≡ settings_of mode rule → ledger.is_sheets h.sheets ≡ true → StackBytes l
       → ran mode rule (laid_out 21 h.card) h.sheets l room ≡ seen (run_of h l room)
   unfolding ran run_by
   run_is h l room r on g b = runs_so (length l) h l room r on g b

@@ -22,7 +22,7 @@ use Rattle.sheet_promises.proofs.Runs.{run_is, lengthened_is, shortened_is, run_
 
 -- a call that runs
 runs : (mode rule : ℕ) (state sheets input replies : List ℕ) → StackBytes state → StackBytes input → mode ≤ 1 → rule ≤ 1 → storedState state ≡ true
-    → ledger.isSheets sheets ≡ true
+    → ledger.is_sheets sheets ≡ true
     → ran_of (length state) (run_of (holding (card_in (settings_of mode rule) state) sheets) input (length replies)) replies
     ≡ answer_of (length state) (ran mode rule (lengthened state) sheets input (length replies)) replies
 runs mode rule state sheets input replies B I m q s g =
@@ -47,9 +47,9 @@ pub sheets_call_lem : SheetsCall
 unfolding call_of
 sheets_call_lem mode rule state sheets input replies report B I =
     rw (state_is state, sheets_is sheets)
-    (by (eqb (length report) 9) (leb mode 1) (leb rule 1) (storedState state) (ledger.isSheets sheets) (ltb 12288 (length input)) refl refl refl refl)
+    (by (eqb (length report) 9) (leb mode 1) (leb rule 1) (storedState state) (ledger.is_sheets sheets) (ltb 12288 (length input)) refl refl refl refl)
   where
-    by : (a k q s g n : Bool) → leb mode 1 ≡ k → leb rule 1 ≡ q → storedState state ≡ s → ledger.isSheets sheets ≡ g
+    by : (a k q s g n : Bool) → leb mode 1 ≡ k → leb rule 1 ≡ q → storedState state ≡ s → ledger.is_sheets sheets ≡ g
         → cond a (cond k (cond q (cond s (cond g (cond n (away 9 state sheets replies)
         (ran_of (length state) (run_of (holding (card_in (settings_of mode rule) state) sheets) input (length replies)) replies)) (away 13 state sheets replies))
         (away 13 state sheets replies)) (away 17 state sheets replies)) (away 16 state sheets replies))

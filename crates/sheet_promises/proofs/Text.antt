@@ -47,7 +47,7 @@ digits_are (suc most) n = ap (λ (t : List ℕ). cond (ltb n 10) (text.digit n �
 field_is : (n : ℕ) → listing.field n ≡ field n
 field_is n = ap (λ (t : List ℕ). 32 ∷ t) (digits_are 20 n)
 
-data_is : (l : List ℕ) → listing.dataText l ≡ data_text l
+data_is : (l : List ℕ) → listing.data_text l ≡ data_text l
 data_is [] = refl
 data_is (b ∷ l) = ap (λ (t : List ℕ). 32 ∷ (text.hex b ++ t)) (data_is l)
 
@@ -78,8 +78,8 @@ module _ (number : ℕ) (r w : List ℕ) (q : Reply r) where
   word : (i : ℕ) → i + 1 < length r → word_at (r ++ w) i ≡ word_at r i
   word i h = rw (front i (omega arith), front (i + 1) h)
 
-  whole : listing.hasReply (r ++ w) ≡ true
-  unfolding listing.hasReply
+  whole : listing.has_reply (r ++ w) ≡ true
+  unfolding listing.has_reply
   whole =
       let five = q.five in
       let f = q.framed in
@@ -107,19 +107,19 @@ module _ (number : ℕ) (r w : List ℕ) (q : Reply r) where
       ap (take (2 + word_at (r ++ w) 0 - 5)) (drop-append-le 5 r w five) ∙ take_at (drop 5 r) w (2 + word_at (r ++ w) 0 - 5) (omega arith) in
       one_more number (r ++ w) whole
       ∙ ap₂ (λ (x y : List ℕ). x ++ y)
-      (ap₂ (λ (k n : ℕ). listing.line_of number (listing.kindFrom k) n (take (2 + word_at (r ++ w) 0 - 5) (drop 5 (r ++ w)))) b (front 4 (omega arith))
-      ∙ ap (listing.line_of number (listing.kindFrom (word_at r 2)) (get_or r 4 0)) bytes
-      ∙ line_is (listing.kindFrom (word_at r 2)) (get_or r 4 0) (drop 5 r))
+      (ap₂ (λ (k n : ℕ). listing.line_of number (listing.kind_from k) n (take (2 + word_at (r ++ w) 0 - 5) (drop 5 (r ++ w)))) b (front 4 (omega arith))
+      ∙ ap (listing.line_of number (listing.kind_from (word_at r 2)) (get_or r 4 0)) bytes
+      ∙ line_is (listing.kind_from (word_at r 2)) (get_or r 4 0) (drop 5 r))
       (ap (listing.lines_of (number + 1)) (ap (λ (n : ℕ). drop n (r ++ w)) size ∙ drop_at r w (length r) refl))
     where
       line_is : (kind n : ℕ) (l : List ℕ) → listing.line_of number kind n l ≡ digits_of 20 number ++ (field kind ++ (field n ++ (data_text l ++ (10 ∷ []))))
       line_is kind n l =
-          ap₂ (λ (x y : List ℕ). x ++ (y ++ (listing.field n ++ (listing.dataText l ++ (10 ∷ []))))) (digits_are 20 number) (field_is kind)
+          ap₂ (λ (x y : List ℕ). x ++ (y ++ (listing.field n ++ (listing.data_text l ++ (10 ∷ []))))) (digits_are 20 number) (field_is kind)
           ∙ ap₂ (λ (x y : List ℕ). digits_of 20 number ++ (field kind ++ (x ++ (y ++ (10 ∷ []))))) (field_is n) (data_is l)
 
 -- no replies, no lines
 none_listed : (number : ℕ) → listing.lines_of number [] ≡ reply_lines number (records_of [])
-unfolding listing.linesUpTo
+unfolding listing.lines_up_to
 none_listed number = sym (ap (reply_lines number) no_bytes_lem)
 
 -- the lines of all replies of a run
@@ -137,53 +137,53 @@ lines_are =
 
 -- ---- the sheets and the figures
 
-sheet_is : (l : List ℕ) → printout.sheetText l ≡ sheet_line l
-sheet_is l = ap (λ (k : List ℕ). 115 ∷ 104 ∷ 101 ∷ 101 ∷ 116 ∷ (k ++ (printout.wordsText l ++ (10 ∷ [])))) (field_is (four_at l 0))
+sheet_is : (l : List ℕ) → printout.sheet_text l ≡ sheet_line l
+sheet_is l = ap (λ (k : List ℕ). 115 ∷ 104 ∷ 101 ∷ 101 ∷ 116 ∷ (k ++ (printout.words_text l ++ (10 ∷ [])))) (field_is (four_at l 0))
 
-sheets_are : (ls : List (List ℕ)) → printout.sheetsText ls ≡ joined (map sheet_line ls)
+sheets_are : (ls : List (List ℕ)) → printout.sheets_text ls ≡ joined (map sheet_line ls)
 sheets_are [] = refl
 sheets_are (l ∷ ls) = ap₂ (λ (x y : List ℕ). x ++ y) (sheet_is l) (sheets_are ls)
 
-open_is : (sheets : List ℕ) → printout.openText sheets ≡ open_line sheets
+open_is : (sheets : List ℕ) → printout.open_text sheets ≡ open_line sheets
 open_is sheets = ap (λ (k : List ℕ). cond (is_open sheets) (111 ∷ 112 ∷ 101 ∷ 110 ∷ (k ++ (10 ∷ []))) []) (field_is (four_at sheets 1282))
 
-figure_is : (name : List ℕ) (n : ℕ) → printout.figureText name n ≡ figure_line name n
+figure_is : (name : List ℕ) (n : ℕ) → printout.figure_text name n ≡ figure_line name n
 figure_is name n = ap (λ (k : List ℕ). name ++ (k ++ (10 ∷ []))) (field_is n)
 
 spread : (a b c d e : List ℕ) → (a ++ (b ++ (c ++ d))) ++ e ≡ a ++ (b ++ (c ++ (d ++ e)))
 spread a b c d e =
     append_assoc a (b ++ (c ++ d)) e ∙ ap (λ (k : List ℕ). a ++ k) (append_assoc b (c ++ d) e ∙ ap (λ (k : List ℕ). b ++ k) (append_assoc c d e))
 
-figures_are : (f : List ℕ) → printout.figuresText f ≡ figure_lines f
+figures_are : (f : List ℕ) → printout.figures_text f ≡ figure_lines f
 figures_are f =
     let end : List ℕ = printout.sum_word ++ (drop 4 f ++ (10 ∷ [])) in
-    let a = printout.figureText printout.linesWord (get_or f 0 0) in
-    let b = printout.figureText printout.serialsWord (get_or f 1 0) in
-    let c = printout.figureText printout.repeatedWord (get_or f 2 0) in
-    let d = printout.figureText printout.improperWord (get_or f 3 0) in
+    let a = printout.figure_text printout.lines_word (get_or f 0 0) in
+    let b = printout.figure_text printout.serials_word (get_or f 1 0) in
+    let c = printout.figure_text printout.repeated_word (get_or f 2 0) in
+    let d = printout.figure_text printout.improper_word (get_or f 3 0) in
     spread a b c d end
-    ∙ ap₂ (λ (x y : List ℕ). x ++ (y ++ (c ++ (d ++ end)))) (figure_is printout.linesWord (get_or f 0 0)) (figure_is printout.serialsWord (get_or f 1 0))
-    ∙ ap₂ (λ (x y : List ℕ). figure_line printout.linesWord (get_or f 0 0) ++ (figure_line printout.serialsWord (get_or f 1 0) ++ (x ++ (y ++ end))))
-    (figure_is printout.repeatedWord (get_or f 2 0)) (figure_is printout.improperWord (get_or f 3 0))
+    ∙ ap₂ (λ (x y : List ℕ). x ++ (y ++ (c ++ (d ++ end)))) (figure_is printout.lines_word (get_or f 0 0)) (figure_is printout.serials_word (get_or f 1 0))
+    ∙ ap₂ (λ (x y : List ℕ). figure_line printout.lines_word (get_or f 0 0) ++ (figure_line printout.serials_word (get_or f 1 0) ++ (x ++ (y ++ end))))
+    (figure_is printout.repeated_word (get_or f 2 0)) (figure_is printout.improper_word (get_or f 3 0))
 
 -- ---- the text
 
 abbrev Rest : Called → List ℕ
 Rest a = joined (map sheet_line (closed_sheets a.sheets)) ++ (open_line a.sheets ++ figure_lines (figuresThere a.sheets (zeros 53)).out)
 
-rest_is : (a : Called) → printout.sheetsText (ledger.lines_of a.sheets)
-    ++ (printout.openText a.sheets ++ printout.figuresText (printout.figuresFor a.sheets)) ≡ Rest a
+rest_is : (a : Called) → printout.sheets_text (ledger.lines_of a.sheets)
+    ++ (printout.open_text a.sheets ++ printout.figures_text (printout.figures_for a.sheets)) ≡ Rest a
 rest_is a =
     ap₂ (λ (x y : List ℕ). x ++ y) (sheets_are (ledger.lines_of a.sheets)
     ∙ ap (λ (ls : List (List ℕ)). joined (map sheet_line ls)) (closed_sheets_lem a.sheets))
-    (ap₂ (λ (x y : List ℕ). x ++ y) (open_is a.sheets) (figures_are (printout.figuresFor a.sheets)))
+    (ap₂ (λ (x y : List ℕ). x ++ y) (open_is a.sheets) (figures_are (printout.figures_for a.sheets)))
 
 end_is : (refusal n : ℕ) → listing.end_of refusal n ≡ end_line refusal n
 end_is refusal n = ap₂ (λ (x y : List ℕ). 101 ∷ 110 ∷ 100 ∷ (x ++ (y ++ (10 ∷ [])))) (field_is refusal) (field_is n)
 
 -- the listing, of any answer whose replies are listed one by one
 listing_is : (a : Called) → listing.lines_of 1 (replies_in a.replies a.report) ≡ reply_lines 1 (records_of (replies_in a.replies a.report))
-    → printout.printedOf a.replies a.report ++ Rest a ≡ text_of a
+    → printout.printed_of a.replies a.report ++ Rest a ≡ text_of a
 listing_is a e =
     ap₂ (λ (x y : List ℕ). (x ++ y) ++ Rest a) e (end_is (get_or a.report 0 0) (four_at a.report 1))
     ∙ append_assoc (reply_lines 1 (records_of (replies_in a.replies a.report))) (end_line (get_or a.report 0 0) (four_at a.report 1)) (Rest a)
@@ -205,6 +205,6 @@ call_listed mode rule state sheets input replies report n =
 
 pub sheets_text_lem : SheetsText
 sheets_text_lem mode rule input =
-    let a = printout.callUnder mode rule input in
-    ap (λ (k : List ℕ). printout.printedOf a.replies a.report ++ k) (rest_is a)
+    let a = printout.call_under mode rule input in
+    ap (λ (k : List ℕ). printout.printed_of a.replies a.report ++ k) (rest_is a)
     ∙ listing_is a (call_listed mode rule (zeros 19) (zeros 1303) input (zeros 65536) (zeros 9) refl)

@@ -209,7 +209,7 @@ abbrev enters : List ℕ → Entered
 enters l = record { refusal = 0; sheets = l }
 
 module _ (l : List ℕ) (long : length l ≡ 1303) where
-  opening_is : (serial : List ℕ) → length serial ≡ 4 → opening l serial ≡ told (entering.openOf l serial)
+  opening_is : (serial : List ℕ) → length serial ≡ 4 → opening l serial ≡ told (entering.open_of l serial)
   opening_is serial four = by (is_open l)
     where
       by : (b : Bool) → cond b (record { refusal = 20; sheets = l }) (enters (opened l serial))
@@ -217,20 +217,20 @@ module _ (l : List ℕ) (long : length l ≡ 1303) where
       by true = refl
       by false = ap enters (sym (opened_is l long serial four))
 
-  keeping_is : (slot : ℕ) (pending : Bool) (top : ℕ) → keeping l slot pending (le4 top) ≡ told (entering.keepOf l slot pending top)
+  keeping_is : (slot : ℕ) (pending : Bool) (top : ℕ) → keeping l slot pending (le4 top) ≡ told (entering.keep_of l slot pending top)
   keeping_is slot pending top = by (is_open l) (ltb 3 slot) pending refl
     where
       by : (b x p : Bool) → ltb 3 slot ≡ x
           → cond b (cond x (record { refusal = 22; sheets = l }) (cond p (record { refusal = 23; sheets = l }) (enters (kept l slot (le4 top)))))
           (record { refusal = 21; sheets = l })
-          ≡ told (cond b (cond x (entering.refuse NoSuchSlot l) (cond p (entering.refuse HalfPending l) (entering.enter (ledger.keptIn l slot (le4 top)))))
+          ≡ told (cond b (cond x (entering.refuse NoSuchSlot l) (cond p (entering.refuse HalfPending l) (entering.enter (ledger.kept_in l slot (le4 top)))))
           (entering.refuse NoneOpen l))
       by false x p e = refl
       by true true p e = refl
       by true false true e = refl
       by true false false e = ap enters (sym (kept_is l long slot (le4 top) (ltb-false 3 slot e) refl))
 
-  closing_is : closing l ≡ told (entering.closeOf l)
+  closing_is : closing l ≡ told (entering.close_of l)
   closing_is = by (is_open l) (ltb (kept_bits l) 15) (ltb (number_in l) 64) refl
     where
       by : (b x y : Bool) → ltb (number_in l) 64 ≡ y

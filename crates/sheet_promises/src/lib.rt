@@ -1,3 +1,2 @@
 // The statements of module sheets: definitions and proofs, no function.
 #![tactic(auto)]
-

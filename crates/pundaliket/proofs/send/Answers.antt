@@ -1,6 +1,5 @@
 -- `pundaliket::send` meets its contract: a slice of another length, a refusal, or the bits sent. Assumes nothing.
 use Rattle.pundaliket.proofs.Calling.{no_slice, no_value, a_value}
-use borrow.Author.Rules.{rules}
 use Rattle.pundaliket.proofs.send.Goals as goal
 
 pub returns-then-out-ne-WORD_BYTES : goal.returns-then-out-ne-WORD_BYTES

@@ -5,8 +5,6 @@ use Rattle.chip.specs.Held.{state_in}
 use Rattle.state_bytes.proofs.Calling.{both_laid}
 use Rattle.state_bytes.proofs.settle.Goals as goal
 
--- ?? spec has 8 answers, 6 goals: put_chip-requires put_memory-requires cast-fill_report fill_report-requires cast-result returns || (λ c κs. search rules) put-memory-requires (λ c. search rules) (λ c κs. search rules) (λ c. search rules) (λ c. search rules) (λ c. search rules) returns
-
 pub returns : goal.returns
 returns c =
     let s = c.args.r.card.chip in (

@@ -6,12 +6,6 @@ use Rattle.decimals.specs.Magnitude.{rest_of}
 use Rattle.decimals.proofs.Spelling.{placing_starts, placing_done, placing_last, placing_more}
 use Rattle.decimals.proofs.exact.add_places.Goals as goal
 
--- ?? spec has 15 answers, 13 goals: loop-init next_digit-requires digit-requires add-out slice_write-out add-i is_nothing-requires add-result returns loop-smaller loop-preserved add-result-2 returns-2 || loop-holds (λ c κs. c.before.loop.invariant.1) digit-requires (λ c. search rules) slice-write-out (λ c. search rules) (λ c κs. search rules) (λ c. search rules) (λ c. let l = c.before.before.before.before.before.before.loop in length-set l.out _ _ ∙ l.invariant.0.same) returns (λ c. search rules) loop-again (λ c. search rules) (λ c. c.before.loop.invariant.0.same) returns-2
-
--- ?? not aligned: (λ c. let l = c.before.before.before.before.before.before.loop in length-set l.out _ _ ∙ l.invariant.0.same)
-
--- ?? not aligned: (λ c. c.before.loop.invariant.0.same)
-
 pub loop-i-init : goal.loop-i-init
 loop-i-init c =
     let a = c.args in

@@ -4,8 +4,6 @@ use Rattle.listing.proofs.Adding.{both}
 use Rattle.listing.proofs.Digits.{digits_length}
 use Rattle.decimals.proofs.line.add_head.Goals as goal
 
--- ?? spec has 5 answers, 3 goals: add_digits-requires add-requires returns || (λ c κs. search rules) (λ c. search rules) add-requires (λ c. search rules) returns
-
 pub add-requires : goal.add-requires
 add-requires c =
     omega (arith, c.requires, c.add_digits-a.ensures.moved, digits_length 16 8 c.args.word)

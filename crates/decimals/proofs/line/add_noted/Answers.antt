@@ -3,8 +3,6 @@ use native.Mathlib.Omega.{arith}
 use Rattle.listing.proofs.Decimal.{at_most}
 use Rattle.decimals.proofs.line.add_noted.Goals as goal
 
--- ?? spec has 5 answers, 4 goals: add-requires add_field-requires add_end-requires returns || (λ c κs. search rules) add-field-requires add-end-requires (λ c. search rules) returns
-
 pub add_field-b-requires : goal.add_field-b-requires
 add_field-b-requires c =
     omega (arith, c.requires.1, c.requires.2, c.add-a.ensures.moved, at_most 20 c.args.n)

@@ -3,8 +3,6 @@ use Rattle.listing.specs.Options.{nearest_word}
 use Rattle.listing.proofs.Texts.{is_same, is_other}
 use Rattle.decimals.proofs.read.rule_named.Goals as goal
 
--- ?? spec has 4 answers, 3 goals: same-requires returns returns-2 || (λ c. search rules) (λ c κs. search rules) returns returns-2
-
 pub returns-then-same : goal.returns-then-same
 returns-then-same c = rw (is_same _ nearest_word (c.same.ensures.0 c.if-same.true))
 

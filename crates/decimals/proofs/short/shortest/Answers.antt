@@ -7,8 +7,6 @@ use Rattle.decimals.specs.Short.{tried_at, Brief}
 use Rattle.decimals.proofs.Shortest.{starts, half_up, digit_below, next_small, now_nines, tried_is, goes_on, found, full, ends}
 use Rattle.decimals.proofs.short.shortest.Goals as goal
 
--- ?? spec has 15 answers, 13 goals: loop-init returns next_digit-requires mul-fraction cast-fraction add-fraction add-places still_nines-requires around-requires returns-2 loop-smaller loop-preserved returns-3 || loop-holds returns (λ c κs. c.before.before.loop.invariant.1) (λ c. omega (arith, c.before.before.if1.false)) (λ c. search rules) add-fraction (λ c. search rules) (λ c κs. search rules) around-requires (λ c. search rules) returns-2 (λ c. search rules) (λ c. search rules) loop-again returns-3
-
 pub loop-places-init : goal.loop-places-init
 loop-places-init c = (starts _ _ _ (rest_of c.args.rest) (let p = c.requires.0 in omega (arith, p.high, p.low)), c.requires.0)
 
@@ -42,15 +40,14 @@ around-found-requires c =
 
 pub returns-in-Decimal : goal.returns-in-Decimal
 returns-in-Decimal c =
-    let tried : (let a = c.args in c.around-found.result ≡ tried_at a.rule a.word a.whole
-    (rest_of a.rest) (c.loop-places.places + 1)) = let l = c.loop-places in
+    let a = c.args in
+    let l = c.loop-places in
     let e = c.next_digit-t.ensures in
+    let tried : c.around-found.result ≡ tried_at a.rule a.word a.whole (rest_of a.rest) (l.places + 1) =
     c.around-found.ensures.0
     ∙ tried_is _ _ _ _ l.fraction l.places l.nines _ l.invariant.0 _ _ _ c.loop-places-test.true c.if-fraction-ge-ROOM.false e.0 e.1
     c.still_nines-nines.ensures _
-    (half_up c.next_digit-t.result.rest.high c.next_digit-t.result.rest.low e.2.low) in
-    let l = c.loop-places in
-    let e = c.next_digit-t.ensures in (
+    (half_up c.next_digit-t.result.rest.high c.next_digit-t.result.rest.low e.2.low) in (
       found _ _ _ _ l.fraction l.places l.nines _ l.invariant.0 _ _ _ c.loop-places-test.true
           c.if-fraction-ge-ROOM.false e.0 e.1 c.still_nines-nines.ensures _ _ _
           (sym tried ∙ c.in-Decimal.is),
@@ -59,15 +56,14 @@ returns-in-Decimal c =
 
 pub loop-places-preserved : goal.loop-places-preserved
 loop-places-preserved c =
-    let tried : (let a = c.args in c.around-found.result ≡ tried_at a.rule a.word a.whole
-    (rest_of a.rest) (c.loop-places.places + 1)) = let l = c.loop-places in
+    let a = c.args in
+    let l = c.loop-places in
     let e = c.next_digit-t.ensures in
+    let tried : c.around-found.result ≡ tried_at a.rule a.word a.whole (rest_of a.rest) (l.places + 1) =
     c.around-found.ensures.0
     ∙ tried_is _ _ _ _ l.fraction l.places l.nines _ l.invariant.0 _ _ _ c.loop-places-test.true c.if-fraction-ge-ROOM.false e.0 e.1
     c.still_nines-nines.ensures _
-    (half_up c.next_digit-t.result.rest.high c.next_digit-t.result.rest.low e.2.low) in
-    let l = c.loop-places in
-    let e = c.next_digit-t.ensures in (
+    (half_up c.next_digit-t.result.rest.high c.next_digit-t.result.rest.low e.2.low) in (
       goes_on _ _ _ _ l.fraction l.places l.nines _ l.invariant.0 _ _ _ c.loop-places-test.true
           c.if-fraction-ge-ROOM.false e.0 e.1 c.still_nines-nines.ensures
           (sym tried ∙ c.in_default.is),

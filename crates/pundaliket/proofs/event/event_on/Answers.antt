@@ -1,11 +1,11 @@
 -- `pundaliket::event::event_on` meets its contract: each kind by the method of its event. Assumes nothing.
-use mathlib.Core.Path.{◌≡◌, refl, ap, ◌∙◌}
+use mathlib.Core.Path.{◌≡◌, ap, ◌∙◌}
 use mathlib.Core.List.{List}
-use Prim.Native.Nat.{ℕ, ◌≤◌}
+use Prim.Native.Nat.{ℕ}
 use borrow.Author.Tests.{eq-eqb, ne_eqb}
-use lib.ListN.{length}
 use Rattle.terms.specs.Refusal.{number_of}
-use Rattle.terms.specs.Limits.{state_bytes}
+use Rattle.terms.specs.declared.Mode.{Mode}
+use Rattle.terms.specs.declared.Rule.{Rule}
 use Rattle.chip.specs.State.{State, Answer}
 use Rattle.chip.specs.Event.{Command, Reset}
 use Rattle.chip.specs.Step.{push_of, pop_of, read_of, reset_of, acknowledge_of, command_under, given}
@@ -14,53 +14,75 @@ use Rattle.chip.specs.Held.{answer_in}
 use Rattle.chip.proofs.Held.{reset_done}
 use Rattle.error_memory.specs.Memory.{kept_after, card_answer}
 use Rattle.state_bytes.specs.Bytes.{Sized, state_of, memory_in, with_memory}
-use Rattle.state_bytes.specs.Calls.{joined_of, signal_by, Signals}
+use Rattle.state_bytes.specs.Calls.{signal_by, Signals}
 use Rattle.state_bytes.proofs.States.{least, state_sized, state_ready}
 use Rattle.pundaliket.specs.Held.{Settles}
 use Rattle.pundaliket.proofs.Events.{put_sized, put_long, same_chip, kept_behind, unchanged_memory, settled, a_recall, a_forget}
-use borrow.Author.Rules.{rules}
 use Rattle.pundaliket.proofs.event.event_on.Goals as goal
 
--- ?? typed by places
 -- an event that is a method of the chip, with what is remembered as it was
-by-method : (e : tie.Start) (f : State → Answer) (a : HeldAnswer) {s : State} {r : ℕ} {left : List ℕ} → let l = e.args.state.now in
-    answer_in a ≡ f s → s ≡ state_of l → Settles l a (memory_in l) r left
-    → Signals (signal_by l (card_answer (given e.args.mode e.args.rule) (memory_in l) (f (state_of l)))) r left
-by-method e f a is read kept = settled e.args.state.now a (given e.args.mode e.args.rule) kept (is ∙ ap f read)
+by_method : (mode : Mode) (rule : Rule) (l : List ℕ) (f : State → Answer) (a : HeldAnswer) {s : State} {r : ℕ} {left : List ℕ}
+    → answer_in a ≡ f s → s ≡ state_of l → Settles l a (memory_in l) r left
+    → Signals (signal_by l (card_answer (given mode rule) (memory_in l) (f (state_of l)))) r left
+by_method mode rule l f a is read kept = settled l a (given mode rule) kept (is ∙ ap f read)
+
+pub chip_in-requires : goal.chip_in-requires
+chip_in-requires c = least c.args.state.now (state_sized c.args.state.now c.requires)
 
 pub chip_in-requires-in-Pop : goal.chip_in-requires-in-Pop
-chip_in-requires-in-Pop c =
-    let sized : (Sized c.args.state.now) = state_sized c.args.state.now c.requires in
-    sized
+chip_in-requires-in-Pop c = least c.args.state.now (state_sized c.args.state.now c.requires)
+
+pub chip_in-requires-in-Command : goal.chip_in-requires-in-Command
+chip_in-requires-in-Command c = least c.args.state.now (state_sized c.args.state.now c.requires)
+
+pub chip_in-requires-in-Status : goal.chip_in-requires-in-Status
+chip_in-requires-in-Status c = least c.args.state.now (state_sized c.args.state.now c.requires)
+
+pub chip_in-requires-in-Acknowledge : goal.chip_in-requires-in-Acknowledge
+chip_in-requires-in-Acknowledge c = least c.args.state.now (state_sized c.args.state.now c.requires)
+
+pub keep-requires : goal.keep-requires
+keep-requires c = state_sized c.args.state.now c.requires
 
 pub keep-requires-in-Pop : goal.keep-requires-in-Pop
-keep-requires-in-Pop c =
-    let sized : (Sized c.args.state.now) = state_sized c.args.state.now c.requires in
-    let long : (state_bytes ≤ length c.args.state.now) = least c.args.state.now sized in
-    long
+keep-requires-in-Pop c = state_sized c.args.state.now c.requires
 
-pub keep-requires-in-Command : goal.keep-requires-in-Command
-keep-requires-in-Command c =
-    put_sized c.args.state.now c.requires _ c.keep_errors.ensures
+pub keep-requires-in-Status : goal.keep-requires-in-Status
+keep-requires-in-Status c = state_sized c.args.state.now c.requires
 
-pub keep-requires-in-Reset : goal.keep-requires-in-Reset
-keep-requires-in-Reset c =
-    put_sized c.args.state.now c.requires _ c.put_memory.ensures
+pub keep-requires-in-Acknowledge : goal.keep-requires-in-Acknowledge
+keep-requires-in-Acknowledge c = state_sized c.args.state.now c.requires
+
+pub keep_errors-requires : goal.keep_errors-requires
+keep_errors-requires c = state_sized c.args.state.now c.requires
+
+pub put_memory-requires : goal.put_memory-requires
+put_memory-requires c = state_sized c.args.state.now c.requires
+
+pub put_memory-requires-in-Forget : goal.put_memory-requires-in-Forget
+put_memory-requires-in-Forget c = state_sized c.args.state.now c.requires
 
 pub memory_in-requires : goal.memory_in-requires
-memory_in-requires c =
-    let sized : (Sized c.args.state.now) = state_sized c.args.state.now c.requires in
-    sized
+memory_in-requires c = state_sized c.args.state.now c.requires
+
+pub chip_in-requires-in-Reset : goal.chip_in-requires-in-Reset
+chip_in-requires-in-Reset c = put_long c.args.state.now c.requires _ c.put_memory.ensures
+
+pub keep-requires-in-Command : goal.keep-requires-in-Command
+keep-requires-in-Command c = put_sized c.args.state.now c.requires _ c.keep_errors.ensures
+
+pub keep-requires-in-Reset : goal.keep-requires-in-Reset
+keep-requires-in-Reset c = put_sized c.args.state.now c.requires _ c.put_memory.ensures
 
 pub returns-in-Push : goal.returns-in-Push
 returns-in-Push c =
     rw c.in-Push.is
-    (by-method c (λ s. push_of s c.args.byte) c.push.result c.push.ensures
+    (by_method c.args.mode c.args.rule c.args.state.now (λ s. push_of s c.args.byte) c.push.result c.push.ensures
     c.chip_in.ensures c.keep.ensures)
 
 pub returns-in-Pop : goal.returns-in-Pop
 returns-in-Pop c = rw c.in-Pop.is
-    (by-method c pop_of c.pop.result c.pop.ensures c.chip_in-in-Pop.ensures c.keep-in-Pop.ensures)
+    (by_method c.args.mode c.args.rule c.args.state.now pop_of c.pop.result c.pop.ensures c.chip_in-in-Pop.ensures c.keep-in-Pop.ensures)
 
 pub returns-in-Command : goal.returns-in-Command
 returns-in-Command c =
@@ -79,7 +101,7 @@ returns-in-Command c =
 
 pub returns-in-Status : goal.returns-in-Status
 returns-in-Status c = rw c.in-Status.is
-    (by-method c read_of c.read.result c.read.ensures c.chip_in-in-Status.ensures c.keep-in-Status.ensures)
+    (by_method c.args.mode c.args.rule c.args.state.now read_of c.read.result c.read.ensures c.chip_in-in-Status.ensures c.keep-in-Status.ensures)
 
 pub returns-in-Reset : goal.returns-in-Reset
 returns-in-Reset c =
@@ -98,7 +120,7 @@ returns-in-Reset c =
 
 pub returns-in-Acknowledge : goal.returns-in-Acknowledge
 returns-in-Acknowledge c = rw c.in-Acknowledge.is
-    (by-method c acknowledge_of c.acknowledge.result c.acknowledge.ensures c.chip_in-in-Acknowledge.ensures
+    (by_method c.args.mode c.args.rule c.args.state.now acknowledge_of c.acknowledge.result c.acknowledge.ensures c.chip_in-in-Acknowledge.ensures
     c.keep-in-Acknowledge.ensures)
 
 pub returns-in-Recall : goal.returns-in-Recall
@@ -115,43 +137,3 @@ returns-in-Forget c =
     rw c.in-Forget.is
     (a_forget (given a.mode a.rule) a.state.now c.requires m.result m.ensures c.joined-in-Forget.ensures
     c.put_memory-in-Forget.ensures)
-
--- ?? no old answer
-pub chip_in-requires : goal.chip_in-requires
-chip_in-requires c = ?
-
--- ?? no old answer
-pub keep-requires : goal.keep-requires
-keep-requires c = ?
-
--- ?? no old answer
-pub chip_in-requires-in-Command : goal.chip_in-requires-in-Command
-chip_in-requires-in-Command c = ?
-
--- ?? no old answer
-pub keep_errors-requires : goal.keep_errors-requires
-keep_errors-requires c = ?
-
--- ?? no old answer
-pub chip_in-requires-in-Status : goal.chip_in-requires-in-Status
-chip_in-requires-in-Status c = ?
-
--- ?? no old answer
-pub keep-requires-in-Status : goal.keep-requires-in-Status
-keep-requires-in-Status c = ?
-
--- ?? no old answer
-pub put_memory-requires : goal.put_memory-requires
-put_memory-requires c = ?
-
--- ?? no old answer
-pub chip_in-requires-in-Acknowledge : goal.chip_in-requires-in-Acknowledge
-chip_in-requires-in-Acknowledge c = ?
-
--- ?? no old answer
-pub keep-requires-in-Acknowledge : goal.keep-requires-in-Acknowledge
-keep-requires-in-Acknowledge c = ?
-
--- ?? no old answer
-pub put_memory-requires-in-Forget : goal.put_memory-requires-in-Forget
-put_memory-requires-in-Forget c = ?

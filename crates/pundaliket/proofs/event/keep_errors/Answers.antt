@@ -1,12 +1,8 @@
 -- `pundaliket::event::keep_errors` meets its contract: what a command that is done leaves, else the memory as it is. Assumes nothing.
-use mathlib.Core.Path.{sym, ap, ◌∙◌}
-use borrow.Author.Tests.{eq-eqb, ne_eqb}
+use mathlib.Core.Path.{sym, ◌∙◌}
+use borrow.Author.Tests.{ne_eqb}
 use Rattle.terms.specs.Refusal.{number_of}
-use Rattle.error_memory.specs.declared.Memory.{Memory}
-use Rattle.error_memory.specs.Memory.{remembered}
-use Rattle.state_bytes.specs.Bytes.{with_memory}
 use Rattle.pundaliket.proofs.Events.{unchanged_memory}
-use borrow.Author.Rules.{rules}
 use Rattle.pundaliket.proofs.event.keep_errors.Goals as goal
 
 pub returns-else-number-eq0 : goal.returns-else-number-eq0

@@ -10,8 +10,6 @@ use Rattle.record_runs.proofs.Ready.{run_small}
 use Rattle.state_bytes.proofs.States.{state_sized, state_ready}
 use Rattle.state_bytes.proofs.calls.run_good.Goals as goal
 
--- ?? spec has 7 answers, 4 goals: card_in-requires run_all-requires settle-requires returns || card-in-requires run-all-requires settle-requires (λ c. search rules) (λ c. search rules) (λ c. search rules) returns
-
 pub card_in-requires : goal.card_in-requires
 card_in-requires c = state_sized c.args.state.now c.requires.0
 
