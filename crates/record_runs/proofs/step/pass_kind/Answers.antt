@@ -2,6 +2,7 @@
 use mathlib.Core.Path.{◌≡◌, refl, sym, ap, ◌∙◌}
 use mathlib.Core.List.{List, []}
 use Prim.Native.Nat.{ℕ, ◌+◌}
+use borrow.Author.Tests.{lt-leb}
 use Rattle.terms.specs.Refusal.{number_of}
 use Rattle.chip.specs.State.{Answer}
 use Rattle.chip.specs.Event.{Reset as ResetEvent, Acknowledge as AcknowledgeEvent}
@@ -9,7 +10,7 @@ use Rattle.chip.specs.Step.{given}
 use Rattle.chip.specs.Held.{state_in}
 use Rattle.chip.proofs.Held.{reset_done, acknowledge_done}
 use Rattle.error_memory.specs.Memory.{Card, card_with, kept_after, answer_with}
-use Rattle.record_runs.specs.Record.{Event, Reset, Acknowledge, kind_of, payload_of, answered_of, answer_of, data_of}
+use Rattle.record_runs.specs.Record.{Event, Reset, Acknowledge, Forget, kind_of, payload_of, answered_of, answer_of, data_of}
 use Rattle.record_runs.specs.Held.{Leaves}
 use Rattle.record_runs.proofs.step.pass_kind.Goals as goal
 
@@ -43,3 +44,14 @@ returns-in-Acknowledge c =
     (c.pass_bare-in-Acknowledge.ensures on Acknowledge (leaves Acknowledge refl (refl, refl)
     (λ bytes. ap (λ (x : Answer). (answer_with on a.card.memory AcknowledgeEvent x).card) e.ensures)
     (λ bytes. ap (λ (x : Answer). number_of x.refusal) (sym is))) file)
+
+pub returns-in-Forget : goal.returns-in-Forget
+returns-in-Forget c =
+    let a = c.args in
+    let on = given a.mode a.rule in
+    let s = state_in a.card.chip in
+    let ready = lt-leb 128 s.status c.requires.0 in
+    λ file same.
+    rw c.in-Forget.is
+    (c.pass_bare-in-Forget.ensures on Forget (leaves Forget refl (refl, refl)
+    (λ bytes. ap (card_with on s) c.empty-memory-in-Forget.ensures ∙ rw ready) (λ bytes. rw ready)) file)
