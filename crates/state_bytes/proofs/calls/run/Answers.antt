@@ -42,6 +42,13 @@ returns-then-input-gt-MOST_INPUT c =
     g.rule_is g.state_is c.if-input-gt-MOST_INPUT.true)
     (turned_away_lem InputTooLong _ a.state.now a.replies.now _ (t.0 ∙ n) (t.1 ∙ ap (λ (x : ℕ). report_of x 0 0) n))
 
+pub run_good-requires : goal.run_good-requires
+run_good-requires c =
+    let a = c.args in
+    let door : c.number-refusal.result ≡ number_of (door_of a.mode a.rule a.state.now) = c.number-refusal.ensures.0 ∙ ap number_of c.admit.ensures in
+    let g = admitted a.mode a.rule a.state.now (sym door ∙ c.if-refusal-ne0.false) in
+    (g.state_is, c.if-report-ne-REPORT_BYTES.false, c.if-input-gt-MOST_INPUT.false)
+
 pub returns-then-state-eq-STATE_BYTES : goal.returns-then-state-eq-STATE_BYTES
 returns-then-state-eq-STATE_BYTES c =
     let a = c.args in
