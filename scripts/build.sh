@@ -22,7 +22,8 @@ room() {
     return 1
 }
 
-# toolchain: which it is, and where its parts are: sets identity, kit, tools, parts (the C library's folder), clang, lld
+# toolchain: which it is, and where its parts are: sets identity (what rt version prints, without the fifth of a second that it
+# takes), kit, tools, parts (the C library's folder), clang, lld
 toolchain() {
     [ -z "${identity:-}" ] || return 0
     command -v rt >/dev/null 2>&1 || { say "rt, the command of the Rattle toolchain, is not on the PATH"; exit 1; }
@@ -31,7 +32,7 @@ toolchain() {
     parts=$kit/toolchain/lib
     clang=$tools/clang
     lld=$tools/ld.lld
-    identity=$(rt version)
+    identity=$(cat "$kit/KIT-ID") || identity=$(rt version)
 }
 
 # start PROGRAM ARGUMENT..: by the kit's loader
@@ -73,12 +74,13 @@ crate_of() {
 # contents [NAME..]: one number for all that these crates are proved and built from: the toolchain and the files of each
 # crate that they stand on; of all crates if none is named
 contents() {
+    toolchain
     resting=$(crates_of "$@")
     (
         cd "$top" || exit
         # shellcheck disable=SC2046
         {
-            echo "${identity:-$(rt version)}"
+            echo "$identity"
             echo "$resting"
             find $(echo "$resting" | sed 's|:.*||; s|^|crates/|') -type f ! -path '*/must-fail/*' ! -path '*/out/*' -exec sha256sum {} + 2>/dev/null | LC_ALL=C sort
         } | sha256sum
@@ -240,8 +242,8 @@ build() {
         unlock
         return 0
     fi
-    pinned=$(cat "$top/TOOLCHAIN" 2>/dev/null) || pinned=$(rt version)
-    [ "$pinned" = "$(rt version)" ] || say "this toolchain is '$(rt version)'; the proofs were made with '$pinned' and may fail with another"
+    pinned=$(cat "$top/TOOLCHAIN" 2>/dev/null) || pinned=$identity
+    [ "$pinned" = "$identity" ] || say "this toolchain is '$identity'; the proofs were made with '$pinned' and may fail with another"
     built_crate=$(crate_of "$built")
     built_on=$(crates_of "$built_crate" | cut -d: -f1)
     say "$built_name is built first: $(($(echo "$built_on" | wc -l))) crates, proved where they changed, which may take some minutes"
