@@ -1,4 +1,4 @@
--- Bytes laidAt over a list: what stands before, behind and in them; lines of the list. Assumes nothing.
+-- Bytes laid_at over a list: what stands before, behind and in them; lines of the list. Assumes nothing.
 use mathlib.Core.Path.{◌≡◌, refl, sym, ap, subst, ◌∙◌}
 use mathlib.Core.List.{List, [], ◌∷◌, ◌++◌, append_assoc}
 use Prim.Native.Nat.{ℕ, zero, suc, ◌+◌, ◌*◌, ◌-◌, ◌≤◌, ◌<◌}
