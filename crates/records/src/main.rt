@@ -19,7 +19,6 @@ use record_text::line::{Line, RECORD_ROOM, read_line};
 use record_text::record::{TEXT_ROOM, tell_record};
 use record_text::trace::{TRACE_ROOM, trace};
 use record_text::values::fault_number;
-use std::io;
 use terms::{Refusal, Rule};
 
 // The most bytes of records, and what is no number of bytes.
@@ -31,13 +30,15 @@ const STOPPED: usize = 20000;
 const TOO_LONG: u8 = 15;
 
 // Writes a blank and a number.
-fn write_field(out: &impl Print, n: u64) -> io::Result<()> {
+fn write_field(out: &impl Print, n: u64) -> std::io::Result<()> {
+    let mut digits = [0u8; 20];
+    let k = io::decimal(n, &mut digits);
     out.write_all(b" ")?;
-    out.print(n)
+    out.write_all(&digits[..k])
 }
 
 // Writes which line is wrong, from which place of it, counted from 0, and why.
-fn write_wrong(out: &impl Print, number: u64, place: usize, fault: u8) -> io::Result<()> {
+fn write_wrong(out: &impl Print, number: u64, place: usize, fault: u8) -> std::io::Result<()> {
     out.write_all(b"\nwrong")?;
     write_field(out, number)?;
     write_field(out, place as u64)?;
@@ -46,7 +47,7 @@ fn write_wrong(out: &impl Print, number: u64, place: usize, fault: u8) -> io::Re
 }
 
 // Writes before how many bytes a file of records stops, and why.
-fn write_stopped(out: &impl Print, at: usize, refusal: u8) -> io::Result<()> {
+fn write_stopped(out: &impl Print, at: usize, refusal: u8) -> std::io::Result<()> {
     out.write_all(b"\nstopped")?;
     write_field(out, at as u64)?;
     write_field(out, refusal as u64)?;
@@ -60,7 +61,7 @@ fn write_record(
     line: &[u8],
     number: u64,
     size: usize,
-) -> io::Result<usize>
+) -> std::io::Result<usize>
     requires { size ≤ 12288 }
     ensures { IfOk result (λ n. n ≤ 20000) }
 {
@@ -80,7 +81,7 @@ fn write_record(
 }
 
 // Writes the record of each line.
-fn write_records(out: &impl Print, rule: Rule, text: &[u8]) -> io::Result<()> {
+fn write_records(out: &impl Print, rule: Rule, text: &[u8]) -> std::io::Result<()> {
     let mut number: u64 = 0;
     let mut size = 0;
     let mut at = 0;
@@ -113,7 +114,7 @@ fn refusal_of(number: u16) -> u8 {
 
 // Writes the line of the record from one place to another, and answers the other one; where it has none it writes why,
 // and answers what is no place.
-fn write_framed(out: &impl Print, input: &[u8], at: usize, end: usize) -> io::Result<usize>
+fn write_framed(out: &impl Print, input: &[u8], at: usize, end: usize) -> std::io::Result<usize>
     requires { (at + 4 ≤ end) × (end ≤ at + 244) × (end ≤ length input.now) }
     ensures { IfOk result (λ n. (n ≡ 20000) ⊎ (n ≡ end)) }
 {
@@ -130,7 +131,7 @@ fn write_framed(out: &impl Print, input: &[u8], at: usize, end: usize) -> io::Re
 
 // Writes the line of the record at a place, and answers where the next one begins; where it has none it writes why, and
 // answers what is no place.
-fn write_next(out: &impl Print, input: &[u8], at: usize) -> io::Result<usize>
+fn write_next(out: &impl Print, input: &[u8], at: usize) -> std::io::Result<usize>
     requires { (at ≤ length input.now) × (length input.now ≤ most_input) }
     ensures { IfOk result (λ n. (n ≡ 20000) ⊎ ((at < n) × (n ≤ length input.now))) }
 {
@@ -145,7 +146,7 @@ fn write_next(out: &impl Print, input: &[u8], at: usize) -> io::Result<usize>
 }
 
 // Writes the line of each record, of a file that is not too long.
-fn write_texts(out: &impl Print, input: &[u8]) -> io::Result<()>
+fn write_texts(out: &impl Print, input: &[u8]) -> std::io::Result<()>
     requires { length input.now ≤ most_input }
 {
     let mut at = 0;
@@ -165,7 +166,7 @@ fn write_trace(
     first: &[u8],
     second: &[u8],
     input: &[u8],
-) -> io::Result<()> {
+) -> std::io::Result<()> {
     if words == 0 {
         return Ok(());
     }
@@ -175,14 +176,14 @@ fn write_trace(
 }
 
 // Writes the line of each record, or that the file is too long.
-fn write_lines(out: &impl Print, input: &[u8]) -> io::Result<()> {
+fn write_lines(out: &impl Print, input: &[u8]) -> std::io::Result<()> {
     if MOST_INPUT < input.len() {
         return write_stopped(out, 0, terms::number(Refusal::InputTooLong));
     }
     write_texts(out, input)
 }
 
-fn main(rt: HostRuntime) -> io::Result<()> {
+fn main(rt: HostRuntime) -> std::io::Result<()> {
     let mut name = [0u8; 16];
     let n = argument(&rt, 1, &mut name);
     let mut what = [0u8; 16];
