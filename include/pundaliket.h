@@ -1,11 +1,11 @@
 /*
  * Pundaliket: the data path of the Am9511A arithmetic chip, as a library for the card's firmware. C99 and C++17.
  *
- * `rt staticlib pundaliket` writes target/staticlib/libpundaliket.a, which links into x86-64 programs; `./archive` writes
- * it for other processors too (docs/CARD.md). The archive keeps no state between calls, takes no memory and exports the
- * functions declared here and nothing else.
+ * `./archive pundaliket x86-64 libpundaliket.a` writes the archive that links into x86-64 programs; for other processors it
+ * writes others (docs/CARD.md). The archive keeps no state between calls, takes no memory and exports the functions declared
+ * here and nothing else.
  * It asks of the program: nothing.
- * That is of the archive for x86-64 that `rt staticlib` writes; `./archive --list` says what each of the others asks.
+ * That is of the archive for x86-64; `./archive --list` says what each of the others asks.
  *
  * A slice is lent as a pointer and the number of bytes behind it. The number has 64 bits on every processor, as it has in
  * the proofs. The caller's duties are C's own: that many bytes are there, so that on a processor of 32 bits no slice has

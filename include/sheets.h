@@ -1,12 +1,12 @@
 /*
  * Module sheets: a second library above Pundaliket's core. C99 and C++17.
  *
- * `rt staticlib sheets` writes target/staticlib/libsheets.a, which links into x86-64 programs; `./archive` writes it for other
- * processors too (docs/CARD.md). It holds what it needs of the core, so that a program needs libpundaliket.a beside it only
- * for the calls of pundaliket.h; both link into one program, in either order. It keeps no state between calls, takes no
- * memory and exports the functions declared here and nothing else.
+ * `./archive sheets x86-64 libsheets.a` writes the archive that links into x86-64 programs; for other processors it writes
+ * others (docs/CARD.md). It holds what it needs of the core, so that a program needs libpundaliket.a beside it only for the
+ * calls of pundaliket.h; both link into one program, in either order. It keeps no state between calls, takes no memory and
+ * exports the functions declared here and nothing else.
  * It asks of the program: nothing.
- * That is of the archive for x86-64 that `rt staticlib` writes; `./archive --list` says what each of the others asks.
+ * That is of the archive for x86-64; `./archive --list` says what each of the others asks.
  *
  * A slice is lent as a pointer and the number of bytes behind it. The number has 64 bits on every processor, as it has in
  * the proofs. The caller's duties are C's own: that many bytes are there, so that on a processor of 32 bits no slice has
