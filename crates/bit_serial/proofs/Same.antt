@@ -2,6 +2,7 @@
 -- digits with its mark stands for the fraction under either rule. Assumes nothing.
 use mathlib.Core.Path.{◌≡◌, refl, sym, ap, ◌∙◌, subst, subst₂}
 use mathlib.Core.Logic.{◌⊎◌, inl, inr, ⊎_elim}
+use Rattle.std.proofs.Common.{Err}
 use mathlib.Core.Bool.{Bool, true, false, not, ◌&&◌, cond}
 use Prim.Native.Nat.{ℕ, ◌+◌, ◌-◌, ◌*◌, ◌/◌, ◌%◌, ◌^◌, ◌≤◌, ◌<◌}
 use native.Mathlib.Nat.{lt_of_le_of_lt, lt_of_lt_of_le, mul_assoc, mul-pos, mul-mul-mul_comm, div-add-mod', mod-lt, le-div_iff_mul-le, zero-mod, pos_of_ne-zero}
@@ -31,9 +32,7 @@ use Rattle.float.proofs.cut.Jams.{Stands, stands_cut}
 use Rattle.float.proofs.product.ProductCut.{stands_scale, stands_of}
 use Rattle.float.proofs.cut.Signs.{cut_sign}
 use Rattle.float.proofs.word.Proper.{proper_norm}
-use Rattle.bit_serial.specs.declared.Answer.{Answer}
-use Rattle.bit_serial.specs.declared.Answer.TheVariants.{Word, Refused}
-use Rattle.bit_serial.specs.Answer.{steps_in}
+use Rattle.bit_serial.specs.Answer.{Answer, worked, steps_in}
 use Rattle.bit_serial.specs.Engine.{sizes_multiplied, sizes_divided, signed_for, least_answer, mul_answer, muu_answer, div_answer, after}
 use Rattle.bit_serial.specs.Engine.{float_signed, marked, mantissas_multiplied, mantissas_divided, fmul_answer, fdiv_answer}
 use Rattle.bit_serial.proofs.Products.{whole}
@@ -51,17 +50,17 @@ module _ (h n b a : ℕ) (W : Words h b a) (N : h < 2 ^ n) where
       ap (signed_for h b a) (whole n (magnitude_at h b) (magnitude_at h a) (lt_of_le_of_lt (size-le h a W.right) N)) ∙ sym (exact_product_lem h b a W)
 
   -- the row of a least operand, and the general one: a word and an error that both engines make of the exact result
-  row : (t : Bool) (word error : ℤ → ℕ) (k : ℕ) {x y : ℤ} → x ≡ y → cond t (least_answer h) (Word (word x) (error x) k)
-      ≡ Word (cond t (outcome h 1 false) (outcome (word y) (error y) false)).word (cond t (outcome h 1 false) (outcome (word y) (error y) false)).error
-      (steps_in (cond t (least_answer h) (Word (word x) (error x) k)))
+  row : (t : Bool) (word error : ℤ → ℕ) (k : ℕ) {x y : ℤ} → x ≡ y → cond t (least_answer h) (worked (word x) (error x) k)
+      ≡ worked (cond t (outcome h 1 false) (outcome (word y) (error y) false)).word (cond t (outcome h 1 false) (outcome (word y) (error y) false)).error
+      (steps_in (cond t (least_answer h) (worked (word x) (error x) k)))
   row true word error k e = refl
-  row false word error k e = λ i. Word (word (e i)) (error (e i)) k
+  row false word error k e = λ i. worked (word (e i)) (error (e i)) k
 
-  pub same_mul : mul_answer h n b a ≡ Word (mul h b a).word (mul h b a).error (steps_in (mul_answer h n b a))
+  pub same_mul : mul_answer h n b a ≡ worked (mul h b a).word (mul h b a).error (steps_in (mul_answer h n b a))
   unfolding mul_answer mul
   same_mul = row (either_least h b a) (low h) (λ z. overflow_if (not (fits h z))) (sizes_multiplied h n b a).steps product_is
 
-  pub same_muu : muu_answer h n b a ≡ Word (muu h b a).word (muu h b a).error (steps_in (muu_answer h n b a))
+  pub same_muu : muu_answer h n b a ≡ worked (muu h b a).word (muu h b a).error (steps_in (muu_answer h n b a))
   unfolding muu_answer muu
   same_muu = row (either_least h b a) (λ z. low h (shr_z z (2 * h))) (λ z. 0) (sizes_multiplied h n b a).steps product_is
 
@@ -75,18 +74,18 @@ module _ (h n b a : ℕ) (W : Words h b a) (N : h < 2 ^ n) where
   quotient_is : (a ≡ 0 → ⊥) → signed_for h b a (sizes_divided h n b a).quotient ≡ quot_z (signed h b) (signed h a)
   quotient_is z = ap (signed_for h b a) (both n (magnitude_at h b) (magnitude_at h a) (divisor_some z) (dividend_below z)).0 ∙ sym (exact_quotient h b a W)
 
-  pub same_div : div_answer h n b a ≡ Word (div h b a).word (div h b a).error (steps_in (div_answer h n b a))
+  pub same_div : div_answer h n b a ≡ worked (div h b a).word (div h b a).error (steps_in (div_answer h n b a))
   unfolding div_answer div
   same_div = go (eqb a 0) (eqb-false a 0)
     where
       general : Answer
-      general = cond (either_least h b a) (least_answer h) (Word (low h (signed_for h b a (sizes_divided h n b a).quotient)) 0 (n - (sizes_divided h n b a).left))
+      general = cond (either_least h b a) (least_answer h) (worked (low h (signed_for h b a (sizes_divided h n b a).quotient)) 0 (n - (sizes_divided h n b a).left))
 
       first : Fixed
       first = cond (either_least h b a) (outcome h 1 false) (outcome (low h (quot_z (signed h b) (signed h a))) 0 false)
 
-      go : (o : Bool) → (o ≡ false → a ≡ 0 → ⊥) → cond o (Word b 8 0) general ≡ Word (cond o (outcome b 8 false) first).word
-          (cond o (outcome b 8 false) first).error (steps_in (cond o (Word b 8 0) general))
+      go : (o : Bool) → (o ≡ false → a ≡ 0 → ⊥) → cond o (worked b 8 0) general ≡ worked (cond o (outcome b 8 false) first).word
+          (cond o (outcome b 8 false) first).error (steps_in (cond o (worked b 8 0) general))
       go true z = refl
       go false z = row (either_least h b a) (low h) (λ x. 0) (n - (sizes_divided h n b a).left) (quotient_is (z refl))
 
@@ -102,8 +101,8 @@ exactly : (b a : ℕ) → float_signed b a ((mantissas_multiplied b a).partial *
 unfolding value
 exactly b a = ap (float_signed b a) (sizes_multiplied_lem b a) ∙ sym (times (negative b) (negative a) (size88 b) (size88 a))
 
-pub same_fmul : (rule : Rule) (b a : ℕ) → fmul_answer rule b a ≡ cond (proper b && proper a) (Word (fmul rule b a).word (fmul rule b a).error
-    (steps_in (fmul_answer rule b a))) (Refused Improper)
+pub same_fmul : (rule : Rule) (b a : ℕ) → fmul_answer rule b a ≡ cond (proper b && proper a) (worked (fmul rule b a).word (fmul rule b a).error
+    (steps_in (fmul_answer rule b a))) (Err Improper)
 unfolding fmul_answer fmul
 same_fmul rule b a = go (proper b && proper a)
   where
@@ -116,8 +115,8 @@ same_fmul rule b a = go (proper b && proper a)
     first : Flagged
     first = cut rule (value b *ℤ value a) (2 ^ 176)
 
-    go : (t : Bool) → cond t (after k mine) (Refused Improper) ≡ cond t (Word first.word first.error (steps_in (cond t (after k mine) (Refused Improper))))
-        (Refused Improper)
+    go : (t : Bool) → cond t (after k mine) (Err Improper) ≡ cond t (worked first.word first.error (steps_in (cond t (after k mine) (Err Improper))))
+        (Err Improper)
     go true = ap (λ (z : ℤ). after k (cut rule z (2 ^ 176))) (exactly b a)
     go false = refl
 
@@ -214,8 +213,8 @@ module _ (rule : Rule) (b a : ℕ) (P : (proper b && proper a) ≡ true) where
       ∙ sym (cut_sign rule s (size88 b) (size88 a) ∙ stands_cut rule s (size88 b * 2 ^ 200) (size88 a) t x (mul-pos N (pow_pos (biased a)))
       (stands (mantissa b) (mantissa a) (biased b) (biased a) t N n24 (proper_norm b left_proper) j M))
 
-pub same_fdiv : (rule : Rule) (b a : ℕ) → fdiv_answer rule b a ≡ cond (proper b && proper a) (Word (fdiv rule b a).word (fdiv rule b a).error
-    (steps_in (fdiv_answer rule b a))) (Refused Improper)
+pub same_fdiv : (rule : Rule) (b a : ℕ) → fdiv_answer rule b a ≡ cond (proper b && proper a) (worked (fdiv rule b a).word (fdiv rule b a).error
+    (steps_in (fdiv_answer rule b a))) (Err Improper)
 unfolding fdiv_answer fdiv
 same_fdiv rule b a = go (proper b && proper a) (λ p. quotient_cut rule b a p) (eqb (mantissa a) 0) (eqb-false (mantissa a) 0)
   where
@@ -232,9 +231,9 @@ same_fdiv rule b a = go (proper b && proper a) (λ p. quotient_cut rule b a p) (
     none = record { word = b; error = 8 }
 
     go : (t : Bool) → (t ≡ true → (mantissa a ≡ 0 → ⊥) → mine ≡ first) → (o : Bool) → (o ≡ false → mantissa a ≡ 0 → ⊥)
-        → cond t (cond o (Word b 8 0) (after k mine)) (Refused Improper)
-        ≡ cond t (Word (cond o none first).word (cond o none first).error (steps_in (cond t (cond o (Word b 8 0) (after k mine)) (Refused Improper))))
-        (Refused Improper)
+        → cond t (cond o (worked b 8 0) (after k mine)) (Err Improper)
+        ≡ cond t (worked (cond o none first).word (cond o none first).error (steps_in (cond t (cond o (worked b 8 0) (after k mine)) (Err Improper))))
+        (Err Improper)
     go true f true z = refl
     go true f false z = ap (after k) (f refl (z refl))
     go false f true z = refl

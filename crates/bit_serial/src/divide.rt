@@ -12,51 +12,51 @@ pub struct Division {
     pub left: u32,
 }
 
-// Before the first step.
-pub fn begun(v: u64, most: u32) -> Division
-    ensures { result ≡ begun v most }
-{
-    Division {
-        quotient: 0,
-        rest: v,
-        left: most,
+impl Division {
+    // Before the first step.
+    pub fn begun(v: u64, most: u32) -> Division
+        ensures { result ≡ begun v most }
+    {
+        Division {
+            quotient: 0,
+            rest: v,
+            left: most,
+        }
     }
-}
 
-// One step: d, at the place of the next digit, is taken away where it goes, and then that digit is 1.
-pub fn subtracted(d: u64, s: Division) -> Division
-    requires { Places d s }
-    ensures { result ≡ subtracted d s }
-{
-    let quotient = s.quotient;
-    let rest = s.rest;
-    let place = s.left - 1;
-    let shifted = d << place;
-    if shifted <= rest {
-        return Division {
-            quotient: quotient + (1u64 << place),
-            rest: rest - shifted,
+    // One step: d, at the place of the next digit, is taken away where it goes, and then that digit is 1.
+    pub fn subtracted(self, d: u64) -> Division
+        requires { Places d self }
+        ensures { result ≡ subtracted d self }
+    {
+        let place = self.left - 1;
+        let shifted = d << place;
+        if shifted <= self.rest {
+            return Division {
+                quotient: self.quotient + (1u64 << place),
+                rest: self.rest - shifted,
+                left: place,
+            };
+        }
+        Division {
             left: place,
-        };
-    }
-    Division {
-        quotient,
-        rest,
-        left: place,
+            ..self
+        }
     }
 }
 
 // The steps of v over d, at most so many, fewer where no bits remain.
 pub fn divided(v: u64, d: u64, most: u32) -> Division
     requires { (d < 2 ^ 32) × (most ≤ 32) }
-    ensures { result ≡ division most v d }
+    ensures division { result ≡ division most v d }
+    ensures digits { (result.left ≤ most) × (result.quotient ≤ 2 ^ most) }
 {
-    let mut s = begun(v, most);
-    'bits: while 0 < s.left {
+    let mut s = Division::begun(v, most);
+    'bits: for _ in 0..most {
         if s.rest == 0 {
             break 'bits;
         }
-        s = subtracted(d, s);
+        s = s.subtracted(d);
     }
     s
 }

@@ -1,9 +1,8 @@
 // FMUL and FDIV, by sign, exponent and mantissa: the mantissas a bit at a time, then the one cut.
-ghost use Rattle.std.specs.Prelude.{◌≡◌, ◌&&◌, ◌≤◌, ◌^◌};
-ghost use Rattle.float.specs.Word.{proper};
-ghost use Rattle.bit_serial.specs.Engine.{marked, fmul_answer, fdiv_answer};
+ghost use Rattle.std.specs.Prelude.{◌≡◌, ◌≤◌, ◌<◌, ◌^◌, IfOk};
+ghost use Rattle.bit_serial.specs.Engine.{marked, mantissas_of, fmul_answer, fdiv_answer};
 
-use super::Answer;
+use super::Worked;
 use super::divide::divided;
 use super::multiply::multiplied;
 use float::cut::cut_word;
@@ -20,29 +19,32 @@ const PRODUCT_UNIT: u32 = 24;
 // A unit of a quotient's digits and its mark is so many places above the fine unit: 200 - 26.
 const QUOTIENT_UNIT: u32 = 174;
 
-// Whether both operands are proper.
-pub fn both_proper(b: u32, a: u32) -> bool
-    ensures { result ≡ (proper b && proper a) }
+// The mantissas of both operands, each of which must be proper.
+pub fn mantissas(b: u32, a: u32) -> Result<(u64, u64), Refusal>
+    ensures mantissas { result ≡ mantissas_of b a }
+    ensures small { IfOk result (λ p. (p.0 < 2 ^ 24) × (p.1 < 2 ^ 24)) }
 {
-    if is_proper(b) { is_proper(a) } else { false }
+    if is_proper(b) && is_proper(a) {
+        return Ok((mantissa_of(b), mantissa_of(a)));
+    }
+    Err(Refusal::Improper)
 }
 
 // FMUL: B x A.
-pub fn fmul(rule: Rule, b: u32, a: u32) -> Answer
+#[tactic(auto, unfolding(crate::specs::Engine::fmul_answer))]
+pub fn fmul(rule: Rule, b: u32, a: u32) -> Result<Worked, Refusal>
     ensures { result ≡ fmul_answer rule b a }
 {
-    if !both_proper(b, a) {
-        return Answer::Refused(Refusal::Improper);
-    }
-    let p = multiplied(mantissa_of(b), mantissa_of(a), MANTISSA_BITS);
+    let (x, y) = mantissas(b, a)?;
+    let p = multiplied(x, y, MANTISSA_BITS);
     let neg = is_negative(b) != is_negative(a);
-    let x = biased_of(b) + biased_of(a) + PRODUCT_UNIT;
-    let r = cut_word(rule, neg, p.partial, x);
-    Answer::Word {
+    let place = biased_of(b) + biased_of(a) + PRODUCT_UNIT;
+    let r = cut_word(rule, neg, p.partial, place);
+    Ok(Worked {
         word: r.word,
         error: r.error,
         steps: p.steps,
-    }
+    })
 }
 
 // The digits of a quotient and one more, 1 where a rest is left.
@@ -50,35 +52,30 @@ fn mark(quotient: u64, rest: u64) -> u64
     requires { quotient ≤ 2 ^ 26 }
     ensures { result ≡ marked quotient rest }
 {
-    if rest == 0 {
-        return 2 * quotient;
-    }
-    2 * quotient + 1
+    2 * quotient + u64::from(rest != 0)
 }
 
 // FDIV: B / A, or B and divide by zero.
-pub fn fdiv(rule: Rule, b: u32, a: u32) -> Answer
+#[tactic(auto, unfolding(crate::specs::Engine::fdiv_answer))]
+pub fn fdiv(rule: Rule, b: u32, a: u32) -> Result<Worked, Refusal>
     ensures { result ≡ fdiv_answer rule b a }
 {
-    if !both_proper(b, a) {
-        return Answer::Refused(Refusal::Improper);
-    }
-    let d = mantissa_of(a);
-    if d == 0 {
-        return Answer::Word {
+    let (x, y) = mantissas(b, a)?;
+    if y == 0 {
+        return Ok(Worked {
             word: b,
             error: terms::DIVIDE_BY_ZERO,
             steps: 0,
-        };
+        });
     }
-    let s = divided(mantissa_of(b) << (QUOTIENT_DIGITS - 1), d, QUOTIENT_DIGITS);
+    let s = divided(x << (QUOTIENT_DIGITS - 1), y, QUOTIENT_DIGITS);
     let t = mark(s.quotient, s.rest);
     let neg = is_negative(b) != is_negative(a);
-    let x = biased_of(b) + QUOTIENT_UNIT - biased_of(a);
-    let r = cut_word(rule, neg, t, x);
-    Answer::Word {
+    let place = biased_of(b) + QUOTIENT_UNIT - biased_of(a);
+    let r = cut_word(rule, neg, t, place);
+    Ok(Worked {
         word: r.word,
         error: r.error,
         steps: QUOTIENT_DIGITS - s.left,
-    }
+    })
 }

@@ -13,44 +13,40 @@ pub struct Product {
     pub steps: u32,
 }
 
-// Before the first step.
-pub fn begun(y: u64) -> Product
-    ensures { result ≡ begun y }
-{
-    Product {
-        partial: 0,
-        left: y,
-        steps: 0,
+impl Product {
+    // Before the first step.
+    pub fn begun(y: u64) -> Product
+        ensures { result ≡ begun y }
+    {
+        Product {
+            partial: 0,
+            left: y,
+            steps: 0,
+        }
     }
-}
 
-// One step: x is added, as many places up as steps were made, where the last bit left is set.
-pub fn added(x: u64, p: Product) -> Product
-    requires { AddsUp x p }
-    ensures { result ≡ added x p }
-{
-    let partial = p.partial;
-    let left = p.left;
-    let steps = p.steps;
-    if left % 2 == 1 {
-        return Product {
-            partial: partial + (x << steps),
-            left: left / 2,
-            steps: steps + 1,
-        };
+    // One step: x is added, as many places up as steps were made, where the last bit left is set.
+    pub fn added(self, x: u64) -> Product
+        requires { AddsUp x self }
+        ensures { result ≡ added x self }
+    {
+        let mut partial = self.partial;
+        if self.left % 2 == 1 {
+            partial += x << self.steps;
+        }
+        Product {
+            partial,
+            left: self.left / 2,
+            steps: self.steps + 1,
+        }
     }
-    Product {
-        partial,
-        left: left / 2,
-        steps: steps + 1,
-    }
-}
 
-// How many bits a number has, none above the highest that is set.
-pub fn bits_in(left: u64) -> u32
-    ensures { (result ≡ size left) × (result ≤ 64) }
-{
-    64 - u64::leading_zeros(left)
+    // How many bits of the multiplier are left, none above the highest that is set.
+    pub fn bits_left(self) -> u32
+        ensures { (result ≡ size self.left) × (result ≤ 64) }
+    {
+        64 - self.left.leading_zeros()
+    }
 }
 
 // The steps of x times y, at most so many, fewer where no bits remain.
@@ -58,12 +54,12 @@ pub fn multiplied(x: u64, y: u64, most: u32) -> Product
     requires { (x < 2 ^ 32) × (most ≤ 32) }
     ensures { result ≡ product most x y }
 {
-    let mut p = begun(y);
-    'bits: while p.steps < most {
+    let mut p = Product::begun(y);
+    'bits: for _ in 0..most {
         if p.left == 0 {
             break 'bits;
         }
-        p = added(x, p);
+        p = p.added(x);
     }
     p
 }

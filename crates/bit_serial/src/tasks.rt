@@ -1,83 +1,87 @@
 // What the steps of an operation work on, for whoever wants to see them one by one.
-ghost use Rattle.std.specs.Prelude.{◌≡◌, ◌≤◌, ◌<◌};
-ghost use Rattle.fixed.specs.Parts.{Words};
-ghost use Rattle.bit_serial.specs.Work.{Operands, Narrow, sizes_task, mantissas_task, task_of};
+ghost use Rattle.std.specs.Prelude.{◌≡◌};
+ghost use Rattle.bit_serial.specs.Work.{Operands, Narrow, mul_task, div_task, fmul_task, fdiv_task, task_of};
 
-use super::floats::{MANTISSA_BITS, QUOTIENT_DIGITS, both_proper};
-use super::{Operation, bits_of, half_of, width_of};
-use fixed::parts::{either_least, magnitude};
-use float::word::mantissa_of;
+use super::Operation;
+use super::floats::{MANTISSA_BITS, QUOTIENT_DIGITS, mantissas};
+use super::words::Words;
 
-// No steps; x times y, or v over d, in at most so many.
+// x times y, or v over d, in at most so many steps.
 #[derive(Clone, Copy)]
 pub enum Task {
-    Nothing,
     Multiply { x: u64, y: u64, most: u32 },
     Divide { v: u64, d: u64, most: u32 },
 }
 
-// The magnitudes of two words multiplied or divided, unless a row names them.
-fn sizes(h: u32, n: u32, b: u32, a: u32, over: bool) -> Task
-    requires { Words h b a × (n ≤ 32) }
-    ensures { (result ≡ sizes_task over h n b a) × Narrow result }
+// MUL and MUU: the magnitudes multiplied, unless a row names the words.
+#[tactic(auto, unfolding(crate::specs::Work::mul_task))]
+fn product_of(words: Words) -> Option<Task>
+    ensures { (result ≡ mul_task words.half words.bits words.b words.a) × Narrow result }
 {
-    if either_least(h, b, a) {
-        return Task::Nothing;
-    }
-    let x = magnitude(h, b);
-    let y = magnitude(h, a);
-    if !over {
-        return Task::Multiply { x, y, most: n };
-    }
-    if a == 0 {
-        return Task::Nothing;
-    }
-    Task::Divide {
-        v: x,
-        d: y,
-        most: n,
-    }
+    let (x, y) = words.sizes()?;
+    Some(Task::Multiply {
+        x,
+        y,
+        most: words.bits,
+    })
 }
 
-// The mantissas of two words multiplied or divided, unless they are refused or the divisor is zero.
-fn mantissas(b: u32, a: u32, over: bool) -> Task
-    ensures { (result ≡ mantissas_task over b a) × Narrow result }
+// DIV: the magnitudes divided, unless a row names the words.
+#[tactic(auto, unfolding(crate::specs::Work::div_task))]
+fn quotient_of(words: Words) -> Option<Task>
+    ensures { (result ≡ div_task words.half words.bits words.b words.a) × Narrow result }
 {
-    if !both_proper(b, a) {
-        return Task::Nothing;
+    let (x, y) = words.sizes()?;
+    if words.a == 0 {
+        return None;
     }
-    let x = mantissa_of(b);
-    let y = mantissa_of(a);
-    if !over {
-        return Task::Multiply {
-            x,
-            y,
-            most: MANTISSA_BITS,
-        };
-    }
+    Some(Task::Divide {
+        v: x,
+        d: y,
+        most: words.bits,
+    })
+}
+
+// FMUL: the mantissas multiplied, unless an operand is refused.
+#[tactic(auto, unfolding(crate::specs::Work::fmul_task))]
+fn float_product_of(b: u32, a: u32) -> Option<Task>
+    ensures { (result ≡ fmul_task b a) × Narrow result }
+{
+    let (x, y) = mantissas(b, a).ok()?;
+    Some(Task::Multiply {
+        x,
+        y,
+        most: MANTISSA_BITS,
+    })
+}
+
+// FDIV: the mantissas divided, unless an operand is refused or the divisor is zero.
+#[tactic(auto, unfolding(crate::specs::Work::fdiv_task))]
+fn float_quotient_of(b: u32, a: u32) -> Option<Task>
+    ensures { (result ≡ fdiv_task b a) × Narrow result }
+{
+    let (x, y) = mantissas(b, a).ok()?;
     if y == 0 {
-        return Task::Nothing;
+        return None;
     }
-    Task::Divide {
+    Some(Task::Divide {
         v: x << (QUOTIENT_DIGITS - 1),
         d: y,
         most: QUOTIENT_DIGITS,
-    }
+    })
 }
 
-// What the steps of an operation on B and A work on.
-pub fn task_of(operation: Operation, b: u32, a: u32) -> Task
-    requires { Operands operation b a }
-    ensures { (result ≡ task_of operation b a) × Narrow result }
-{
-    let width = width_of(operation);
-    let h = half_of(width);
-    let n = bits_of(width);
-    match operation {
-        Operation::Mul(_) => sizes(h, n, b, a, false),
-        Operation::Muu(_) => sizes(h, n, b, a, false),
-        Operation::Div(_) => sizes(h, n, b, a, true),
-        Operation::Fmul => mantissas(b, a, false),
-        Operation::Fdiv => mantissas(b, a, true),
+impl Operation {
+    // What the steps of the operation on B and A work on, or nothing where none is made.
+    pub fn task(self, b: u32, a: u32) -> Option<Task>
+        requires { Operands self b a }
+        ensures { (result ≡ task_of self b a) × Narrow result }
+    {
+        match self {
+            Operation::Mul(width) | Operation::Muu(width) => product_of(Words::of(width, b, a)),
+            Operation::Div(width) => quotient_of(Words::of(width, b, a)),
+            Operation::Fmul => float_product_of(b, a),
+            Operation::Fdiv => float_quotient_of(b, a),
+        }
     }
 }

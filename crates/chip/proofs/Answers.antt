@@ -3,7 +3,7 @@ use mathlib.Core.Path.{◌≡◌, sym, ap, ◌∙◌}
 use mathlib.Core.Bool.{Bool, true, false}
 use Prim.Native.Nat.{ℕ, ◌%◌, ◌≤◌, ◌<◌}
 use borrow.Author.Tests.{le-leb, lt-leb}
-use Rattle.terms.specs.declared.Refusal.TheVariants.{HalfWord, Improper, BadState}
+use Rattle.terms.specs.declared.Refusal.TheVariants.{BadState}
 use Rattle.terms.specs.declared.Rule.{Rule}
 use Rattle.codes.specs.Command.{Command}
 use Rattle.codes.specs.Command.{Kind}
@@ -23,14 +23,6 @@ module _ (s : State) {a : Answer} (x : Answer) where
   when_ready h e = e ∙ rw (lt-leb 128 s.status h)
 
 module _ (rule : Rule) (s : State) (service : Bool) (k : Command) {a : Answer} where
-  pub carried_half : s.pending ≡ true → a ≡ refused HalfWord s → a ≡ carried rule s service k
-  unfolding carried
-  carried_half p e = e ∙ rw p
-
-  pub carried_improper : s.pending ≡ false → proper_operands k s.stack ≡ false → a ≡ refused Improper s → a ≡ carried rule s service k
-  unfolding carried
-  carried_improper p f e = e ∙ rw (p, f)
-
   pub carried_done : {o : CommandOutcome} → s.pending ≡ false → proper_operands k s.stack ≡ true → o ≡ outcome_of rule k s.stack
       → a ≡ done 0 (settled s service o) → a ≡ carried rule s service k
   unfolding carried

@@ -1,10 +1,8 @@
 -- What the program's structs stand for: its state and its answer, and what became of a command on a stack. Definitions only. Assumes nothing.
-use Rattle.std.specs.Prelude.{ℕ, ◌*◌, ◌/◌, ◌%◌, ◌<◌, ◌≡◌, ◌⊎◌, Bool, true, false, cond, not, List, eqb, ltb}
+use Rattle.std.specs.Prelude.{ℕ, ◌%◌, ◌≡◌, Bool, cond, not, List, eqb, Result, Ok, Err}
 use Rattle.terms.specs.declared.Refusal.{Refusal}
 use Rattle.terms.specs.declared.Refusal.TheVariants.{UnknownCode, DerivedCode, HalfWord, Improper}
-use Rattle.terms.specs.Refusal.{number_of}
 use Rattle.terms.specs.declared.Rule.{Rule}
-use Rattle.terms.specs.declared.Width.{Width}
 use Rattle.fixed.specs.declared.Fixed.{Fixed}
 use Rattle.fixed.specs.Fixed.{add, sub, mul, muu, div, chs}
 use Rattle.stack.specs.declared.Stack.{Stack}
@@ -12,13 +10,12 @@ use Rattle.stack.specs.Words.{bytes_in}
 use Rattle.codes.specs.declared.FixedOp.{FixedOp}
 use Rattle.codes.specs.declared.FixedOp.TheVariants.{Add, Sub, Mul, Muu, Div, Chs}
 use Rattle.codes.specs.Command.{Command, Kind, Known, Derived, Unknown}
-use Rattle.codes.specs.Codes.{sr}
+use Rattle.codes.specs.Codes.{decoded}
 use Rattle.chip.specs.declared.State.{State as Held}
 use Rattle.chip.specs.declared.Answer.{Answer as HeldAnswer}
-use Rattle.chip.specs.declared.commands.Obeyed.{Obeyed}
-use Rattle.chip.specs.State.{State, Answer, CommandOutcome, left, settled}
-use Rattle.chip.specs.Commands.{word_a, word_b, half_of, outcome_of, proper_operands}
-use Rattle.chip.specs.Step.{done, refused, command_under}
+use Rattle.chip.specs.declared.commands.Outcome.{Outcome}
+use Rattle.chip.specs.State.{State, Answer, CommandOutcome, left}
+use Rattle.chip.specs.Commands.{outcome_of, proper_operands}
 
 -- a state of its parts
 abbrev pub held : List ℕ → Bool → ℕ → Bool → State
@@ -38,12 +35,20 @@ flipped n pending = cond (eqb (n % 2) 1) (not pending) pending
 abbrev pub block_moved : Held → ℕ → List ℕ → State
 block_moved s n stack = held stack (flipped n s.pending) s.status s.service
 
--- ---- a command on a stack: the stack that it leaves, and one number, the status or 256 times the refusal
--- accepted, with this outcome
-abbrev pub Settles : CommandOutcome → Obeyed → Type 0
-Settles out o = (left (bytes_in o.stack) o.answer ≡ out) × (o.answer < 256)
+-- ---- a command on a stack: what it leaves, or its refusal
+abbrev pub outcome_in : Outcome → CommandOutcome
+outcome_in o = left (bytes_in o.stack) o.status
 
--- the result of a fixed-point operation over half of the number of words, and that on a stack
+abbrev pub became : Result Outcome Refusal → Result CommandOutcome Refusal
+became (Ok o) = Ok (outcome_in o)
+became (Err refusal) = Err refusal
+
+-- a command that leaves its stack where it stood, and answers with the status
+abbrev pub left_by : Stack → Result ℕ Refusal → Result CommandOutcome Refusal
+left_by stack (Ok status) = Ok (left (bytes_in stack) status)
+left_by stack (Err refusal) = Err refusal
+
+-- the result of a fixed-point operation over half of the number of words
 abbrev pub result_of : FixedOp → ℕ → ℕ → ℕ → Fixed
 result_of Add h b a = add h b a
 result_of Sub h b a = sub h b a
@@ -52,24 +57,23 @@ result_of Muu h b a = muu h b a
 result_of Div h b a = div h b a
 result_of Chs h b a = chs h a
 
-abbrev pub fixed_of : FixedOp → Width → List ℕ → Fixed
-fixed_of op w s = result_of op (half_of w) (word_b w s) (word_a w s)
-
--- accepted, its operands asked for nothing or proper, with the same outcome under either rule
-abbrev pub SettlesEither : Command → Stack → Obeyed → Type 0
-SettlesEither command s o = (rule : Rule) → (proper_operands command (bytes_in s) ≡ true) × Settles (outcome_of rule command (bytes_in s)) o
-
 -- with nothing pending: accepted where its operands are proper, else 4
-abbrev pub Obeys : Rule → Command → Stack → Obeyed → Type 0
-Obeys rule command s o =
-    ((proper_operands command (bytes_in s) ≡ true) × Settles (outcome_of rule command (bytes_in s)) o)
-    ⊎ ((proper_operands command (bytes_in s) ≡ false) × (o.answer ≡ number_of Improper * 256))
+abbrev pub obeyed_of : Rule → Command → List ℕ → Result CommandOutcome Refusal
+obeyed_of rule command s = cond (proper_operands command s) (Ok (outcome_of rule command s)) (Err Improper)
+
+-- the same under either rule
+abbrev pub ObeysEither : Command → Stack → Result Outcome Refusal → Type 0
+ObeysEither command s o = (rule : Rule) → became o ≡ obeyed_of rule command (bytes_in s)
+
+-- accepted, its operands asked for nothing, with the same outcome under either rule
+abbrev pub LeavesEither : Command → Stack → Outcome → Type 0
+LeavesEither command s o = ObeysEither command s (Ok o)
 
 -- what a code stands for, with nothing pending
-abbrev pub Performs : Rule → Kind → Stack → Obeyed → Type 0
-Performs rule (Known command) s o = Obeys rule command s o
-Performs rule Derived s o = o.answer ≡ number_of DerivedCode * 256
-Performs rule Unknown s o = o.answer ≡ number_of UnknownCode * 256
+abbrev pub performed_of : Rule → Kind → List ℕ → Result CommandOutcome Refusal
+performed_of rule (Known command) s = obeyed_of rule command s
+performed_of rule Derived s = Err DerivedCode
+performed_of rule Unknown s = Err UnknownCode
 
 -- the refusal of a code with a half word pending
 abbrev pub half_word : Kind → Refusal
@@ -77,16 +81,7 @@ half_word (Known command) = HalfWord
 half_word Derived = DerivedCode
 half_word Unknown = UnknownCode
 
--- the refusal of a command by its number, 1 to 4
-abbrev pub refusal_numbered : ℕ → Refusal
-refusal_numbered n = cond (eqb n 1) UnknownCode (cond (eqb n 2) DerivedCode (cond (eqb n 3) HalfWord Improper))
-
--- the answer to a code that became so
-abbrev pub answer_as : State → ℕ → Obeyed → Answer
-answer_as s code o =
-    cond (ltb o.answer 256) (done 0 (settled s (sr code) (left (bytes_in o.stack) o.answer))) (refused (refusal_numbered (o.answer / 256)) s)
-
--- a code on a stack, whatever stands beside it but pending and busy
-abbrev pub Commanded : Rule → Bool → ℕ → Stack → Obeyed → Type 0
-Commanded rule pending code stack o =
-    (s : State) → s.stack ≡ bytes_in stack → s.pending ≡ pending → s.status < 128 → answer_as s code o ≡ command_under rule s code
+-- a code on a stack, whatever stands beside it but pending
+abbrev pub commanded_of : Rule → Bool → ℕ → List ℕ → Result CommandOutcome Refusal
+commanded_of rule pending code s =
+    cond pending (Err (half_word (decoded (code % 128)))) (performed_of rule (decoded (code % 128)) s)

@@ -11,7 +11,7 @@ use lib.Dec.{eqb}
 use borrow.Author.Tests.{eq-eqb, ne_eqb}
 use Rattle.terms.specs.declared.Width.{Width}
 use Rattle.terms.specs.declared.Width.TheVariants.{Single, Double}
-use Rattle.codes.specs.Command.{Command, Muu, Chs, Chsf, Flt, Fix, Pupi}
+use Rattle.codes.specs.Command.{Command, Add, Sub, Mul, Div, Muu, Chs, Chsf, Flt, Fix, Pto, Pop, Xch, Pupi}
 use Rattle.codes.specs.Command.{Kind}
 use Rattle.codes.specs.Command.{Known, Derived, Unknown}
 use Rattle.codes.specs.Codes.{decoded}
@@ -78,6 +78,36 @@ chs_is w n e = operation_is Chs w n 0x14 refl refl e
 pub muu_is : (w : Width) (n : ℕ) → n ≡ 0x16 → Known (Muu w) ≡ decoded (fixed_code w n)
 unfolding decoded
 muu_is w n e = operation_is Muu w n 0x16 refl refl e
+
+-- 17 to 19 are the moves
+pub pto_is : (w : Width) (n : ℕ) → n ≡ 0x17 → Known (Pto w) ≡ decoded (fixed_code w n)
+unfolding decoded
+pto_is w n e = operation_is Pto w n 0x17 refl refl e
+
+pub pop_is : (w : Width) (n : ℕ) → n ≡ 0x18 → Known (Pop w) ≡ decoded (fixed_code w n)
+unfolding decoded
+pop_is w n e = operation_is Pop w n 0x18 refl refl e
+
+pub xch_is : (w : Width) (n : ℕ) → n ≡ 0x19 → Known (Xch w) ≡ decoded (fixed_code w n)
+unfolding decoded
+xch_is w n e = operation_is Xch w n 0x19 refl refl e
+
+-- 0C to 0F are ADD, SUB, MUL, DIV
+pub add_is : (w : Width) (n : ℕ) → n ≡ 0 → Known (Add w) ≡ decoded (fixed_code w (0x0c + n))
+unfolding decoded
+add_is w n e = operation_is Add w (0x0c + n) 0x0c refl refl (ap (λ (k : ℕ). 0x0c + k) e)
+
+pub sub_is : (w : Width) (n : ℕ) → n ≡ 1 → Known (Sub w) ≡ decoded (fixed_code w (0x0c + n))
+unfolding decoded
+sub_is w n e = operation_is Sub w (0x0c + n) 0x0d refl refl (ap (λ (k : ℕ). 0x0c + k) e)
+
+pub mul_is : (w : Width) (n : ℕ) → n ≡ 2 → Known (Mul w) ≡ decoded (fixed_code w (0x0c + n))
+unfolding decoded
+mul_is w n e = operation_is Mul w (0x0c + n) 0x0e refl refl (ap (λ (k : ℕ). 0x0c + k) e)
+
+pub div_is : (w : Width) (n : ℕ) → n ≡ 3 → Known (Div w) ≡ decoded (fixed_code w (0x0c + n))
+unfolding decoded
+div_is w n e = operation_is Div w (0x0c + n) 0x0f refl refl (ap (λ (k : ℕ). 0x0c + k) e)
 
 -- ---- floats
 -- 02 to 0B are derived functions, 0C to 0F unknown

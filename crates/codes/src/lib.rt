@@ -66,6 +66,7 @@ fn width_of(bit: u8) -> Width
 }
 
 // Operations 17 to 19, in every format: PTO, POP, XCH.
+#[tactic(auto, using(crate::proofs::Bits::pto_is, crate::proofs::Bits::pop_is, crate::proofs::Bits::xch_is))]
 fn moved(operation: u8, width: Width) -> Kind
     requires { (0x17 ≤ operation) × (operation < 0x1a) }
     ensures { kind_in result ≡ decoded (fixed_code width operation) }
@@ -78,6 +79,7 @@ fn moved(operation: u8, width: Width) -> Kind
 }
 
 // Fixed-point operations 0C to 0F by their bits 1 and 0: ADD, SUB, MUL, DIV.
+#[tactic(auto, using(crate::proofs::Bits::add_is, crate::proofs::Bits::sub_is, crate::proofs::Bits::mul_is, crate::proofs::Bits::div_is))]
 fn arithmetic(low: u8, width: Width) -> Kind
     requires { low < 4 }
     ensures { kind_in result ≡ decoded (fixed_code width (0x0c + low)) }
@@ -113,6 +115,7 @@ fn fixed(operation: u8, width: Width) -> Kind
 }
 
 // Float operations 10 to 13 by their bits 1 and 0: FADD, FSUB, FMUL, FDIV.
+#[tactic(auto, unfolding(crate::specs::Codes::decoded))]
 fn primary(low: u8) -> Kind
     requires { low < 4 }
     ensures { kind_in result ≡ decoded (0x10 + low) }
@@ -126,7 +129,7 @@ fn primary(low: u8) -> Kind
 }
 
 // Float operations 00 to 0F: NOP, SQRT, and the derived functions 02 to 0B.
-#[tactic(auto, using(crate::proofs::Bits::derived_is, crate::proofs::Bits::past_derived))]
+#[tactic(auto, using(crate::proofs::Bits::derived_is, crate::proofs::Bits::past_derived), unfolding(crate::specs::Codes::decoded))]
 fn derived(operation: u8) -> Kind
     requires { operation < 0x10 }
     ensures { kind_in result ≡ decoded operation }

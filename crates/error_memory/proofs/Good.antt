@@ -15,7 +15,7 @@ use Rattle.terms.specs.declared.Refusal.TheVariants.{InputTooLong, NotFinite, To
 use Rattle.terms.specs.declared.Refusal.TheVariants.{PartEntry}
 use Rattle.terms.specs.Refusal.{number_of}
 use Rattle.terms.specs.declared.Rule.{Rule}
-use Rattle.terms.specs.Settings.{Settings}
+use Rattle.terms.specs.declared.Settings.{Settings}
 use Rattle.codes.specs.Command.{Kind, Known, Derived, Unknown, Nop}
 use Rattle.codes.specs.Codes.{decoded}
 use Rattle.chip.specs.State.{State, Answer}

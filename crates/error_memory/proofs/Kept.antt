@@ -8,7 +8,7 @@ use lib.Bits.{or_zero_r}
 use lib.Dec.{eqb}
 use Rattle.terms.specs.declared.Refusal.TheVariants.{Done, BadState}
 use Rattle.terms.specs.Refusal.{number_of}
-use Rattle.terms.specs.Settings.{Settings}
+use Rattle.terms.specs.declared.Settings.{Settings}
 use Rattle.chip.specs.State.{State}
 use Rattle.chip.specs.Event.{Event as ChipEvent}
 use Rattle.chip.specs.Event.{Push, Pop, Command, Status, Reset, Acknowledge}

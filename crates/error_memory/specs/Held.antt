@@ -1,5 +1,5 @@
 -- What the program's card stands for. Definitions only. Assumes nothing.
-use Rattle.terms.specs.Settings.{Settings}
+use Rattle.terms.specs.declared.Settings.{Settings}
 use Rattle.chip.specs.Held.{state_in}
 use Rattle.error_memory.specs.declared.Card.{Card as Held}
 use Rattle.error_memory.specs.Memory.{Card, card_with}

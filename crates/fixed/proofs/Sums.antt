@@ -1,11 +1,15 @@
 -- The sum and the difference that the code forms are those of the definitions. Assumes nothing.
 use Rattle.std.proofs.Common.{◌≡◌, ℕ, ◌+◌, ◌-◌, ◌*◌, ◌/◌, ◌%◌, ◌<◌, ◌≤◌, Bool, true, false, not, ◌&&◌, ◌||◌, ltb, leb, ◌⊎◌, ℤ, ◌+ℤ◌, ◌-ℤ◌, neg_ℤ, sym, refl, ap, ◌∙◌, subst, ap₂, inl, inr, ⊎_elim, mod-lt, mod-eq_of_lt, arith, le-ltb, lt-ltb, le-leb}
+use Rattle.std.proofs.Math.Nat.{add-mod-mod, add-zero, mod-add-mod, mod-mod_of_dvd}
+use Rattle.std.proofs.lemmas.Nat.Gcd.{dvd_of_mod-eq-zero}
+use Rattle.std.specs.Prelude.{◌^◌}
 use native.Mathlib.Nat.{mod-add-div', mod-eq-sub-mod}
 use lib.IntN.{sub_ℕ}
 use lib.Ieee.{unlike}
 use borrow.Author.Tests.{lt-leb}
 use Rattle.numbers.proofs.Differences.{either, sum_differences, opposite_difference}
-use Rattle.fixed.specs.Parts.{Words, negative_at}
+use Rattle.numbers.specs.Signed.{with_sign}
+use Rattle.fixed.specs.Parts.{Words, Wraps, negative_at}
 use Rattle.fixed.specs.Fixed.{signed, fits, low, is_least, add_overflow, overflow_if, outcome, add, sub}
 use Rattle.fixed.proofs.LowBits.{not_negative, low_is, sign, signed_is, sign_pos, sign_neg, inside, over_up, over_down}
 
@@ -17,6 +21,25 @@ unlike_plus false = refl
 unlike_minus : (t : Bool) → unlike true t ≡ not t
 unlike_minus true = refl
 unlike_minus false = refl
+
+-- ---- what wraps at 32 bits
+
+module _ (h b a r : ℕ) (W : Words h b a) (D : Wraps h) where
+  -- the low bits of the sum are left
+  pub wrapped_sum : r ≡ low h (with_sign false ((b + a) % 2 ^ 32)) → r ≡ (b + a) % (2 * h)
+  unfolding low
+  wrapped_sum e = e ∙ mod-mod_of_dvd (2 * h) (b + a) (dvd_of_mod-eq-zero (2 * h) D)
+
+  -- and of the difference a word that gives B with A
+  pub wrapped_difference : r ≡ low h (with_sign false ((b + (2 ^ 32 - a)) % 2 ^ 32)) → (r < 2 * h) × ((r + a) % (2 * h) ≡ b)
+  unfolding low
+  wrapped_difference e =
+      let f : r ≡ (b + (2 ^ 32 - a)) % (2 * h) = e ∙ mod-mod_of_dvd (2 * h) (b + (2 ^ 32 - a)) (dvd_of_mod-eq-zero (2 * h) D) in
+      let t : b + (2 ^ 32 - a) + a ≡ b + 2 ^ 32 = omega (arith, W.narrow, W.right) in (
+        subst (λ (n : ℕ). n < 2 * h) (sym f) (mod-lt (b + (2 ^ 32 - a)) (omega (arith, W.some))),
+        ap (λ (n : ℕ). (n + a) % (2 * h)) f ∙ mod-add-mod (b + (2 ^ 32 - a)) (2 * h) a ∙ ap (λ (n : ℕ). n % (2 * h)) t
+            ∙ sym (add-mod-mod b (2 ^ 32) (2 * h)) ∙ ap (λ (n : ℕ). (b + n) % (2 * h)) D ∙ ap (λ (n : ℕ). n % (2 * h)) (add-zero b) ∙ mod-eq_of_lt W.left,
+      )
 
 -- ---- the sum
 

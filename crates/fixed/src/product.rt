@@ -1,4 +1,5 @@
 // MUL, MUU, DIV and CHS: by sign and magnitude, at either width.
+// Stays as it is: a struct of h, b and a is no plainer, since CHS and the parts take h alone and one caller would build it.
 ghost use Rattle.std.specs.Prelude.{◌≡◌, ◌*◌, ◌<◌, ◌≤◌};
 ghost use Rattle.fixed.specs.Fixed.{mul, muu, div, chs};
 ghost use Rattle.fixed.specs.Parts.{Words};

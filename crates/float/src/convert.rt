@@ -1,6 +1,7 @@
 // FLTD and FLTS, from whole numbers to words; FIXD and FIXS, back; CHSF.
-ghost use Rattle.std.specs.Prelude.{◌≡◌, ◌≤◌, ◌<◌};
-ghost use Rattle.float.specs.Convert.{fltd, flts, whole_part, fix, fixd, fixs, chsf};
+ghost use Rattle.std.specs.Prelude.{◌≡◌, ◌*◌, ◌≤◌, ◌<◌};
+ghost use Rattle.float.specs.Cut.{cut};
+ghost use Rattle.float.specs.Convert.{integer, fltd, flts, whole_part, fix, fixd, fixs, chsf};
 
 use super::Flagged;
 use super::cut::cut_word;
@@ -14,27 +15,35 @@ const WHOLE: u32 = 88;
 
 const BELOW_ONE: u32 = 64;
 
+// A number in two's complement of which half is the least, cut to a word under a rule.
+#[tactic(auto, using(crate::proofs::convert::Fix::integer_below, crate::proofs::convert::Fix::integer_above))]
+fn cut_integer(rule: Rule, half: u64, a: u64) -> Flagged
+    requires { (half ≤ 2147483648) × (a < 2 * half) }
+    ensures { result ≡ cut rule (integer half a) 1 }
+{
+    let neg = half <= a;
+    let magnitude = if neg { 2 * half - a } else { a };
+    cut_word(rule, neg, magnitude, WHOLE_UNIT)
+}
+
 // FLTD: a number of 32 bits in two's complement, cut to a word.
+#[tactic(auto, unfolding(crate::specs::Convert::fltd))]
 pub fn fltd(rule: Rule, a: u32) -> Flagged
     ensures { result ≡ fltd rule a }
 {
-    if 0x8000_0000 <= a {
-        return cut_word(rule, true, 0x1_0000_0000 - (a as u64), WHOLE_UNIT);
-    }
-    cut_word(rule, false, a as u64, WHOLE_UNIT)
+    cut_integer(rule, 0x8000_0000, a as u64)
 }
 
 // FLTS: a number of 16 bits in two's complement, as a word.
+#[tactic(auto, unfolding(crate::specs::Convert::flts))]
 pub fn flts(a: u16) -> Flagged
     ensures { result ≡ flts a }
 {
-    if 0x8000 <= a {
-        return cut_word(Rule::Cut, true, 0x1_0000 - (a as u64), WHOLE_UNIT);
-    }
-    cut_word(Rule::Cut, false, a as u64, WHOLE_UNIT)
+    cut_integer(Rule::Cut, 0x8000, a as u64)
 }
 
 // The whole part of the magnitude of a word.
+#[tactic(auto, using(crate::proofs::convert::Fix::part_up, crate::proofs::convert::Fix::part_down, crate::proofs::convert::Fix::part_none))]
 fn whole_part(w: u32) -> u64
     ensures { result ≡ whole_part w }
 {
@@ -50,6 +59,7 @@ fn whole_part(w: u32) -> u64
 }
 
 // The whole part of a word in two's complement, or the word and overflow where it is not below half.
+#[tactic(auto, using(crate::proofs::convert::Fix::fix_over, crate::proofs::convert::Fix::fix_minus, crate::proofs::convert::Fix::fix_plus))]
 fn fix_below(half: u64, a: u32) -> Flagged
     requires { (0 < half) × (half ≤ 2147483648) }
     ensures { result ≡ fix half a }
@@ -88,6 +98,7 @@ pub fn fixs(a: u32) -> Flagged
 }
 
 // CHSF: the word with its sign bit flipped where bit 23 is set, else the word.
+#[tactic(auto, unfolding(crate::specs::Convert::chsf))]
 pub fn chsf(w: u32) -> u32
     ensures { result ≡ chsf w }
 {

@@ -24,7 +24,7 @@ fn norm_shift(v: u64) -> u32
     requires { 0 < v }
     ensures { (2 ^ 63 ≤ v * 2 ^ result) × (v * 2 ^ result < 2 ^ 64) × (result < 64) }
 {
-    u64::leading_zeros(v)
+    v.leading_zeros()
 }
 
 // The sign bit of a word.
@@ -35,6 +35,7 @@ fn sign_bit(neg: bool) -> u32
 }
 
 // Overflow or underflow of the exponent k - 176.
+#[tactic(auto, unfolding(crate::specs::Cut::error_at))]
 fn error_at(k: u32) -> u8
     ensures { result ≡ error_at k }
 {
@@ -48,6 +49,7 @@ fn error_at(k: u32) -> u8
 }
 
 // The word and the error of a sign, a mantissa and the exponent k - 176; k + 80 is that exponent modulo 128.
+#[tactic(auto, unfolding(crate::specs::Cut::packed))]
 fn store(neg: bool, m: u32, k: u32) -> Flagged
     requires { (m < 16777216) × (k ≤ 4096) }
     ensures { result ≡ stored neg m k }

@@ -17,6 +17,7 @@ const RAISED: u64 = 0x100_0000_0000;
 const QUOTIENT_UNIT: u32 = 160;
 
 // FMUL: B x A.
+#[tactic(auto, using(crate::proofs::product::ProductCut::mul_law))]
 pub fn fmul(rule: Rule, b: u32, a: u32) -> Flagged
     ensures { result ≡ mul rule b a }
 {
@@ -27,6 +28,7 @@ pub fn fmul(rule: Rule, b: u32, a: u32) -> Flagged
 }
 
 // FDIV of proper words: B / A, or B and divide by zero.
+#[tactic(auto, using(crate::proofs::product::ProductCut::div_none, crate::proofs::product::ProductCut::div_law))]
 pub fn fdiv(rule: Rule, b: u32, a: u32) -> Flagged
     requires { (proper b ≡ true) × (proper a ≡ true) }
     ensures { result ≡ div rule b a }

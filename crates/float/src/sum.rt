@@ -19,6 +19,7 @@ const SPARE: u64 = 0x80_0000_0000;
 const UNIT: u32 = 73;
 
 // v shifted right by d places, made odd where bits are lost.
+#[tactic(auto, using(crate::proofs::sum::SumCut::jam_far))]
 fn shifted(v: u64, d: u32) -> u64
     requires { (v < 2 ^ 63) × (d < 128) }
     ensures { Jammed (v / 2 ^ d) (v % 2 ^ d) result }
@@ -31,6 +32,7 @@ fn shifted(v: u64, d: u32) -> u64
 
 // A proper word's magnitude as one number that grows with it: the exponent plus 64 above the
 // 24 bits of the mantissa, and 0 for zero.
+#[tactic(auto, using(crate::proofs::sum::SumCut::addend_zero, crate::proofs::sum::SumCut::addend_word))]
 fn addend_of(w: u32) -> u32
     requires { proper w ≡ true }
     ensures { AddendOf w result }
@@ -57,6 +59,7 @@ fn add_lower(rule: Rule, neg: bool, hi: u32, other: bool, lo: u32) -> Flagged
 }
 
 // The sum of B and of A's magnitude with a sign, both proper words.
+#[tactic(auto, using(crate::proofs::sum::SumCut::sum_law, crate::proofs::sum::SumCut::swapped_law))]
 fn add_signed(rule: Rule, b: u32, neg: bool, a: u32) -> Flagged
     requires { (proper b ≡ true) × (proper a ≡ true) }
     ensures { result ≡ cut rule (value b +ℤ with_sign neg (size88 a)) (2 ^ 88) }
@@ -71,6 +74,7 @@ fn add_signed(rule: Rule, b: u32, neg: bool, a: u32) -> Flagged
 }
 
 // FADD of proper words: B + A.
+#[tactic(auto, using(crate::proofs::sum::SumCut::add_law))]
 pub fn fadd(rule: Rule, b: u32, a: u32) -> Flagged
     requires { (proper b ≡ true) × (proper a ≡ true) }
     ensures { result ≡ add rule b a }
@@ -79,6 +83,7 @@ pub fn fadd(rule: Rule, b: u32, a: u32) -> Flagged
 }
 
 // FSUB of proper words: B - A.
+#[tactic(auto, using(crate::proofs::sum::SumCut::sub_law))]
 pub fn fsub(rule: Rule, b: u32, a: u32) -> Flagged
     requires { (proper b ≡ true) × (proper a ≡ true) }
     ensures { result ≡ sub rule b a }

@@ -1,4 +1,5 @@
 // What a float word says: its sign, its exponent and its mantissa, and whether it is proper.
+// Stays as it is: a type for a word is no plainer, since the stack, the records and C hold the u32 at each call.
 ghost use Rattle.std.specs.Prelude.{◌≡◌, ◌<◌};
 ghost use Rattle.float.specs.Word.{negative, biased, mantissa, proper};
 

@@ -7,7 +7,7 @@ use borrow.Author.Tests.{lt-ltb, le-ltb}
 use lib.ListN.{length, take, drop}
 use lib.Seq.{take-append_seam}
 use Rattle.terms.specs.Limits.{most_input}
-use Rattle.terms.specs.Settings.{Settings}
+use Rattle.terms.specs.declared.Settings.{Settings}
 use Rattle.error_memory.specs.declared.Card.{Card as Held}
 use Rattle.chip.specs.State.{reset_state}
 use Rattle.error_memory.specs.Memory.{Card, card_with, empty_memory}

@@ -3,7 +3,8 @@ use Rattle.std.specs.Prelude.{ℕ, ◌≡◌, cond, List, [], ltb, length}
 use Rattle.terms.specs.declared.Refusal.TheVariants.{InputTooLong}
 use Rattle.terms.specs.Refusal.{number_of}
 use Rattle.terms.specs.Limits.{most_input}
-use Rattle.terms.specs.Settings.{Settings, mode_of, rule_of}
+use Rattle.terms.specs.declared.Settings.{Settings}
+use Rattle.terms.specs.Settings.{mode_of, rule_of}
 use Rattle.chip.specs.State.{reset_state}
 use Rattle.chip.specs.Step.{given}
 use Rattle.error_memory.specs.declared.Card.{Card as Held}

@@ -20,7 +20,7 @@ use Rattle.chip.specs.State.{Answer}
 use Rattle.chip.specs.Event.{Push, Pop, Command, Status, Reset, Acknowledge}
 use Rattle.chip.specs.Step.{push_of, carried, command_under}
 use Rattle.record_files.proofs.Append.{nothing}
-use Rattle.terms.specs.Settings.{Settings}
+use Rattle.terms.specs.declared.Settings.{Settings}
 use Rattle.terms.specs.Refusal.{number_of}
 use Rattle.record_runs.specs.Record.{push_all, before, reply_of}
 use Rattle.record_runs.specs.Run.{Outcome, run_of}

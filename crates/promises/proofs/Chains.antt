@@ -11,7 +11,7 @@ use lib.ListN.{take}
 use lib.Signed.{le_z_yes}
 use Rattle.terms.specs.declared.Width.TheVariants.{Double}
 use Rattle.terms.specs.declared.Rule.{Rule}
-use Rattle.terms.specs.Settings.{Settings}
+use Rattle.terms.specs.declared.Settings.{Settings}
 use Rattle.float.specs.Word.{value, FloatWord}
 use Rattle.float.specs.Float.{Result, add, sub, mul, div}
 use Rattle.float.specs.Convert.{chsf}

@@ -11,7 +11,7 @@ use borrow.Author.Tests.{lt-leb, lt-ltb, le-ltb, eq-eqb, ne_eqb}
 use lib.Dec.{eqb, ltb, lit<}
 use lib.ListN.{length, take, drop, get_or, replicate, length-append, get_or-append}
 use lib.Seq.{take_at, drop-append_seam, take-append-le, get_or-append-add}
-use Rattle.terms.specs.Settings.{Settings}
+use Rattle.terms.specs.declared.Settings.{Settings}
 use Rattle.terms.specs.declared.Refusal.{Refusal}
 use Rattle.terms.specs.declared.Refusal.TheVariants.{InputTooLong, BadState}
 use Rattle.terms.specs.Refusal.{number_of}

@@ -14,7 +14,7 @@ use Rattle.promises.specs.FloatWords.{Le}
 use Rattle.stack.specs.Stack.{Bytes, tos}
 use Rattle.stack.proofs.Words.{byte_at, bytes_append}
 use Rattle.chip.specs.State.{State}
-use Rattle.terms.specs.Settings.{Settings}
+use Rattle.terms.specs.declared.Settings.{Settings}
 use Rattle.chip.specs.State.{Answer}
 use Rattle.chip.specs.Event.{Event as ChipEvent}
 use Rattle.chip.specs.Event.{Push, Pop, Command, Status, Reset, Acknowledge}

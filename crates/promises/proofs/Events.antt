@@ -8,7 +8,7 @@ use borrow.Author.Tests.{lt-leb, leb-false, eqb-true}
 use lib.Dec.{eqb}
 use lib.ListN.{take}
 use Rattle.terms.specs.declared.Width.TheVariants.{Double}
-use Rattle.terms.specs.Settings.{Settings}
+use Rattle.terms.specs.declared.Settings.{Settings}
 use Rattle.terms.specs.Refusal.{number_of}
 use Rattle.float.specs.declared.Flagged.{Flagged}
 use Rattle.float.specs.Word.{FloatWord}

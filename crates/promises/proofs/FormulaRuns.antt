@@ -7,7 +7,7 @@ use native.Mathlib.Omega.{arith}
 use lib.ListN.{length, take, length-append}
 use lib.Seq.{take_at}
 use Rattle.terms.specs.declared.Rule.{Rule}
-use Rattle.terms.specs.Settings.{Settings}
+use Rattle.terms.specs.declared.Settings.{Settings}
 use Rattle.float.specs.Word.{FloatWord}
 use Rattle.float.proofs.Results.{add_result, sub_result, mul_result, div_result}
 use Rattle.promises.proofs.float.SignChange.{chsf_word}

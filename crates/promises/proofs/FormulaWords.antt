@@ -10,7 +10,7 @@ use lib.Seq.{take-append-add, length-take-le}
 use Rattle.numbers.specs.Little.{le4}
 use Rattle.terms.specs.declared.Width.TheVariants.{Double}
 use Rattle.terms.specs.Refusal.{number_of}
-use Rattle.terms.specs.Settings.{Settings}
+use Rattle.terms.specs.declared.Settings.{Settings}
 use Rattle.float.specs.Word.{FloatWord}
 use Rattle.float.specs.Float.{Result}
 use Rattle.float.specs.Convert.{chsf}

@@ -15,7 +15,7 @@ use Rattle.terms.specs.Limits.{most_payload}
 use Rattle.error_memory.specs.Memory.{Card}
 use Rattle.record_runs.specs.Record.{Event}
 use Rattle.record_runs.specs.Record.{Push, Pop, Command, Status, Reset, Acknowledge, Recall, Forget}
-use Rattle.record_runs.specs.declared.head.Frame.TheVariants.{Broken}
+use Rattle.std.specs.Prelude.{Err}
 use Rattle.record_runs.specs.Record.{Stop}
 use Rattle.numbers.specs.Little.{word_at}
 use Rattle.terms.specs.declared.EventKind.{EventKind}
@@ -36,7 +36,7 @@ stops_with s l room r e some n =
     first_stops lawful s l room (stopped r s) (stopped_by s l room r e) some (λ z. omega (arith, z, n))
 
 -- a frame that is broken
-broken : (l : List ℕ) (r : Refusal) → frame_under most_payload l ≡ Broken r → head_of l ≡ Stop r
+broken : (l : List ℕ) (r : Refusal) → frame_under most_payload l ≡ Err r → head_of l ≡ Stop r
 broken l r e = ap (head_in most_payload l) e
 
 -- all bytes there: the row of the kind and of the payload of n bytes

@@ -14,7 +14,8 @@ use Rattle.terms.specs.declared.Mode.TheVariants.{Am9511}
 use Rattle.terms.specs.declared.Refusal.TheVariants.{InputTooLong, BadState}
 use Rattle.terms.specs.declared.Rule.{Rule}
 use Rattle.terms.specs.Refusal.{number_of}
-use Rattle.terms.specs.Settings.{Settings, rule_of}
+use Rattle.terms.specs.declared.Settings.{Settings}
+use Rattle.terms.specs.Settings.{rule_of}
 use Rattle.stack.specs.Stack.{tos, pushed, popped}
 use Rattle.stack.proofs.Elems.{spelled}
 use Rattle.chip.specs.State.{State}

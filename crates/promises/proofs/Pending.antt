@@ -12,7 +12,7 @@ use lib.Seq.{take-append-le}
 use Rattle.terms.specs.declared.Mode.{Mode}
 use Rattle.terms.specs.declared.Mode.TheVariants.{Am9511A, Am9511}
 use Rattle.terms.specs.declared.Rule.{Rule}
-use Rattle.terms.specs.Settings.{Settings}
+use Rattle.terms.specs.declared.Settings.{Settings}
 use Rattle.stack.specs.Stack.{IsStack, zeros}
 use Rattle.chip.specs.State.{State}
 use Rattle.chip.specs.State.{Answer}

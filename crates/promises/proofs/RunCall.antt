@@ -10,7 +10,8 @@ use lib.Dec.{ltb}
 use lib.ListN.{length, take, drop, get_or, length-drop}
 use lib.Seq.{drop-append-add}
 use Rattle.terms.specs.declared.Refusal.TheVariants.{NoRoom, InputTooLong, BadState, BadMode, BadRule}
-use Rattle.terms.specs.Settings.{Settings, is_mode, is_rule}
+use Rattle.terms.specs.declared.Settings.{Settings}
+use Rattle.terms.specs.Settings.{is_mode, is_rule}
 use Rattle.error_memory.specs.Memory.{Card, card_with}
 use Rattle.error_memory.proofs.Good.{ReadyCard}
 use Rattle.record_runs.specs.Record.{Head}

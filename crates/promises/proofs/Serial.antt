@@ -29,12 +29,10 @@ use Rattle.codes.specs.Command.{Known}
 use Rattle.codes.specs.Codes.{decoded}
 use Rattle.bit_serial.specs.declared.Operation.{Operation}
 use Rattle.bit_serial.specs.declared.Operation.TheVariants.{Mul, Muu, Div, Fmul, Fdiv}
-use Rattle.bit_serial.specs.declared.Answer.{Answer}
-use Rattle.bit_serial.specs.declared.Answer.TheVariants.{Word, Refused}
 use Rattle.bit_serial.specs.declared.tasks.Task.{Task}
-use Rattle.bit_serial.specs.declared.tasks.Task.TheVariants.{Nothing}
+use Rattle.std.proofs.Common.{Option, None, Ok, Err}
 use Rattle.bit_serial.specs.UpTo.{up_to}
-use Rattle.bit_serial.specs.Answer.{steps_in}
+use Rattle.bit_serial.specs.Answer.{Answer, worked, steps_in}
 use Rattle.bit_serial.specs.Engine.{mul_answer, muu_answer, div_answer, fmul_answer, fdiv_answer}
 use Rattle.bit_serial.specs.Work.{width_of, Operands, answer_of, mul_task, div_task, fmul_task, fdiv_task}
 use Rattle.bit_serial.proofs.Cases.{words as words_of}
@@ -93,15 +91,15 @@ module _ (rule : Rule) (w : Width) (b a : ℕ) (l : (b < 2 ^ bits_of w) × (a < 
 
 -- a float operation whose row and refusal the chip has
 float_does : (rule : Rule) (op : Operation) (b a steps : ℕ) (r : Flagged)
-    → (proper b ≡ true → proper a ≡ true → ChipGives rule op b a (Word r.word r.error steps)) →
+    → (proper b ≡ true → proper a ≡ true → ChipGives rule op b a (worked r.word r.error steps)) →
     ((proper b ≡ false) ⊎ (proper a ≡ false) → ChipGives rule op b a
-    (Refused Improper))
+    (Err Improper))
     → ChipGives rule op b a (float_answer b a steps r)
 float_does rule op b a steps r f g = go (proper b) (proper a) f g
   where
-    go : (s t : Bool) → (s ≡ true → t ≡ true → ChipGives rule op b a (Word r.word r.error steps))
-        → ((s ≡ false) ⊎ (t ≡ false) → ChipGives rule op b a (Refused Improper))
-        → ChipGives rule op b a (cond (s && t) (Word r.word r.error steps) (Refused Improper))
+    go : (s t : Bool) → (s ≡ true → t ≡ true → ChipGives rule op b a (worked r.word r.error steps))
+        → ((s ≡ false) ⊎ (t ≡ false) → ChipGives rule op b a (Err Improper))
+        → ChipGives rule op b a (cond (s && t) (worked r.word r.error steps) (Err Improper))
     go true true f g = f refl refl
     go true false f g = g (inr refl)
     go false t f g = g (inl refl)
@@ -119,7 +117,7 @@ first_does Fdiv rule b a steps l =
     float_does rule Fdiv b a steps _ (λ p q. (rows rule).float_point.fdiv_row b a (float_word l.0 p) (float_word l.1 q)) (λ e. (rows rule).float_point.improper FDiv b a l.0 l.1 e)
 
 -- ---- their numbers
-zero_or_four : (t : Bool) (r error steps : ℕ) → ZeroOrFour (cond t (Word r error steps) (Refused Improper))
+zero_or_four : (t : Bool) (r error steps : ℕ) → ZeroOrFour (cond t (worked r error steps) (Err Improper))
 zero_or_four true r error steps = inl refl
 zero_or_four false r error steps = inr refl
 
@@ -138,7 +136,7 @@ same_engine = record {
 }
 
 -- ---- the work
-either_way : (t : Bool) (task : Task) (n : ℕ) → book.most_of task ≤ n → (book.most_of (cond t Nothing task) ≤ n) × (book.most_of (cond t task Nothing) ≤ n)
+either_way : (t : Bool) (task : Option Task) (n : ℕ) → book.most_of task ≤ n → (book.most_of (cond t None task) ≤ n) × (book.most_of (cond t task None) ≤ n)
 either_way true task n l = (omega arith, l)
 either_way false task n l = (l, omega arith)
 
@@ -177,14 +175,14 @@ status_is w r error = same_bits (cond (leb (least w) r) 64 0) (cond (eqb r 0) 32
     same_bits x y = omega arith
 
 answer_is : (w : Width) (r : Answer) → answer_line w r ≡ book.answer_line w r
-answer_is w (Word r error n) =
+answer_is w (Ok k) =
     ap (λ (t : List ℕ). written "word " ++ (t ++ (written " error"
-    ++ ((32 ∷ their-decimal error) ++ (written " status " ++ (digits_to 16 2 (status_for w r error) ++ (10 ∷ [])))))))
-    (hex_is (2 * size_of w) r)
-    ∙ ap₂ (λ (t u : List ℕ). written "word " ++ (hex_of (2 * size_of w) r ++ (written " error" ++ ((32 ∷ t) ++ (written " status " ++ (u ++ (10 ∷ [])))))))
-    (decimal_is error)
-    (hex_is 2 (status_for w r error) ∙ ap (hex_of 2) (status_is w r error))
-answer_is w (Refused refusal) = ap (λ (t : List ℕ). written "refused" ++ ((32 ∷ t) ++ (10 ∷ []))) (decimal_is (number_of refusal))
+    ++ ((32 ∷ their-decimal k.error) ++ (written " status " ++ (digits_to 16 2 (status_for w k.word k.error) ++ (10 ∷ [])))))))
+    (hex_is (2 * size_of w) k.word)
+    ∙ ap₂ (λ (t u : List ℕ). written "word " ++ (hex_of (2 * size_of w) k.word ++ (written " error" ++ ((32 ∷ t) ++ (written " status " ++ (u ++ (10 ∷ [])))))))
+    (decimal_is k.error)
+    (hex_is 2 (status_for w k.word k.error) ∙ ap (hex_of 2) (status_is w k.word k.error))
+answer_is w (Err refusal) = ap (λ (t : List ℕ). written "refused" ++ ((32 ∷ t) ++ (10 ∷ []))) (decimal_is (number_of refusal))
 
 told_lines : (op : Operation) (rule : Rule) (b a : ℕ) → Operands op b a
     → workings_of op rule b a ≡ book.lines_after (book.task_of op b a) (steps_in (answer_of op rule b a)) 0 ++ book.answer_line (width_of op) (answer_of op rule b a)

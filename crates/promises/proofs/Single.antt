@@ -13,7 +13,7 @@ use Rattle.terms.specs.declared.Mode.{Mode}
 use Rattle.terms.specs.declared.Refusal.{Refusal}
 use Rattle.terms.specs.declared.Refusal.TheVariants.{NoRoom}
 use Rattle.terms.specs.Refusal.{number_of}
-use Rattle.terms.specs.Settings.{Settings}
+use Rattle.terms.specs.declared.Settings.{Settings}
 use Rattle.terms.specs.Limits.{most_payload}
 use Rattle.chip.specs.State.{State}
 use Rattle.chip.specs.Event.{Command as CommandEvent}

@@ -12,7 +12,8 @@ use lib.Seq.{take_at, take-append-le, get_or-append-add}
 use Rattle.terms.specs.declared.Mode.{Mode}
 use Rattle.terms.specs.declared.Mode.TheVariants.{Am9511A, Am9511}
 use Rattle.terms.specs.declared.Rule.{Rule}
-use Rattle.terms.specs.Settings.{Settings, is_mode, mode_of, is_rule, rule_of}
+use Rattle.terms.specs.declared.Settings.{Settings}
+use Rattle.terms.specs.Settings.{is_mode, mode_of, is_rule, rule_of}
 use Rattle.stack.specs.Stack.{zeros}
 use Rattle.chip.specs.State.{State}
 use Rattle.chip.specs.Event.{Reset}

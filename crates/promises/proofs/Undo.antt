@@ -14,7 +14,7 @@ use Rattle.terms.specs.declared.Width.{Width}
 use Rattle.terms.specs.declared.Width.TheVariants.{Single, Double}
 use Rattle.terms.specs.Width.{size_of}
 use Rattle.terms.specs.Refusal.{number_of}
-use Rattle.terms.specs.Settings.{Settings}
+use Rattle.terms.specs.declared.Settings.{Settings}
 use Rattle.stack.specs.Stack.{IsStack, rotated, popped_all, exchanged}
 use Rattle.stack.proofs.Elems.{elems, spelled}
 use Rattle.stack.proofs.Several.{pops_block}

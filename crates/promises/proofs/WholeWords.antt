@@ -12,7 +12,7 @@ use Rattle.terms.specs.declared.Refusal.TheVariants.{Done, HalfWord}
 use Rattle.terms.specs.declared.Width.{Width}
 use Rattle.terms.specs.declared.Width.TheVariants.{Single, Double}
 use Rattle.terms.specs.Width.{size_of}
-use Rattle.terms.specs.Settings.{Settings}
+use Rattle.terms.specs.declared.Settings.{Settings}
 use Rattle.stack.specs.Stack.{number_from, bytes_of, Bytes, pushed, popped}
 use Rattle.stack.proofs.Words.{bytes_take, bytes_drop, number_below}
 use Rattle.codes.specs.Command.{Command}

@@ -12,8 +12,8 @@ use Rattle.terms.specs.Limits.{least_length}
 use Rattle.error_memory.specs.Memory.{Card}
 use Rattle.record_files.proofs.Tests.{either_lt, either_eq}
 use Rattle.record_files.proofs.Append.{onward, nothing, first_stops, first_taken, appended}
-use Rattle.record_runs.specs.declared.head.Frame.{Frame}
-use Rattle.record_runs.specs.declared.head.Frame.TheVariants.{Framed, Broken}
+use Rattle.std.specs.Prelude.{Result, Ok, Err}
+use Rattle.terms.specs.declared.Refusal.{Refusal}
 use Rattle.terms.specs.declared.EventKind.{EventKind}
 use Rattle.terms.specs.declared.EventKind.TheVariants.{
   Push as PushKind,
@@ -64,7 +64,7 @@ module _ {S : Type 0} {m n : ℕ} {a b : RecordStep S} (la : Lawful m a) (lb : L
 -- ---- a wider limit
 
 module _ (m k : ℕ) (wider : m ≤ k) where
-  same_frame : (l : List ℕ) → (frame_under m l ≡ Broken BadLength → ⊥) → frame_under k l ≡ frame_under m l
+  same_frame : (l : List ℕ) → (frame_under m l ≡ Err BadLength → ⊥) → frame_under k l ≡ frame_under m l
   same_frame l other =
       either_lt (λ (x : ℕ). frame_under k l ≡ frame_under m l) (length l) 2 0 0 (λ a. short k l a ∙ sym (short m l a)) (λ a.
       either_lt (λ (x : ℕ). frame_under k l ≡ frame_under m l) (word_at l 0) least_length 0 0 (λ b. absurd (other (low m l a b))) (λ b.
@@ -92,9 +92,9 @@ module _ (m k : ℕ) (wider : m ≤ k) where
   same_row ForgetKind n first other = refl
   same_row UnknownKind n first other = refl
 
-  same_in : (l : List ℕ) (f : Frame) → (head_in m l f ≡ Stop BadLength → ⊥) → head_in k l f ≡ head_in m l f
-  same_in l (Framed n) other = same_row (kind_named (word_at l 2)) n (get_or l 4 0) other
-  same_in l (Broken r) other = refl
+  same_in : (l : List ℕ) (f : Result ℕ Refusal) → (head_in m l f ≡ Stop BadLength → ⊥) → head_in k l f ≡ head_in m l f
+  same_in l (Ok n) other = same_row (kind_named (word_at l 2)) n (get_or l 4 0) other
+  same_in l (Err r) other = refl
 
   same_head : (l : List ℕ) → (head_under m l ≡ Stop BadLength → ⊥) → head_under k l ≡ head_under m l
   same_head l other =

@@ -1,7 +1,7 @@
 -- Request 10, the chip's own way of working: a second engine that works a bit at a time gives the chip's answers, how
 -- many steps it makes, and what ./steps tells of them. Definitions and statements only: proofs/Serial.antt proves them.
 -- Assumes nothing.
-use Rattle.std.specs.Prelude.{ℕ, ◌≤◌, ◌≡◌, ◌⊎◌, false, ◌&&◌, cond, List, [], ◌∷◌, ◌++◌, map, eqb, replicate}
+use Rattle.std.specs.Prelude.{ℕ, ◌≤◌, ◌≡◌, ◌⊎◌, false, ◌&&◌, cond, List, [], ◌∷◌, ◌++◌, map, eqb, replicate, Ok, Err}
 use Prim.Native.String.{String}
 use Rattle.terms.specs.declared.Refusal.TheVariants.{Improper}
 use Rattle.terms.specs.declared.Rule.{Rule}
@@ -18,8 +18,6 @@ use Rattle.codes.specs.Command.{Known}
 use Rattle.codes.specs.Codes.{decoded}
 use Rattle.bit_serial.specs.declared.Operation.{Operation}
 use Rattle.bit_serial.specs.declared.Operation.TheVariants.{Mul, Muu, Div, Fmul, Fdiv}
-use Rattle.bit_serial.specs.declared.Answer.{Answer}
-use Rattle.bit_serial.specs.declared.Answer.TheVariants.{Word, Refused}
 use Rattle.bit_serial.specs.Work.{answer_of}
 use Rattle.step_text.specs.declared.asked.Found.{Found}
 use Rattle.step_text.specs.declared.asked.Found.TheVariants.{Operation as Named, Nothing as Unnamed}
@@ -27,7 +25,7 @@ use Rattle.step_text.specs.Steps.{workings_of}
 use Rattle.step_text.specs.Asked.{operation_at, told_of}
 use Rattle.promises.specs.Stack.{bits_of}
 use Rattle.promises.specs.FloatWords.{proper}
-use Rattle.promises.specs.SerialWork.{number_in, steps_in, width_of, Operands, task_of, StepsMade}
+use Rattle.promises.specs.SerialWork.{Answer, worked, number_in, steps_in, width_of, Operands, task_of, StepsMade}
 use Rattle.promises.specs.SerialWork.{lines_after, answer_line, Asks}
 use Rattle.promises.specs.PrintedText.{written}
 use Rattle.promises.specs.Figures.{from}
@@ -37,10 +35,10 @@ use Rattle.promises.specs.Commands.{least, word, Two, Refuses}
 
 -- the first engine's word and error of an operation, after so many steps of the second, or the chip's refusal
 abbrev pub fixed_answer : ℕ → Fixed → Answer
-fixed_answer steps r = Word r.word r.error steps
+fixed_answer steps r = worked r.word r.error steps
 
 abbrev pub float_answer : ℕ → ℕ → ℕ → Flagged → Answer
-float_answer b a steps r = cond (proper b && proper a) (Word r.word r.error steps) (Refused Improper)
+float_answer b a steps r = cond (proper b && proper a) (worked r.word r.error steps) (Err Improper)
 
 abbrev pub first_answer : Operation → Rule → ℕ → ℕ → ℕ → Answer
 first_answer (Mul w) rule b a steps = fixed_answer steps (mul (least w) b a)
@@ -61,8 +59,8 @@ command_for Fdiv = Float FDiv
 -- over C.. and 0, status by the
 -- word and its error, no carry; or its refusal, the state as before
 abbrev pub ChipGives : Rule → Operation → ℕ → ℕ → Answer → Type 0
-ChipGives rule op b a (Word r error steps) = Two rule (width_of op) (command_for op) b a r error false 0
-ChipGives rule op b a (Refused refusal) = (cs : List ℕ)
+ChipGives rule op b a (Ok w) = Two rule (width_of op) (command_for op) b a w.word w.error false 0
+ChipGives rule op b a (Err refusal) = (cs : List ℕ)
     → Refuses rule (command_for op) (word (width_of op) a (word (width_of op) b cs)) refusal
 
 -- the number of an answer: 0, or 4 for an operand that is not proper
@@ -169,8 +167,8 @@ pub record StepsText : Type 0 where
   pub third : steps "13" "01800000" "02C00000" ≡ workings_of Fdiv Cut 0x01800000 0x02C00000
   pub third_nearest : steps_nearest "13" "01800000" "02c00000" ≡ workings_of Fdiv Nearest 0x01800000 0x02C00000
   pub product_nearest : steps_nearest "12" "01800001" "01C00000" ≡ workings_of Fmul Nearest 0x01800001 0x01C00000
-  pub third_words : (answer_of Fdiv Cut 0x01800000 0x02C00000 ≡ Word 0x7FAAAAAA 0 26)
-      × (answer_of Fdiv Nearest 0x01800000 0x02C00000 ≡ Word 0x7FAAAAAB 0 26)
+  pub third_words : (answer_of Fdiv Cut 0x01800000 0x02C00000 ≡ worked 0x7FAAAAAA 0 26)
+      × (answer_of Fdiv Nearest 0x01800000 0x02C00000 ≡ worked 0x7FAAAAAB 0 26)
   -- "Anything else": another option, an argument too many
   pub usage : (told_of 5 (written "6E") (written "0005") (written "0003") (written "--cut") ≡ text_lines "usage")
       × (told_of 6 (written "6E") (written "0005") (written "0003") (written "--nearest") ≡ text_lines "usage")
@@ -184,7 +182,7 @@ pub record StepsRow : Type 0 where
   pub answer : Answer
 
 abbrev pub row : Operation → Rule → ℕ → ℕ → ℕ → ℕ → ℕ → StepsRow
-row op rule b a r error steps = record { operation = op; rule = rule; b = b; a = a; answer = Word r error steps }
+row op rule b a r error steps = record { operation = op; rule = rule; b = b; a = a; answer = worked r error steps }
 
 abbrev pub steps_table : List StepsRow
 steps_table =
@@ -200,8 +198,8 @@ steps_table =
     ∷ row Fmul Cut 0x00000000 0x81800000 0x00000000 0 24 ∷ row Fdiv Cut 0x01800000 0x02C00000 0x7FAAAAAA 0 26
     ∷ row Fdiv Nearest 0x01800000 0x02C00000 0x7FAAAAAB 0 26 ∷ row Fdiv Cut 0x03800000 0x82800000 0x82800000 0 1
     ∷ row Fdiv Cut 0x00000000 0x81800000 0x00000000 0 0 ∷ row Fdiv Cut 0x01800000 0x00000000 0x01800000 8 0
-    ∷ record { operation = Fmul; rule = Nearest; b = 0x01400000; a = 0x01800000; answer = Refused Improper }
-    ∷ record { operation = Fdiv; rule = Cut; b = 0x01800000; a = 0x80000000; answer = Refused Improper } ∷ []
+    ∷ record { operation = Fmul; rule = Nearest; b = 0x01400000; a = 0x01800000; answer = Err Improper }
+    ∷ record { operation = Fdiv; rule = Cut; b = 0x01800000; a = 0x80000000; answer = Err Improper } ∷ []
 
 abbrev pub StepsBench : Type 0
 StepsBench = map (λ (r : StepsRow). answer_of r.operation r.rule r.b r.a) steps_table

@@ -15,7 +15,7 @@ pub use Rattle.host_floats.specs.Buffers.{Turn, Turns, words_turn, floats_turn}
 -- ---- the run of a file of records, on a card: under the limit of so many bytes to a record, and under today's
 pub use Rattle.record_runs.specs.Run.{Outcome, run_under, run_of}
 -- ---- a card, which is the settings of a call, a chip and its error memory; an event of it
-pub use Rattle.terms.specs.Settings.{Settings}
+pub use Rattle.terms.specs.declared.Settings.{Settings}
 pub use Rattle.error_memory.specs.declared.Memory.{Memory}
 pub use Rattle.error_memory.specs.Memory.{Card, event_in}
 pub use Rattle.error_memory.specs.Event.{Event}

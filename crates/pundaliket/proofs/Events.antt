@@ -13,7 +13,8 @@ use Rattle.terms.specs.Refusal.{number_of}
 use Rattle.terms.specs.Limits.{state_bytes}
 use Rattle.terms.specs.declared.Mode.TheVariants.{Am9511A}
 use Rattle.terms.specs.declared.Rule.TheVariants.{Cut}
-use Rattle.terms.specs.Settings.{Settings, is_mode, is_rule}
+use Rattle.terms.specs.declared.Settings.{Settings}
+use Rattle.terms.specs.Settings.{is_mode, is_rule}
 use Rattle.terms.specs.Kind.{kind_named}
 use Rattle.chip.specs.Step.{given}
 use Rattle.chip.specs.State.{Answer}

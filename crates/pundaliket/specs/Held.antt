@@ -1,6 +1,6 @@
 -- How the program settles an event of the chip. Definitions only. Assumes nothing.
 use Rattle.std.specs.Prelude.{ℕ, List}
-use Rattle.terms.specs.Settings.{Settings}
+use Rattle.terms.specs.declared.Settings.{Settings}
 use Rattle.chip.specs.declared.Answer.{Answer}
 use Rattle.chip.specs.Held.{answer_in}
 use Rattle.error_memory.specs.declared.Memory.{Memory}

@@ -15,8 +15,7 @@ use Rattle.record_files.proofs.Tests.{either_lt, either_eq}
 use Rattle.record_runs.specs.Record.{Event}
 use Rattle.record_runs.specs.Record.{Push, Pop, Command, Status, Reset, Acknowledge, Recall, Forget}
 use Rattle.terms.specs.declared.EventKind.{EventKind}
-use Rattle.record_runs.specs.declared.head.Frame.{Frame}
-use Rattle.record_runs.specs.declared.head.Frame.TheVariants.{Framed, Broken}
+use Rattle.std.specs.Prelude.{Result, Ok, Err}
 use Rattle.record_runs.specs.Record.{Head}
 use Rattle.record_runs.specs.Record.{Whole, Stop}
 use Rattle.record_runs.specs.Record.{word_at, kind_of, payload_of, answered_of, exactly, row_by, row_under, frame_under, head_in, head_under, Carried}
@@ -24,27 +23,27 @@ use Rattle.record_runs.specs.Record.{Holds}
 
 module _ (most : ℕ) (l : List ℕ) where
   -- fewer than two bytes
-  pub short : length l < 2 → frame_under most l ≡ Broken CutShort
+  pub short : length l < 2 → frame_under most l ≡ Err CutShort
   unfolding frame_under
   short a = simp lt-ltb
 
   -- a length out of range
-  pub low : 2 ≤ length l → word_at l 0 < least_length → frame_under most l ≡ Broken BadLength
+  pub low : 2 ≤ length l → word_at l 0 < least_length → frame_under most l ≡ Err BadLength
   unfolding frame_under
   low a b = simp (lt-ltb, le-ltb)
 
-  pub high : 2 ≤ length l → least_length ≤ word_at l 0 → least_length + most < word_at l 0 → frame_under most l ≡ Broken BadLength
+  pub high : 2 ≤ length l → least_length ≤ word_at l 0 → least_length + most < word_at l 0 → frame_under most l ≡ Err BadLength
   unfolding frame_under
   high a b d = simp (lt-ltb, le-ltb)
 
   -- bytes missing
-  pub cut : 2 ≤ length l → least_length ≤ word_at l 0 → word_at l 0 ≤ least_length + most → length l - 2 < word_at l 0 → frame_under most l ≡ Broken CutShort
+  pub cut : 2 ≤ length l → least_length ≤ word_at l 0 → word_at l 0 ≤ least_length + most → length l - 2 < word_at l 0 → frame_under most l ≡ Err CutShort
   unfolding frame_under
   cut a b d e = simp (lt-ltb, le-ltb)
 
   -- all bytes there
   pub whole : 2 ≤ length l → least_length ≤ word_at l 0 → word_at l 0 ≤ least_length + most → word_at l 0 ≤ length l - 2 → frame_under most
-      l ≡ Framed (word_at l 0 - 2)
+      l ≡ Ok (word_at l 0 - 2)
   unfolding frame_under
   whole a b d e = simp le-ltb
 
@@ -85,7 +84,7 @@ pub record Fits (most : ℕ) (l : List ℕ) (n : ℕ) : Type 0 where
   pub small : n ≤ most
 
 -- what holds of 6 and 7, and of each size that fits, holds of the frame
-pub frames : {most : ℕ} (P : Frame → Type 0) → ((r : Refusal) → Stops r → P (Broken r)) → (l : List ℕ) → ((n : ℕ) → Fits most l n → P (Framed n))
+pub frames : {most : ℕ} (P : Result ℕ Refusal → Type 0) → ((r : Refusal) → Stops r → P (Err r)) → (l : List ℕ) → ((n : ℕ) → Fits most l n → P (Ok n))
     → P (frame_under most l)
 unfolding frame_under
 frames {most} P broken l w =
@@ -138,20 +137,20 @@ few l Recall m h = m
 few l Forget m h = zero-le
 
 -- what each frame and each head says of the file
-abbrev Frames : ℕ → List ℕ → Frame → Type 0
-Frames most l (Framed n) = Fits most l n
-Frames most l (Broken r) = Stops r
+abbrev Frames : ℕ → List ℕ → Result ℕ Refusal → Type 0
+Frames most l (Ok n) = Fits most l n
+Frames most l (Err r) = Stops r
 
 abbrev Reads : ℕ → List ℕ → Head → Type 0
 Reads most l (Whole e) = Holds most l e
 Reads most l (Stop r) = Stops r
 
 -- a frame of so many bytes of payload
-pub fits : (most : ℕ) (l : List ℕ) (n : ℕ) → frame_under most l ≡ Framed n → Fits most l n
+pub fits : (most : ℕ) (l : List ℕ) (n : ℕ) → frame_under most l ≡ Ok n → Fits most l n
 fits most l n h = subst (Frames most l) h (frames (Frames most l) (λ r s. s) l (λ m f. f))
 
 -- a frame that is broken is 6 or 7
-pub frame_stops : (most : ℕ) (l : List ℕ) (r : Refusal) → frame_under most l ≡ Broken r → Stops r
+pub frame_stops : (most : ℕ) (l : List ℕ) (r : Refusal) → frame_under most l ≡ Err r → Stops r
 frame_stops most l r h = subst (Frames most l) h (frames (Frames most l) (λ q s. s) l (λ m f. f))
 
 -- a head that is an event stands for a whole record of it

@@ -18,7 +18,7 @@ use Rattle.record_files.proofs.Tests.{either_lt}
 use Rattle.record_files.proofs.Through.{drop_take}
 use Rattle.record_runs.specs.Record.{Event}
 use Rattle.record_runs.specs.Record.{Push, Pop, Command, Status, Reset, Acknowledge, Recall, Forget}
-use Rattle.record_runs.specs.declared.head.Frame.TheVariants.{Broken}
+use Rattle.std.specs.Prelude.{Result, Err}
 use Rattle.record_runs.specs.Record.{word_at, payload_of, answered_of, frame_under, Carried, Holds, answer_of, Turned, stopped, worked, turn_under, turn_of}
 use Rattle.record_runs.proofs.Heads.{short, cut, head_is, few}
 use Rattle.record_runs.proofs.Turning.{length-data_of}
@@ -92,9 +92,9 @@ module _ (most : ℕ) (s : Card) (l : List ℕ) (room k : ℕ) (in_file : k ≤ 
   word : 2 ≤ k → word_at (take k l) 0 ≡ word_at l 0
   word i = rw (get_or-take k l 0 0 (omega arith), get_or-take k l 1 0 (omega arith))
 
-  cut_frame : (e : Event) → Holds most l e → k < 4 + payload_of e → frame_under most (take k l) ≡ Broken CutShort
+  cut_frame : (e : Event) → Holds most l e → k < 4 + payload_of e → frame_under most (take k l) ≡ Err CutShort
   cut_frame e h i =
-      either_lt (λ (n : ℕ). frame_under most (take k l) ≡ Broken CutShort) k 2 0 0
+      either_lt (λ (n : ℕ). frame_under most (take k l) ≡ Err CutShort) k 2 0 0
       (λ d. short most (take k l) (omega (arith, long)))
       (λ d.
       let w = word d in

@@ -13,7 +13,7 @@ use Rattle.terms.specs.declared.Refusal.{Refusal}
 use Rattle.terms.specs.declared.Refusal.TheVariants.{Done, NoRoom, BadLength}
 use Rattle.terms.specs.Refusal.{number_of}
 use Rattle.terms.specs.Limits.{most_payload, most_input}
-use Rattle.terms.specs.Settings.{Settings}
+use Rattle.terms.specs.declared.Settings.{Settings}
 use Rattle.chip.specs.declared.State.{State}
 use Rattle.chip.specs.Event.{Command as CommandEvent}
 use Rattle.chip.specs.Step.{read_of}
@@ -28,7 +28,7 @@ use Rattle.terms.specs.declared.EventKind.TheVariants.{Push as PushKind, Pop as 
 use Rattle.terms.specs.declared.EventKind.TheVariants.{Reset as ResetKind, Acknowledge as AcknowledgeKind, Recall as RecallKind}
 use Rattle.terms.specs.declared.EventKind.TheVariants.{Forget as ForgetKind, Unknown as UnknownKind}
 use Rattle.terms.specs.Kind.{kind_named}
-use Rattle.record_runs.specs.declared.head.Frame.TheVariants.{Framed, Broken}
+use Rattle.std.specs.Prelude.{Result, Ok, Err}
 use Rattle.record_runs.specs.declared.step.Pass.{Pass}
 use Rattle.record_runs.specs.declared.step.Place.{Place}
 use Rattle.record_runs.specs.Record.{Event, Push, Pop, Command, Status, Reset, Acknowledge, Recall, Forget, Head, Whole, Stop}
@@ -228,7 +228,7 @@ same_first kind zero l = no_first kind (get_or (take 0 (drop 4 l)) 0 0) (get_or 
 same_first kind (suc n) l = ap (row_by most_payload kind (suc n)) (get_or-take (suc n) (drop 4 l) 0 0 (omega arith) ∙ get_or-drop 4 l 0 0)
 
 pub framed : {on : Settings} {w : Work} (l : List ℕ) (n : ℕ) (kind : EventKind) → 4 + n ≤ length l → kind ≡ kind_named (word_at l 2)
-    → frame_under most_payload l ≡ Framed n → Passes on kind (take n (drop 4 l)) w
+    → frame_under most_payload l ≡ Ok n → Passes on kind (take n (drop 4 l)) w
     → Passed (card_under on) (turn_of (card_under on w.card) l (length w.room)) w
 unfolding turn_under
 framed {on} {w} l n kind there ek ef passes =
@@ -239,7 +239,7 @@ framed {on} {w} l n kind there ek ef passes =
     ∙ ap (head_in most_payload l) (sym ef) in
     subst (λ (h : Head). PassesHead on l h w) row (passes l (ap (λ (k : ℕ). take k (drop 4 l)) e))
 
-pub broken : {on : Settings} {w : Work} (l : List ℕ) (q : Refusal) → frame_under most_payload l ≡ Broken q → w.pass ≡ unchanged q w.card w.place
+pub broken : {on : Settings} {w : Work} (l : List ℕ) (q : Refusal) → frame_under most_payload l ≡ Err q → w.pass ≡ unchanged q w.card w.place
     → w.left ≡ w.room → Passed (card_under on) (turn_of (card_under on w.card) l (length w.room)) w
 unfolding turn_under
 broken l q ef er el = rw ef (stays q er el)

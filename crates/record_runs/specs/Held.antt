@@ -6,7 +6,7 @@ use Rattle.terms.specs.declared.Mode.{Mode}
 use Rattle.terms.specs.declared.Rule.{Rule}
 use Rattle.terms.specs.Refusal.{number_of}
 use Rattle.terms.specs.Limits.{most_payload, most_input}
-use Rattle.terms.specs.Settings.{Settings}
+use Rattle.terms.specs.declared.Settings.{Settings}
 use Rattle.chip.specs.declared.State.{State}
 use Rattle.chip.specs.Step.{given}
 use Rattle.error_memory.specs.declared.Memory.{Memory}

@@ -19,8 +19,7 @@ use Rattle.terms.specs.declared.EventKind.TheVariants.{Push as PushKind, Pop as 
 use Rattle.terms.specs.declared.EventKind.TheVariants.{Reset as ResetKind, Acknowledge as AcknowledgeKind, Recall as RecallKind}
 use Rattle.terms.specs.declared.EventKind.TheVariants.{Forget as ForgetKind, Unknown as UnknownKind}
 use Rattle.terms.specs.Kind.{kind_named}
-use Rattle.record_runs.specs.declared.head.Frame.{Frame}
-use Rattle.record_runs.specs.declared.head.Frame.TheVariants.{Framed, Broken}
+use Rattle.std.specs.Prelude.{Result, Ok, Err}
 
 -- ---- the event of a record: bytes pushed, which are the payload; bytes popped, which go into the reply; a code; a read; a reset ..
 pub data Event : Type 0 where
@@ -105,18 +104,18 @@ abbrev pub row_under : ℕ → ℕ → ℕ → ℕ → Head
 row_under most kind n first = row_by most (kind_named kind) n first
 
 -- the frame of a record at the front of a file: fewer than two bytes 6, length out of range 7, bytes missing 6, else the bytes of its payload
-unfoldable pub frame_under : ℕ → List ℕ → Frame
+unfoldable pub frame_under : ℕ → List ℕ → Result ℕ Refusal
 frame_under most l =
-    cond (ltb (length l) 2) (Broken CutShort)
-    (cond (ltb (word_at l 0) least_length) (Broken BadLength)
-    (cond (ltb (least_length + most) (word_at l 0)) (Broken BadLength)
-    (cond (ltb (length l - 2) (word_at l 0)) (Broken CutShort)
-    (Framed (word_at l 0 - 2)))))
+    cond (ltb (length l) 2) (Err CutShort)
+    (cond (ltb (word_at l 0) least_length) (Err BadLength)
+    (cond (ltb (least_length + most) (word_at l 0)) (Err BadLength)
+    (cond (ltb (length l - 2) (word_at l 0)) (Err CutShort)
+    (Ok (word_at l 0 - 2)))))
 
 -- then kind 5 and payload 7
-abbrev pub head_in : ℕ → List ℕ → Frame → Head
-head_in most l (Framed n) = row_under most (word_at l 2) n (get_or l 4 0)
-head_in most l (Broken r) = Stop r
+abbrev pub head_in : ℕ → List ℕ → Result ℕ Refusal → Head
+head_in most l (Ok n) = row_under most (word_at l 2) n (get_or l 4 0)
+head_in most l (Err r) = Stop r
 
 abbrev pub head_under : ℕ → List ℕ → Head
 head_under most l = head_in most l (frame_under most l)

@@ -9,7 +9,6 @@ ghost use Rattle.record_runs.specs.Record.{le2, turn_of};
 ghost use Rattle.record_runs.specs.Held.{most_replies, ready_at, unchanged, further, finished, Begins, Stands};
 ghost use Rattle.record_runs.specs.Held.{Passed, Passes, PassesByRule, PassesAll, PassesBare};
 
-use crate::head::Frame;
 use chip::State;
 use error_memory::{Card, Memory, empty, remember};
 use terms::{EventKind, Mode, Refusal, Rule, number};
@@ -263,11 +262,11 @@ pub fn pass_record(
         (record { place = place; card = card; room = room.old; pass = result; left = room.new }) }
 {
     match crate::head::read_frame(rest, place.taken, place.size) {
-        Frame::Framed(n) => {
+        Ok(n) => {
             let end = 4 + n as usize;
-            let kind = terms::kind_of(numbers::two(rest[2], rest[3]) as u32);
+            let kind = EventKind::from(numbers::two(rest[2], rest[3]) as u32);
             pass_kind(card, mode, rule, kind, &rest[4..end], room, place)
         }
-        Frame::Broken(refusal) => stop(refusal, card, place),
+        Err(refusal) => stop(refusal, card, place),
     }
 }

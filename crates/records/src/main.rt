@@ -13,7 +13,7 @@ use console::{argument, argument_count, read_full};
 use decimals::ends::{line_end, trimmed};
 use decimals::read::rule_named;
 use numbers::two;
-use record_runs::head::{Frame, read_frame};
+use record_runs::head::read_frame;
 use record_text::kinds::{Form, form_of, kind_of};
 use record_text::line::{Line, RECORD_ROOM, read_line};
 use record_text::record::{TEXT_ROOM, tell_record};
@@ -137,8 +137,8 @@ fn write_next(out: &impl Print, input: &[u8], at: usize) -> std::io::Result<usiz
 {
     let frame = read_frame(&input[at..], at as u32, input.len() as u32);
     match frame {
-        Frame::Framed(n) => write_framed(out, input, at, at + 4 + n as usize),
-        Frame::Broken(refusal) => {
+        Ok(n) => write_framed(out, input, at, at + 4 + n as usize),
+        Err(refusal) => {
             write_stopped(out, at, terms::number(refusal))?;
             Ok(STOPPED)
         }

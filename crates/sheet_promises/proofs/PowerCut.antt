@@ -16,7 +16,8 @@ use Rattle.record_files.proofs.Cut.{cut_anywhere}
 use Rattle.error_memory.specs.Memory.{Card}
 use Rattle.record_runs.specs.Record.{Event}
 use Rattle.record_runs.specs.Record.{Push, Pop, Command, Status, Reset, Acknowledge, Recall, Forget}
-use Rattle.record_runs.specs.declared.head.Frame.{Frame}
+use Rattle.std.specs.Prelude.{Result}
+use Rattle.terms.specs.declared.Refusal.{Refusal}
 use Rattle.record_runs.specs.Record.{Head}
 use Rattle.record_runs.specs.Record.{Whole, Stop}
 use Rattle.terms.specs.declared.EventKind.{EventKind}
@@ -71,13 +72,13 @@ no_six most kind n first = no_six_by most (kind_named kind) n first
 six_head : (l : List ℕ) → head_number (head_under most_payload l) ≡ 6 → length l < 2 + word_at l 0
 unfolding frame_under
 six_head l =
-    either_lt (λ (f : Frame). Short f) (length l) 2 _ _ (λ a z. omega arith) (λ a.
-    either_lt (λ (f : Frame). Short f) (word_at l 0) 2 _ _ (λ b z. absurd (bad z)) (λ b.
-    either_lt (λ (f : Frame). Short f) (2 + most_payload) (word_at l 0) _ _ (λ d z. absurd (bad z)) (λ d.
-    either_lt (λ (f : Frame). Short f) (length l - 2) (word_at l 0) _ _ (λ e z. omega arith) (λ e z.
+    either_lt (λ (f : Result ℕ Refusal). Short f) (length l) 2 _ _ (λ a z. omega arith) (λ a.
+    either_lt (λ (f : Result ℕ Refusal). Short f) (word_at l 0) 2 _ _ (λ b z. absurd (bad z)) (λ b.
+    either_lt (λ (f : Result ℕ Refusal). Short f) (2 + most_payload) (word_at l 0) _ _ (λ d z. absurd (bad z)) (λ d.
+    either_lt (λ (f : Result ℕ Refusal). Short f) (length l - 2) (word_at l 0) _ _ (λ e z. omega arith) (λ e z.
     absurd (no_six most_payload (word_at l 2) (word_at l 0 - 2) (get_or l 4 0) z)))))
   where
-    Short : Frame → Type 0
+    Short : Result ℕ Refusal → Type 0
     Short f = head_number (head_in most_payload l f) ≡ 6 → length l < 2 + word_at l 0
 
 six_turn : (c : Card) (l : List ℕ) (room : ℕ) (h : Head) → (turn_by c l room h).refusal ≡ 6 → head_number h ≡ 6

@@ -12,7 +12,7 @@ use lib.Seq.{take_at, take_all}
 use borrow.Author.Tests.{eq-eqb, ne_eqb}
 use Rattle.stack.specs.Stack.{Bytes as StackBytes}
 use Rattle.stack.proofs.Words.{bytes_take, bytes_drop}
-use Rattle.terms.specs.Settings.{Settings}
+use Rattle.terms.specs.declared.Settings.{Settings}
 use Rattle.chip.specs.Event.{Command as CommandEvent, Status as StatusEvent, Reset as ResetEvent, Acknowledge as AcknowledgeEvent}
 use Rattle.error_memory.specs.Event.{Chip, Recall as RecallEvent, Forget as ForgetEvent}
 use Rattle.error_memory.specs.Memory.{Card}

@@ -12,7 +12,7 @@ use lib.Seq.{take-append_seam, length-take-le, get_or-take, drop-cons}
 use borrow.Author.Tests.{lt-ltb, le-ltb, ltb-true, ltb-false, eq-eqb, ne_eqb}
 use Rattle.terms.specs.declared.Refusal.TheVariants.{NoRoom}
 use Rattle.terms.specs.Limits.{most_payload}
-use Rattle.terms.specs.Settings.{Settings}
+use Rattle.terms.specs.declared.Settings.{Settings}
 use Rattle.numbers.specs.Little.{word_at, le4}
 use Rattle.stack.specs.Stack.{tos}
 use Rattle.stack.proofs.Words.{byte_at}

@@ -9,7 +9,8 @@ use Rattle.terms.specs.declared.Refusal.{Refusal}
 use Rattle.terms.specs.declared.Refusal.TheVariants.{InputTooLong, BadState, BadMode, BadRule}
 use Rattle.terms.specs.Refusal.{number_of}
 use Rattle.terms.specs.Limits.{report_bytes, most_input}
-use Rattle.terms.specs.Settings.{Settings, is_mode, is_rule, mode_of, rule_of}
+use Rattle.terms.specs.declared.Settings.{Settings}
+use Rattle.terms.specs.Settings.{is_mode, is_rule, mode_of, rule_of}
 use Rattle.chip.specs.Step.{given}
 use Rattle.error_memory.specs.Held.{card_under}
 use Rattle.record_files.specs.Run.{Outcome}

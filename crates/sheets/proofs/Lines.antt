@@ -18,7 +18,7 @@ use Rattle.record_files.proofs.Through.{drop_take}
 use Rattle.error_memory.specs.Memory.{Card}
 use Rattle.record_runs.specs.Record.{Event}
 use Rattle.record_runs.specs.Record.{Push, Pop, Command, Status, Reset, Acknowledge, Recall, Forget}
-use Rattle.record_runs.specs.declared.head.Frame.TheVariants.{Broken}
+use Rattle.std.specs.Prelude.{Err}
 use Rattle.record_runs.specs.Record.{kind_of, frame_under, turn_under, turn_of}
 use Rattle.record_runs.proofs.Heads.{short, cut, whole, frames}
 use Rattle.record_runs.proofs.Steps.{steps}
@@ -174,9 +174,9 @@ cut_core c l room k most a b i = rw frame
     long : length (take k l) ≡ k
     long = length-take-le k l most
 
-    frame : frame_under most_payload (take k l) ≡ Broken CutShort
+    frame : frame_under most_payload (take k l) ≡ Err CutShort
     frame =
-        either_lt (λ (n : ℕ). frame_under most_payload (take k l) ≡ Broken CutShort) k 2 0 0
+        either_lt (λ (n : ℕ). frame_under most_payload (take k l) ≡ Err CutShort) k 2 0 0
         (λ d. short most_payload (take k l) (omega (arith, long)))
         (λ d.
         let w : word_at (take k l) 0 ≡ word_at l 0 = rw (get_or-take k l 0 0 (omega arith), get_or-take k l 1 0 (omega arith)) in

@@ -10,11 +10,12 @@ use Rattle.numbers.specs.Little.{word_at}
 use Rattle.terms.specs.declared.Refusal.TheVariants.{BadLength, NoRoom}
 use Rattle.terms.specs.Refusal.{number_of as coreNumber}
 use Rattle.terms.specs.Limits.{most_payload}
-use Rattle.terms.specs.Settings.{Settings}
+use Rattle.terms.specs.declared.Settings.{Settings}
 use Rattle.error_memory.specs.Memory.{Card}
 use Rattle.error_memory.specs.Held.{card_under}
 use Rattle.record_files.specs.Run.{Outcome, ended}
-use Rattle.record_runs.specs.declared.head.Frame.{Frame}
+use Rattle.std.specs.Prelude.{Result}
+use Rattle.terms.specs.declared.Refusal.{Refusal}
 use Rattle.record_runs.specs.declared.step.Pass.{Pass}
 use Rattle.record_runs.specs.Record.{frame_under, turn_of}
 use Rattle.record_runs.proofs.Ready.{calm_turn}
@@ -30,7 +31,7 @@ use Rattle.sheets.specs.Held.{beside}
 use Rattle.sheets.proofs.Lines.{own_kind_lem}
 
 -- a record of a kind of this library is its own where the frame holds
-pub own_frame : (l : List ℕ) → 256 ≤ word_at l 2 → word_at l 2 ≤ 258 → {f : Frame} → frame_under most_payload l ≡ f → is_framed f ≡ is_own l
+pub own_frame : (l : List ℕ) → 256 ≤ word_at l 2 → word_at l 2 ≤ 258 → {f : Result ℕ Refusal} → frame_under most_payload l ≡ f → is_framed f ≡ is_own l
 unfolding is_own
 own_frame l a b e = rw (own_kind_lem (word_at l 2) a b, e)
 

@@ -4,7 +4,8 @@ use Rattle.terms.specs.declared.Refusal.{Refusal}
 use Rattle.terms.specs.declared.Refusal.TheVariants.{InputTooLong, BadState, BadReport, BadMode, BadRule}
 use Rattle.terms.specs.Refusal.{number_of}
 use Rattle.terms.specs.Limits.{report_bytes, most_input}
-use Rattle.terms.specs.Settings.{Settings, is_mode, mode_of, is_rule, rule_of}
+use Rattle.terms.specs.declared.Settings.{Settings}
+use Rattle.terms.specs.Settings.{is_mode, mode_of, is_rule, rule_of}
 use Rattle.chip.specs.Step.{given}
 use Rattle.record_files.specs.Run.{Outcome}
 use Rattle.state_bytes.specs.Bytes.{is_state, card_in, laid_out, report_of}

@@ -1,7 +1,7 @@
 -- What the program's record step and run with sheets say of their definitions. Definitions only. Assumes nothing.
 use Rattle.std.specs.Prelude.{ℕ, List, length}
 use Rattle.numbers.specs.Little.{word_at}
-use Rattle.terms.specs.Settings.{Settings}
+use Rattle.terms.specs.declared.Settings.{Settings}
 use Rattle.error_memory.specs.declared.Card.{Card}
 use Rattle.error_memory.specs.Held.{card_under}
 use Rattle.record_runs.specs.Record.{turn_of}

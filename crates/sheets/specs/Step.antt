@@ -7,8 +7,8 @@ use Rattle.terms.specs.declared.Refusal.TheVariants.{BadLength, NoRoom}
 use Rattle.terms.specs.Refusal.{number_of as coreNumber}
 use Rattle.stack.specs.Stack.{tos}
 use Rattle.error_memory.specs.Memory.{Card}
-use Rattle.record_runs.specs.declared.head.Frame.{Frame}
-use Rattle.record_runs.specs.declared.head.Frame.TheVariants.{Framed, Broken}
+use Rattle.std.specs.Prelude.{Result, Ok, Err}
+use Rattle.terms.specs.declared.Refusal.{Refusal}
 use Rattle.record_runs.specs.Record.{frame_under, turn_of}
 use Rattle.sheet_bytes.specs.Ledger.{bytes_at, dropped}
 use Rattle.sheet_bytes.specs.Entering.{Entered, number_of, open_kind, close_kind, payload_for, entered_of}
@@ -28,9 +28,9 @@ abbrev pub is_own_kind : ℕ → Bool
 is_own_kind kind = cond (ltb kind open_kind) false (not (ltb close_kind kind))
 
 -- a length in range, and all its bytes there
-abbrev pub is_framed : Frame → Bool
-is_framed (Framed n) = true
-is_framed (Broken r) = false
+abbrev pub is_framed : Result ℕ Refusal → Bool
+is_framed (Ok n) = true
+is_framed (Err r) = false
 
 -- the record at the front of a file: 6, 7 and 6 come before its kind
 unfoldable pub is_own : List ℕ → Bool

@@ -9,7 +9,7 @@ ghost use Rattle.sheets.specs.Held.{beside, PassesOwn, PassesCore};
 
 use error_memory::Card;
 use numbers::two;
-use record_runs::head::{Frame, read_frame};
+use record_runs::head::read_frame;
 use record_runs::step::{Pass, Place, finish, open_reply, pass_record, stop};
 use sheet_bytes::bytes::drop_open;
 use sheet_bytes::enter::{CLOSE_KIND, OPEN_KIND, enter, payload_for};
@@ -32,8 +32,8 @@ fn is_own(rest: &[u8], place: Place) -> bool
         return false;
     }
     match read_frame(rest, place.taken, place.size) {
-        Frame::Framed(_) => true,
-        Frame::Broken(_) => false,
+        Ok(_) => true,
+        Err(_) => false,
     }
 }
 

@@ -2,19 +2,19 @@
 -- nothing.
 use mathlib.Core.Path.{◌≡◌, refl, sym, ap, ap₂, subst, ◌∙◌}
 use mathlib.Core.List.{List, [], ◌∷◌, ◌++◌, append_assoc}
-use Prim.Native.Nat.{ℕ, suc, ◌+◌, ◌*◌, ◌/◌, ◌%◌, ◌≤◌, ◌<◌}
+use Prim.Native.Nat.{ℕ, suc, ◌+◌, ◌-◌, ◌*◌, ◌/◌, ◌%◌, ◌≤◌, ◌<◌}
 use native.Mathlib.Numerals.{add-one}
 use native.Mathlib.Omega.{arith}
 use lib.Dec.{lit≤}
-use lib.ListN.{length, get_or, take, drop, set, drop_of_length-le}
-use lib.Seq.{paste, paste-zero, drop-cons, set_split, length-paste}
+use lib.ListN.{length, get_or, take, drop, set, length-drop, take-append-drop, drop_of_length-le}
+use lib.Seq.{paste, paste-zero, drop-cons, set_split, length-paste, get_or-drop, take_all}
 use Rattle.numbers.specs.Little.{le4, le8, four_at, eight_at}
 use Rattle.numbers.proofs.Exact.{le4_of, le8_of}
 use Rattle.stack.specs.Stack.{bytes_of, low_first, pushed_all, top_byte, rotated, popped_all, handed_out, tos}
 use Rattle.stack.proofs.Elems.{part}
 use Rattle.stack.proofs.Moves.{pushes_lay, pops_hand, pops_turn}
 use Rattle.stack.proofs.Words.{bytes_tos}
-use Rattle.stack.proofs.Several.{length-handed, push_on, pop_on, popped_front}
+use Rattle.stack.proofs.Several.{length-handed, pushes_append, pop_on, popped_front}
 use Rattle.stack.specs.Words.{eight}
 use Rattle.stack.proofs.TwoWords.{joined, length-stack, one_byte, is_stack}
 
@@ -59,20 +59,25 @@ module _ (s p : List ℕ) (at : ℕ) (B : (j : ℕ) → get_or p j 0 < 256) wher
       one_byte s (get_or p at 0) (B at)
       ∙ sym (ap (pushed_all s) (drop-cons p at 0 h ∙ ap (λ (t : List ℕ). get_or p at 0 ∷ t) (drop_of_length-le p few)))
 
--- pushed up to a place, k bytes at most being left: with those it is the whole
-abbrev pub Pushed : ℕ → List ℕ → List ℕ → List ℕ → ℕ → Type 0
-Pushed k p whole s i = (i ≤ length p) × (length p ≤ i + k) × (pushed_all s (drop i p) ≡ whole)
+-- the bytes p that are left, k at most: pushed on the stack so far they give the whole
+pub record Left (k : ℕ) (whole s p : List ℕ) : Type 0 where
+  pub bytes : (j : ℕ) → get_or p j 0 < 256
+  pub few : length p ≤ k
+  pub gives : pushed_all s p ≡ whole
 
-pub push_more : (p whole s : List ℕ) (i n m k : ℕ) {t : List ℕ} {j : ℕ} → Pushed m p whole s i → i + n ≤ length p → m ≤ n + k
-    → t ≡ pushed_all s (take n (drop i p)) → j ≡ i + n → Pushed k p whole t j
-push_more p whole s i n m k v h l et ej = (
-  omega arith,
-  omega (arith, v.1),
-  ap₂ (λ (x : List ℕ) (y : ℕ). pushed_all x (drop y p)) et ej ∙ push_on s p i n ∙ v.2,
-)
+pub left_more : (n k m : ℕ) (whole s p : List ℕ) {t q : List ℕ} → Left k whole s p → n ≤ length p → k ≤ n + m → t ≡ pushed_all s (take n p)
+    → q ≡ take (length p - n) (drop n p) → Left m whole t q
+left_more n k m whole s p v h l et eq =
+    let d : take (length p - n) (drop n p) ≡ drop n p = take_all (length p - n) (drop n p) (simp length-drop (omega arith)) in
+    let e = eq ∙ d in
+    record {
+      bytes = λ j. subst (λ (x : List ℕ). get_or x j 0 < 256) (sym e) (subst (λ (x : ℕ). x < 256) (sym (get_or-drop n p j 0)) (v.bytes (n + j)));
+      few = subst (λ (x : List ℕ). length x ≤ m) (sym e) (simp length-drop (omega (arith, v.few)));
+      gives = ap₂ pushed_all et e ∙ sym (pushes_append (take n p) (drop n p) s) ∙ ap (pushed_all s) (take-append-drop n p) ∙ v.gives;
+    }
 
-pub push_not : (p whole s : List ℕ) (i m k : ℕ) {t : List ℕ} {j : ℕ} → Pushed m p whole s i → length p ≤ i + k → t ≡ s → j ≡ i → Pushed k p whole t j
-push_not p whole s i m k v l et ej = (omega (arith, v.0), omega arith, ap₂ (λ (x : List ℕ) (y : ℕ). pushed_all x (drop y p)) et ej ∙ v.2)
+pub left_not : (k m : ℕ) (whole s p : List ℕ) {t q : List ℕ} → Left k whole s p → length p ≤ m → t ≡ s → q ≡ p → Left m whole t q
+left_not k m whole s p v l et eq = rw (et, eq) (record { bytes = v.bytes; few = l; gives = v.gives })
 
 -- ---- popped
 -- the word on top, written, is what k pops hand out, and the stack turned by it is what they leave

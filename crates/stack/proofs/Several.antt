@@ -11,7 +11,7 @@ use Rattle.stack.specs.Stack.{pushed, popped, top_byte, rotated, pushed_all, pop
 use Rattle.stack.proofs.Moves.{pops_turn}
 
 -- ---- pushed
-pushes_append : (p q s : List ℕ) → pushed_all s (p ++ q) ≡ pushed_all (pushed_all s p) q
+pub pushes_append : (p q s : List ℕ) → pushed_all s (p ++ q) ≡ pushed_all (pushed_all s p) q
 pushes_append [] q s = refl
 pushes_append (b ∷ p) q s = pushes_append p q (pushed s b)
 

@@ -1,5 +1,5 @@
 // Bytes that a caller lends, and the stack: blocks of bytes pushed and popped.
-ghost use Rattle.std.specs.Prelude.{◌≡◌, ◌++◌, ◌≤◌, length, drop};
+ghost use Rattle.std.specs.Prelude.{◌≡◌, ◌++◌, ◌≤◌, ◌<◌, length, drop};
 ghost use Rattle.stack.specs.Stack.{pushed_all, popped_all, handed_out};
 ghost use Rattle.stack.specs.Words.{bytes_in};
 
@@ -12,23 +12,33 @@ impl Stack {
         ensures { bytes_in result ≡ pushed_all (bytes_in self) p.now }
     {
         let mut s = self;
-        let mut i = 0;
-        while 8 <= p.len() - i {
+        let mut left = p;
+        while 8 <= left.len() {
             let rest = s.top;
-            let top = numbers::eight_at(p, i);
+            let top = numbers::eight_at(left, 0);
             s = Stack { top, rest };
-            i += 8;
+            left = &left[8..];
         }
-        if 4 <= p.len() - i {
-            s = s.push(numbers::four_at(p, i) as u64, 4);
-            i += 4;
+        s.push_few(left)
+    }
+
+    // Up to seven bytes pushed.
+    fn push_few(self, p: &[u8]) -> Stack
+        requires { length p.now < 8 }
+        ensures { bytes_in result ≡ pushed_all (bytes_in self) p.now }
+    {
+        let mut s = self;
+        let mut left = p;
+        if 4 <= left.len() {
+            s = s.push(numbers::four_at(left, 0) as u64, 4);
+            left = &left[4..];
         }
-        if 2 <= p.len() - i {
-            s = s.push(numbers::two(p[i], p[i + 1]) as u64, 2);
-            i += 2;
+        if 2 <= left.len() {
+            s = s.push(numbers::two(left[0], left[1]) as u64, 2);
+            left = &left[2..];
         }
-        if i < p.len() {
-            return s.push(p[i] as u64, 1);
+        if 1 <= left.len() {
+            s = s.push(left[0] as u64, 1);
         }
         s
     }

@@ -12,7 +12,8 @@ use Rattle.terms.specs.declared.Refusal.TheVariants.{Done, InputTooLong, BadStat
 use Rattle.terms.specs.Refusal.{number_of}
 use Rattle.terms.specs.declared.Mode.TheVariants.{Am9511A}
 use Rattle.terms.specs.declared.Rule.TheVariants.{Cut}
-use Rattle.terms.specs.Settings.{Settings, is_mode, is_rule}
+use Rattle.terms.specs.declared.Settings.{Settings}
+use Rattle.terms.specs.Settings.{is_mode, is_rule}
 use Rattle.chip.specs.Step.{given}
 use Rattle.chip.specs.State.{State}
 use Rattle.error_memory.specs.declared.Memory.{Memory}

@@ -13,7 +13,7 @@ use borrow.Author.Tests.{eq-eqb, ne_eqb, eqb-true, eqb-false}
 use Rattle.terms.specs.Limits.{state_bytes, long_state_bytes}
 use Rattle.terms.specs.declared.Mode.TheVariants.{Am9511A}
 use Rattle.terms.specs.declared.Rule.TheVariants.{Cut}
-use Rattle.terms.specs.Settings.{Settings}
+use Rattle.terms.specs.declared.Settings.{Settings}
 use Rattle.chip.specs.Step.{given}
 use Rattle.stack.specs.Stack.{Bytes}
 use Rattle.stack.proofs.Words.{bytes_append, bytes_take, byte_at}

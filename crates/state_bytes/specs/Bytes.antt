@@ -4,7 +4,8 @@ use Rattle.numbers.specs.Little.{le4}
 use Rattle.terms.specs.Limits.{stack_bytes, state_bytes, long_state_bytes}
 use Rattle.terms.specs.declared.Refusal.{Refusal}
 use Rattle.terms.specs.declared.Refusal.TheVariants.{Done, BadState, BadMode, BadRule}
-use Rattle.terms.specs.Settings.{Settings, is_mode, is_rule}
+use Rattle.terms.specs.declared.Settings.{Settings}
+use Rattle.terms.specs.Settings.{is_mode, is_rule}
 use Rattle.chip.specs.State.{State}
 use Rattle.error_memory.specs.declared.Memory.{Memory}
 use Rattle.error_memory.specs.Memory.{Card, empty_memory, is_memory}

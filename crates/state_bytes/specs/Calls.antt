@@ -4,7 +4,8 @@ use Rattle.terms.specs.declared.Refusal.{Refusal}
 use Rattle.terms.specs.declared.Refusal.TheVariants.{NoSuchKind, InputTooLong, BadState, BadReport, BadMode, BadRule}
 use Rattle.terms.specs.Refusal.{number_of}
 use Rattle.terms.specs.Limits.{report_bytes, most_input}
-use Rattle.terms.specs.Settings.{Settings, is_mode, mode_of, is_rule, rule_of}
+use Rattle.terms.specs.declared.Settings.{Settings}
+use Rattle.terms.specs.Settings.{is_mode, mode_of, is_rule, rule_of}
 use Rattle.chip.specs.Step.{given}
 use Rattle.chip.specs.Event.{Push, Pop, Command, Status, Reset, Acknowledge}
 use Rattle.error_memory.specs.Event.{Chip, Recall, Forget}

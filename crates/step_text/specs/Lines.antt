@@ -1,6 +1,6 @@
 -- The lines that trainees see, as request 10 gives them: `N LEFT PARTIAL` for a step, `word W error E status S` or `refused R` at the end.
 -- Definitions only. Assumes nothing.
-use Rattle.std.specs.Prelude.{ℕ, ◌+◌, ◌*◌, cond, List, [], ◌∷◌, ◌++◌, leb, eqb}
+use Rattle.std.specs.Prelude.{ℕ, ◌+◌, ◌*◌, cond, List, [], ◌∷◌, ◌++◌, leb, eqb, Ok, Err}
 use Rattle.terms.specs.declared.Refusal.{Refusal}
 use Rattle.terms.specs.Refusal.{number_of}
 use Rattle.terms.specs.declared.Width.{Width}
@@ -9,8 +9,7 @@ use Rattle.fixed.specs.Fixed.{half}
 use Rattle.listing.specs.Text.{decimal}
 use Rattle.listing.specs.Hex.{digits_to}
 use Rattle.listing.specs.Listing.{blank, newline, field}
-use Rattle.bit_serial.specs.declared.Answer.{Answer}
-use Rattle.bit_serial.specs.declared.Answer.TheVariants.{Word, Refused}
+use Rattle.bit_serial.specs.Answer.{Answer}
 
 -- no line has more characters than this
 abbrev pub line_room : ℕ
@@ -50,5 +49,5 @@ refusal_line refusal = refused_text ++ (field (number_of refusal) ++ (newline �
 
 -- an answer
 abbrev pub answer_line : Width → Answer → List ℕ
-answer_line w (Word word error steps) = word_line w word error
-answer_line w (Refused refusal) = refusal_line refusal
+answer_line w (Ok r) = word_line w r.word r.error
+answer_line w (Err refusal) = refusal_line refusal

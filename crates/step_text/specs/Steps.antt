@@ -1,12 +1,12 @@
 -- A line for each step of an operation, and the line of its answer. Of a product LEFT is how many bits of the multiplier are left, PARTIAL what was
 -- added up so far; of a quotient LEFT is how many digits are left to find, PARTIAL what is left of the dividend. Definitions only. Assumes nothing.
-use Rattle.std.specs.Prelude.{ℕ, zero, suc, ◌-◌, cond, List, [], ◌++◌, eqb}
+use Rattle.std.specs.Prelude.{ℕ, zero, suc, ◌-◌, cond, List, [], ◌++◌, eqb, Option, None, Some}
 use Rattle.std.specs.Float.Ieee.{size}
 use Rattle.terms.specs.declared.Rule.{Rule}
 use Rattle.bit_serial.specs.declared.multiply.Product.{Product}
 use Rattle.bit_serial.specs.declared.divide.Division.{Division}
 use Rattle.bit_serial.specs.declared.tasks.Task.{Task}
-use Rattle.bit_serial.specs.declared.tasks.Task.TheVariants.{Nothing, Multiply, Divide}
+use Rattle.bit_serial.specs.declared.tasks.Task.TheVariants.{Multiply, Divide}
 use Rattle.bit_serial.specs.declared.Operation.{Operation}
 use Rattle.bit_serial.specs.Product.{added}
 use Rattle.bit_serial.specs.Product.{begun as begunProduct}
@@ -35,10 +35,10 @@ abbrev pub quotient_lines : ℕ → ℕ → ℕ → Division → List ℕ
 quotient_lines n more d = lines_up_to (λ (s : Division). s.rest) (subtracted d) (quotient_line n) more
 
 -- all steps of a task
-abbrev pub step_lines : Task → List ℕ
-step_lines Nothing = []
-step_lines (Multiply x y n) = product_lines n x (begunProduct y)
-step_lines (Divide v d n) = quotient_lines n n d (begunQuotient v n)
+abbrev pub step_lines : Option Task → List ℕ
+step_lines None = []
+step_lines (Some (Multiply x y n)) = product_lines n x (begunProduct y)
+step_lines (Some (Divide v d n)) = quotient_lines n n d (begunQuotient v n)
 
 -- what is told of an operation on B and A under a rule
 abbrev pub workings_of : Operation → Rule → ℕ → ℕ → List ℕ

@@ -119,7 +119,7 @@ pub fn asked_of(words: usize, code: &[u8], b: &[u8], a: &[u8], option: &[u8]) ->
     match found {
         Found::Operation(operation) => match given {
             Given::Under(rule) => {
-                let digits = 2 * terms::size(bit_serial::width_of(operation));
+                let digits = 2 * operation.width().size();
                 let x = read_digits(b, digits);
                 let y = read_digits(a, digits);
                 with_numbers(operation, rule, x, y)

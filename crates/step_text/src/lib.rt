@@ -17,24 +17,20 @@ ghost use Rattle.step_text.specs.Asked.{told_of};
 use crate::asked::Asked;
 use crate::lines::{add_refusal, add_word};
 use crate::steps::add_steps;
-use bit_serial::{Answer, Operation};
-use terms::{Rule, Width};
+use bit_serial::{Operation, Worked};
+use terms::{Refusal, Rule, Width};
 
 // Room for 32 steps and the answer: 33 lines of 64 characters.
 pub const TEXT_ROOM: usize = 2112;
 
 // The line of an answer.
-fn add_answer(out: &mut [u8], place: usize, width: Width, answer: Answer) -> usize
+fn add_answer(out: &mut [u8], place: usize, width: Width, answer: Result<Worked, Refusal>) -> usize
     requires { place + line_room ≤ length out.old }
     ensures { Adds (answer_line width answer) out.old out.new place result }
 {
     match answer {
-        Answer::Word {
-            word,
-            error,
-            steps: _,
-        } => add_word(out, place, width, word, error),
-        Answer::Refused(refusal) => add_refusal(out, place, refusal),
+        Ok(worked) => add_word(out, place, width, worked.word, worked.error),
+        Err(refusal) => add_refusal(out, place, refusal),
     }
 }
 
@@ -44,10 +40,9 @@ fn tell(operation: Operation, rule: Rule, b: u32, a: u32, text: &mut [u8; TEXT_R
     ensures prefix_len { IsPrefixLen result text.new }
     ensures text_after { take result text.new ≡ workings_of operation rule b a }
 {
-    let place = add_steps(text, bit_serial::tasks::task_of(operation, b, a));
-    let width = bit_serial::width_of(operation);
-    let answer = bit_serial::work(operation, rule, b, a);
-    add_answer(text, place, width, answer)
+    let place = add_steps(text, operation.task(b, a));
+    let answer = operation.work(rule, b, a);
+    add_answer(text, place, operation.width(), answer)
 }
 
 // What the program tells for a call of so many words, its own name among them: the line `usage`

@@ -8,8 +8,8 @@ ghost use Rattle.step_text.specs.Lines.{line_room};
 ghost use Rattle.step_text.specs.Steps.{product_lines, quotient_lines, step_lines};
 
 use super::lines::add_step;
-use bit_serial::divide::subtracted;
-use bit_serial::multiply::{added, bits_in};
+use bit_serial::divide::Division;
+use bit_serial::multiply::Product;
 use bit_serial::tasks::Task;
 
 // The steps of x times y, at most so many.
@@ -19,19 +19,13 @@ fn add_product(out: &mut [u8], x: u64, y: u64, most: u32) -> usize
         × (result ≤ line_room * 32) }
 {
     let mut place = 0;
-    let mut p = bit_serial::multiply::begun(y);
-    'bits: while p.steps < most {
+    let mut p = Product::begun(y);
+    'bits: for _ in 0..most {
         if p.left == 0 {
             break 'bits;
         }
-        p = added(x, p);
-        place = add_step(
-            out,
-            place,
-            p.steps as u64,
-            bits_in(p.left) as u64,
-            p.partial,
-        );
+        p = p.added(x);
+        place = add_step(out, place, p.steps as u64, p.bits_left() as u64, p.partial);
     }
     place
 }
@@ -43,25 +37,25 @@ fn add_quotient(out: &mut [u8], v: u64, d: u64, most: u32) -> usize
         × (result ≤ line_room * 32) }
 {
     let mut place = 0;
-    let mut s = bit_serial::divide::begun(v, most);
-    'bits: while 0 < s.left {
+    let mut s = Division::begun(v, most);
+    'bits: for _ in 0..most {
         if s.rest == 0 {
             break 'bits;
         }
-        s = subtracted(d, s);
+        s = s.subtracted(d);
         place = add_step(out, place, (most - s.left) as u64, s.left as u64, s.rest);
     }
     place
 }
 
 // The steps of a task.
-pub fn add_steps(out: &mut [u8], task: Task) -> usize
+pub fn add_steps(out: &mut [u8], task: Option<Task>) -> usize
     requires { Narrow task × (line_room * 32 ≤ length out.old) }
     ensures { Adds (step_lines task) out.old out.new 0 result × (result ≤ line_room * 32) }
 {
     match task {
-        Task::Nothing => 0,
-        Task::Multiply { x, y, most } => add_product(out, x, y, most),
-        Task::Divide { v, d, most } => add_quotient(out, v, d, most),
+        None => 0,
+        Some(Task::Multiply { x, y, most }) => add_product(out, x, y, most),
+        Some(Task::Divide { v, d, most }) => add_quotient(out, v, d, most),
     }
 }

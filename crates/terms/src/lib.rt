@@ -4,9 +4,9 @@
 
 ghost use Rattle.std.specs.Prelude.{◌≡◌, ◌≤◌};
 ghost use Rattle.terms.specs.Refusal.{number_of};
-ghost use Rattle.terms.specs.Width.{size_of};
+ghost use Rattle.terms.specs.Width.{size_of, bits_of};
 ghost use Rattle.terms.specs.Kind.{kind_named};
-ghost use Rattle.terms.specs.Settings.{is_mode, mode_of, is_rule, rule_of};
+ghost use Rattle.terms.specs.Settings.{is_mode, mode_of, mode_named, is_rule, rule_of, rule_named, settings_named};
 
 // The bytes of the stack.
 pub const STACK_BYTES: usize = 16;
@@ -40,27 +40,27 @@ pub const PI: u32 = 0x02c9_0fda;
 pub const NEAREST_PI: u32 = 0x02c9_0fdb;
 
 // Every case of 01's table of refusals, in its order, then those of 02.
-#[derive(Clone, Copy)]
+#[derive(Clone, Copy, PartialEq, Eq)]
 pub enum Refusal {
-    Done,
-    UnknownCode,
-    DerivedCode,
-    HalfWord,
-    Improper,
-    NoSuchKind,
-    CutShort,
-    BadLength,
-    NoRoom,
-    InputTooLong,
-    NotFinite,
-    TooLarge,
-    TooSmall,
-    BadState,
-    BadReport,
-    MinusZero,
-    BadMode,
-    BadRule,
-    PartEntry,
+    Done = 0,
+    UnknownCode = 1,
+    DerivedCode = 2,
+    HalfWord = 3,
+    Improper = 4,
+    NoSuchKind = 5,
+    CutShort = 6,
+    BadLength = 7,
+    NoRoom = 8,
+    InputTooLong = 9,
+    NotFinite = 10,
+    TooLarge = 11,
+    TooSmall = 12,
+    BadState = 13,
+    BadReport = 14,
+    MinusZero = 15,
+    BadMode = 16,
+    BadRule = 17,
+    PartEntry = 18,
 }
 
 // A stack word has 16 bits or 32.
@@ -74,15 +74,22 @@ pub enum Width {
 // the even mantissa.
 #[derive(Clone, Copy)]
 pub enum Rule {
-    Cut,
-    Nearest,
+    Cut = 0,
+    Nearest = 1,
 }
 
 // Which part's reset: the Am9511A's, or that of the older Am9511.
 #[derive(Clone, Copy)]
 pub enum Mode {
-    Am9511A,
-    Am9511,
+    Am9511A = 0,
+    Am9511 = 1,
+}
+
+// The mode and the rule of a call: no event changes them, and no state holds them.
+#[derive(Clone, Copy)]
+pub struct Settings {
+    pub mode: Mode,
+    pub rule: Rule,
 }
 
 // A kind of event, by 01's numbers 1 to 6 and 02's two of the error memory: read (7) and cleared (8).
@@ -123,6 +130,75 @@ pub fn number(refusal: Refusal) -> u8
         Refusal::BadMode => 16,
         Refusal::BadRule => 17,
         Refusal::PartEntry => 18,
+    }
+}
+
+// The number that 01 or 02 gives a refusal.
+impl From<Refusal> for u8 {
+    ghost from_gives = { λ refusal n. (n ≡ number_of refusal) × (n ≤ 18) };
+
+    fn from(refusal: Refusal) -> u8 {
+        refusal as u8
+    }
+}
+
+// The mode of its number, 0 or 1.
+impl TryFrom<u32> for Mode {
+    type Error = Refusal;
+
+    ghost try_from_gives = { λ number r. r ≡ mode_named number };
+
+    fn try_from(number: u32) -> Result<Mode, Refusal> {
+        match number {
+            0 => Ok(Mode::Am9511A),
+            1 => Ok(Mode::Am9511),
+            _ => Err(Refusal::BadMode),
+        }
+    }
+}
+
+// The rule of its number, 0 or 1.
+impl TryFrom<u32> for Rule {
+    type Error = Refusal;
+
+    ghost try_from_gives = { λ number r. r ≡ rule_named number };
+
+    fn try_from(number: u32) -> Result<Rule, Refusal> {
+        match number {
+            0 => Ok(Rule::Cut),
+            1 => Ok(Rule::Nearest),
+            _ => Err(Refusal::BadRule),
+        }
+    }
+}
+
+impl Settings {
+    // The settings of a call by their numbers: 16, then 17.
+    pub fn named(mode: u32, rule: u32) -> Result<Settings, Refusal>
+        ensures { result ≡ settings_named mode rule }
+    {
+        let mode = Mode::try_from(mode)?;
+        let rule = Rule::try_from(rule)?;
+        Ok(Settings { mode, rule })
+    }
+}
+
+// The kind of a number.
+impl From<u32> for EventKind {
+    ghost from_gives = { λ number kind. kind ≡ kind_named number };
+
+    fn from(number: u32) -> EventKind {
+        match number {
+            1 => EventKind::Push,
+            2 => EventKind::Pop,
+            3 => EventKind::Command,
+            4 => EventKind::Status,
+            5 => EventKind::Reset,
+            6 => EventKind::Acknowledge,
+            7 => EventKind::Recall,
+            8 => EventKind::Forget,
+            _ => EventKind::Unknown,
+        }
     }
 }
 
@@ -175,6 +251,28 @@ pub fn rule_of(number: u32) -> Rule
         return Rule::Cut;
     }
     Rule::Nearest
+}
+
+impl Width {
+    // The bytes of a word.
+    pub fn size(self) -> usize
+        ensures { (result ≡ size_of self) × (result ≤ 4) × (2 ≤ result) }
+    {
+        match self {
+            Width::Single => 2,
+            Width::Double => 4,
+        }
+    }
+
+    // The bits of a word.
+    pub fn bits(self) -> u32
+        ensures { (result ≡ bits_of self) × (result ≤ 32) }
+    {
+        match self {
+            Width::Single => 16,
+            Width::Double => 32,
+        }
+    }
 }
 
 // The bytes of a word.

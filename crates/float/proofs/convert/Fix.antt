@@ -48,3 +48,11 @@ fix_over half a n e h = rw (← e, le-leb half n h)
 pub fix_within : (half a n : ℕ) (s : Bool) → n ≡ whole_part a → n < half → s ≡ negative a → record { word = complement half s n; error = 0 } ≡ fix half a
 unfolding fix
 fix_within half a n s e h f = rw (← e, lt-leb half n h, ← f)
+
+-- of a word below zero, and of any other
+module _ (half a n : ℕ) (s : Bool) (N : n ≡ whole_part a) (h : n < half) (S : s ≡ negative a) where
+  pub fix_minus : s ≡ true → record { word = (2 * half - n) % (2 * half); error = 0 } ≡ fix half a
+  fix_minus e = fix_within half a n true N h (sym e ∙ S)
+
+  pub fix_plus : s ≡ false → record { word = n; error = 0 } ≡ fix half a
+  fix_plus e = fix_within half a n false N h (sym e ∙ S)

@@ -67,9 +67,9 @@ mul_law r b a neg m n i j s e f g h =
     v ∙ sym (cut_scaled r (unlike (negative b) (negative a)) (size88 b * size88 a) 176 24 refl)
     ∙ ap (λ (z : ℤ). cut r z (2 ^ 176)) (sym (times (negative b) (negative a) (size88 b) (size88 a)))
 
-pub div-zero : (r : Rule) (b a m : ℕ) → m ≡ mantissa a → m ≡ 0 → record { word = b; error = 8 } ≡ div r b a
+pub div_none : (r : Rule) (b a m : ℕ) → m ≡ mantissa a → m ≡ 0 → record { word = b; error = 8 } ≡ div r b a
 unfolding div
-div-zero r b a m e z = rw (eq-eqb (mantissa a) 0 (sym e ∙ z))
+div_none r b a m e z = rw (eq-eqb (mantissa a) 0 (sym e ∙ z))
 
 pub div_law : (r : Rule) (b a : ℕ) (neg : Bool) (m n i j t : ℕ) → neg ≡ unlike (negative b) (negative a) → m ≡ mantissa b → n ≡ mantissa a → i ≡ biased b
     → j ≡ biased a

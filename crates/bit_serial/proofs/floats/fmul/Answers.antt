@@ -1,14 +1,10 @@
 -- `bit_serial::floats::fmul` meets its contract: refused, or the steps' product cut at its place. Assumes nothing.
-use mathlib.Core.Path.{ap₂}
+use Rattle.std.proofs.Common.{ap₂}
 use lib.Ieee.{unlike}
-use Rattle.bit_serial.proofs.Answers.{fmul_refused, fmul_rest}
+use Rattle.bit_serial.proofs.Answers.{fmul_rest}
 use Rattle.bit_serial.proofs.floats.fmul.Goals as goal
-
-pub returns-then-not-both_proper : goal.returns-then-not-both_proper
-returns-then-not-both_proper c = fmul_refused _ _ _ _ c.both_proper.ensures c.if-not-both_proper.true
 
 pub returns : goal.returns
 returns c =
-    fmul_rest _ _ _ _ c.both_proper.ensures c.if-not-both_proper.false _ _ _ _ _ (ap₂ unlike c.is_negative.ensures c.is_negative-2.ensures)
-    c.mantissa_of.ensures.0 c.mantissa_of-2.ensures.0 c.biased_of.ensures.0 c.biased_of-2.ensures.0 c.multiplied-p.result c.cut_word-r.result
-    c.multiplied-p.ensures c.cut_word-r.ensures
+    fmul_rest _ _ _ _ _ _ _ _ c.in_ok-x.ensures.mantissas (ap₂ unlike c.is_negative.ensures c.is_negative-2.ensures) c.biased_of.ensures.0
+    c.biased_of-2.ensures.0 c.multiplied-p.result c.cut_word-r.result c.multiplied-p.ensures c.cut_word-r.ensures

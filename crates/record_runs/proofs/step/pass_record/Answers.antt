@@ -12,32 +12,32 @@ use Rattle.record_runs.proofs.Turning.{framed, broken}
 use Rattle.record_runs.proofs.step.pass_record.Goals as goal
 
 pub bounds-rest-2 : goal.bounds-rest-2
-bounds-rest-2 c = let f = fits most_payload c.args.rest.now c.in-Framed.n (sym c.in-Framed.ensures) in omega (arith, f.there)
+bounds-rest-2 c = let f = fits most_payload c.args.rest.now c.in-Ok.n (sym c.in-Ok.ensures) in omega (arith, f.there)
 
 pub bounds-rest-3 : goal.bounds-rest-3
-bounds-rest-3 c = let f = fits most_payload c.args.rest.now c.in-Framed.n (sym c.in-Framed.ensures) in omega (arith, f.there)
+bounds-rest-3 c = let f = fits most_payload c.args.rest.now c.in-Ok.n (sym c.in-Ok.ensures) in omega (arith, f.there)
 
 pub slice_bounds-pass_kind-end : goal.slice_bounds-pass_kind-end
-slice_bounds-pass_kind-end c = let f = fits most_payload c.args.rest.now c.in-Framed.n (sym c.in-Framed.ensures) in omega (arith, f.there)
+slice_bounds-pass_kind-end c = let f = fits most_payload c.args.rest.now c.in-Ok.n (sym c.in-Ok.ensures) in omega (arith, f.there)
 
 pub pass_kind-requires : goal.pass_kind-requires
 pass_kind-requires c =
-    let n = c.in-Framed.n in
-    let f = fits most_payload c.args.rest.now c.in-Framed.n (sym c.in-Framed.ensures) in
+    let n = c.in-Ok.n in
+    let f = fits most_payload c.args.rest.now c.in-Ok.n (sym c.in-Ok.ensures) in
     let l = c.args.rest.now in
     let e = length-take-le (4 + n - 4) (drop 4 l) (omega (arith, f.there, length-drop 4 l)) in
     (c.requires.0, omega (arith, e, f.small), c.requires.2)
 
-pub returns-in-Framed : goal.returns-in-Framed
-returns-in-Framed c =
+pub returns-in-Ok : goal.returns-in-Ok
+returns-in-Ok c =
     let a = c.args in
     let l = a.rest.now in
-    let n = c.in-Framed.n in
+    let n = c.in-Ok.n in
     let w = c.pass_kind in
-    let f = fits most_payload c.args.rest.now c.in-Framed.n (sym c.in-Framed.ensures) in
-    let kind = c.kind_of-kind.ensures ∙ ap kind_named c.two.ensures in
-    framed l n _ f.there kind (sym c.in-Framed.ensures) (rw (add-sub_cancel_left 4 n) at w.ensures)
+    let f = fits most_payload c.args.rest.now c.in-Ok.n (sym c.in-Ok.ensures) in
+    let kind = c.from-kind.ensures ∙ ap kind_named c.two.ensures in
+    framed l n _ f.there kind (sym c.in-Ok.ensures) (rw (add-sub_cancel_left 4 n) at w.ensures)
 
-pub returns-in-Broken : goal.returns-in-Broken
-returns-in-Broken c =
-    broken _ _ (sym c.in-Broken.ensures) c.stop.ensures refl
+pub returns-in-Err : goal.returns-in-Err
+returns-in-Err c =
+    broken _ _ (sym c.in-Err.ensures) c.stop.ensures refl

@@ -15,10 +15,10 @@ pub returns-then-kind-gt-CLOSE_KIND : goal.returns-then-kind-gt-CLOSE_KIND
 returns-then-kind-gt-CLOSE_KIND c = let e = c
     in sym (not_own e.args.rest.now (λ o. omega (arith, o.most)))
 
-pub returns-in-Framed : goal.returns-in-Framed
-returns-in-Framed c =
-    own_frame c.args.rest.now (omega arith) (omega arith) (sym c.read_frame.ensures ∙ c.in-Framed.is)
+pub returns-in-Ok : goal.returns-in-Ok
+returns-in-Ok c =
+    own_frame c.args.rest.now (omega arith) (omega arith) (sym c.read_frame.ensures ∙ c.in-Ok.is)
 
-pub returns-in-Broken : goal.returns-in-Broken
-returns-in-Broken c =
-    own_frame c.args.rest.now (omega arith) (omega arith) (sym c.read_frame.ensures ∙ c.in-Broken.is)
+pub returns-in-Err : goal.returns-in-Err
+returns-in-Err c =
+    own_frame c.args.rest.now (omega arith) (omega arith) (sym c.read_frame.ensures ∙ c.in-Err.is)

@@ -21,6 +21,7 @@ bits-init c =
       begins _ _ _ e,
       starts _ (ap (λ (p : Product). product_lines (a.most - p.steps) a.x p) e ∙ ap (λ (m : ℕ). product_lines m a.x (begun a.y)) (sub-zero a.most))
           (ap (λ (p : Product). p.steps) e),
+      ap (λ (p : Product). p.steps) e,
     )
 
 pub added-p-requires : goal.added-p-requires
@@ -30,9 +31,6 @@ added-p-requires c =
 pub add_step-place-requires : goal.add_step-place-requires
 add_step-place-requires c = let t = c.bits.invariant.1 in omega (arith, t.same, t.few)
 
-pub bits-smaller : goal.bits-smaller
-bits-smaller c = omega (arith, ap (λ (p : Product). p.steps) c.added-p.ensures)
-
 pub bits-preserved : goal.bits-preserved
 bits-preserved c =
     let l = c.bits in
@@ -41,8 +39,9 @@ bits-preserved c =
     let left : c.args.most - l.p.steps ≡ suc (c.args.most - q.steps) = omega arith in (
       adds _ _ _ l.p l.invariant.0 (omega arith) c.if-p-eq0.false c.added-p.ensures,
       next _ _ _ l.invariant.1 left s c.if-p-eq0.false c.added-p.ensures
-          (told_as (ap (λ (m : ℕ). step_line q.steps m q.partial) c.bits_in.ensures.0) c.add_step-place.ensures.0) c.add_step-place.ensures.1
+          (told_as (ap (λ (m : ℕ). step_line q.steps m q.partial) c.bits_left.ensures.0) c.add_step-place.ensures.0) c.add_step-place.ensures.1
           (search rules) (omega arith),
+      omega arith,
     )
 
 pub returns-after-bits : goal.returns-after-bits

@@ -16,6 +16,7 @@ bits-init c =
     let e = c.begun-s.ensures in (
       begins _ _ _ e,
       starts _ (ap (λ (s : Division). quotient_lines a.most s.left a.d s) e) (omega (arith, ap (λ (s : Division). s.left) e)),
+      omega (arith, ap (λ (s : Division). s.left) e),
     )
 
 pub subtracted-s-requires : goal.subtracted-s-requires
@@ -29,9 +30,6 @@ overflow_sub-most c =
 pub add_step-place-requires : goal.add_step-place-requires
 add_step-place-requires c = let t = c.bits.invariant.1 in omega (arith, t.same, t.few)
 
-pub bits-smaller : goal.bits-smaller
-bits-smaller c = omega (arith, ap (λ (s : Division). s.left) c.subtracted-s.ensures)
-
 pub bits-preserved : goal.bits-preserved
 bits-preserved c =
     let l = c.bits in
@@ -44,6 +42,7 @@ bits-preserved c =
       subtracts _ _ _ l.s l.invariant.0 (omega arith) c.if-s-eq0.false c.subtracted-s.ensures,
       next _ _ _ l.invariant.1 left made c.if-s-eq0.false c.subtracted-s.ensures c.add_step-place.ensures.0
           c.add_step-place.ensures.1 (search rules) (omega arith),
+      omega arith,
     )
 
 pub returns-after-bits : goal.returns-after-bits

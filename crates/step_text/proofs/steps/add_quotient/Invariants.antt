@@ -1,5 +1,6 @@
 -- `step_text::steps::add_quotient` tells the digits that are left to find, one line after each. Assumes nothing.
-use Prim.Native.Nat.{◌-◌}
+use mathlib.Core.Path.{◌≡◌}
+use Prim.Native.Nat.{◌+◌, ◌-◌}
 use Rattle.bit_serial.specs.Quotient.{begun}
 use Rattle.bit_serial.proofs.Subtracting.{Subtracting}
 use Rattle.step_text.specs.Steps.{quotient_lines}
@@ -9,6 +10,4 @@ use Rattle.step_text.proofs.steps.add_quotient.Given as goal
 abbrev pub invariant-bits : goal.invariant-bits
 invariant-bits l =
     Subtracting l.most l.v l.d l.s × Telling (quotient_lines l.most l.most l.d (begun l.v l.most)) (quotient_lines l.most l.s.left l.d l.s) (l.most - l.s.left) l.initial.out l.out l.place
-
-abbrev pub decreases-bits : goal.decreases-bits
-decreases-bits l = l.s.left
+    × (l.s.left + l.counter ≡ l.most)
