@@ -107,39 +107,19 @@ pub enum EventKind {
 }
 
 // The number that 01 or 02 gives a refusal.
-pub fn number(refusal: Refusal) -> u8
-    ensures { (result ≡ number_of refusal) × (result ≤ 18) }
-{
-    match refusal {
-        Refusal::Done => 0,
-        Refusal::UnknownCode => 1,
-        Refusal::DerivedCode => 2,
-        Refusal::HalfWord => 3,
-        Refusal::Improper => 4,
-        Refusal::NoSuchKind => 5,
-        Refusal::CutShort => 6,
-        Refusal::BadLength => 7,
-        Refusal::NoRoom => 8,
-        Refusal::InputTooLong => 9,
-        Refusal::NotFinite => 10,
-        Refusal::TooLarge => 11,
-        Refusal::TooSmall => 12,
-        Refusal::BadState => 13,
-        Refusal::BadReport => 14,
-        Refusal::MinusZero => 15,
-        Refusal::BadMode => 16,
-        Refusal::BadRule => 17,
-        Refusal::PartEntry => 18,
-    }
-}
-
-// The number that 01 or 02 gives a refusal.
 impl From<Refusal> for u8 {
     ghost from_gives = { λ refusal n. (n ≡ number_of refusal) × (n ≤ 18) };
 
     fn from(refusal: Refusal) -> u8 {
         refusal as u8
     }
+}
+
+// The number that 01 or 02 gives a refusal, by the one table.
+pub fn number(refusal: Refusal) -> u8
+    ensures { (result ≡ number_of refusal) × (result ≤ 18) }
+{
+    u8::from(refusal)
 }
 
 // The mode of its number, 0 or 1.
@@ -202,21 +182,11 @@ impl From<u32> for EventKind {
     }
 }
 
-// The kind of a number.
+// The kind of a number, by the one table.
 pub fn kind_of(number: u32) -> EventKind
     ensures { result ≡ kind_named number }
 {
-    match number {
-        1 => EventKind::Push,
-        2 => EventKind::Pop,
-        3 => EventKind::Command,
-        4 => EventKind::Status,
-        5 => EventKind::Reset,
-        6 => EventKind::Acknowledge,
-        7 => EventKind::Recall,
-        8 => EventKind::Forget,
-        _ => EventKind::Unknown,
-    }
+    EventKind::from(number)
 }
 
 // Whether a number is that of a mode.
